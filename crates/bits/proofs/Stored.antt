@@ -1,0 +1,72 @@
+-- The store rule, bit by bit, and what follows for the bits that a register stores.
+-- Assumes nothing.
+use mathlib.Core.Path.{_≡_, refl, sym, ap, ap₂, _∙_, subst}
+use Prim.Native.Nat.{ℕ, _<_, min}
+use native.Mathlib.Nat.{min-zero}
+use lib.Bits.{bitAnd, bitXor, differ}
+use lib.Dec.{T, eqb, eqb→eq, eqb-refl}
+use Rattle.bits.specs.Store.{bit, store, within}
+use Rattle.bits.proofs.Bit.{by-bit, bit-lt, bit-and, bit-xor, bit-of-zero, by-bits}
+
+-- a bit of what is stored
+pub stored-bit : (i reach old value : ℕ)
+    → bit i (store reach old value) ≡ differ (bit i old) (min (differ (bit i old) (bit i value)) (bit i reach))
+unfolding store
+stored-bit i reach old value =
+    bit-xor i old (bitAnd (bitXor old value) reach)
+    ∙ ap (differ (bit i old)) (bit-and i (bitXor old value) reach ∙ ap (λ (x : ℕ). min x (bit i reach)) (bit-xor i old value))
+
+differ-none : (x y : ℕ) → x < 2 → differ x (min y 0) ≡ x
+differ-none x y h =
+    ap (differ x) (min-zero y) ∙ by-bit (λ (x : ℕ). differ x 0 ≡ x) refl refl x h
+
+differ-all : (x y : ℕ) → x < 2 → y < 2 → differ x (min (differ x y) 1) ≡ y
+differ-all x y hx hy =
+    by-bit (λ (x : ℕ). differ x (min (differ x y) 1) ≡ y)
+    (by-bit (λ (y : ℕ). differ 0 (min (differ 0 y) 1) ≡ y) refl refl y hy)
+    (by-bit (λ (y : ℕ). differ 1 (min (differ 1 y) 1) ≡ y) refl refl y hy) x hx
+
+-- outside the reach every bit is the old one
+pub outside : (i reach old value : ℕ) → bit i reach ≡ 0 → bit i (store reach old value) ≡ bit i old
+outside i reach old value e =
+    stored-bit i reach old value
+    ∙ ap (λ (x : ℕ). differ (bit i old) (min (differ (bit i old) (bit i value)) x)) e
+    ∙ differ-none (bit i old) (differ (bit i old) (bit i value)) (bit-lt i old)
+
+-- inside it every bit is the value's
+pub inside : (i reach old value : ℕ) → bit i reach ≡ 1 → bit i (store reach old value) ≡ bit i value
+inside i reach old value e =
+    stored-bit i reach old value
+    ∙ ap (λ (x : ℕ). differ (bit i old) (min (differ (bit i old) (bit i value)) x)) e
+    ∙ differ-all (bit i old) (bit i value) (bit-lt i old) (bit-lt i value)
+
+-- what is within a register's stored bits has none set outside them
+pub within-bit : (i stored value : ℕ) → T (within stored value) → bit i stored ≡ 0 → bit i value ≡ 0
+unfolding within
+within-bit i stored value t e =
+    ap (bit i) (sym (eqb→eq (store stored 0 value) value t)) ∙ outside i stored 0 value e ∙ bit-of-zero i
+
+-- and what has none set outside them is within
+pub within-by-bits : (stored value : ℕ) → ((i : ℕ) → bit i stored ≡ 0 → bit i value ≡ 0) → T (within stored value)
+unfolding within
+within-by-bits stored value h = subst (λ (x : ℕ). T (eqb x value)) (sym same) (eqb-refl value)
+  where
+    at : (i x : ℕ) → x < 2 → bit i stored ≡ x → bit i (store stored 0 value) ≡ bit i value
+    at i x hx =
+        by-bit (λ (x : ℕ). bit i stored ≡ x → bit i (store stored 0 value) ≡ bit i value)
+        (λ e. outside i stored 0 value e ∙ bit-of-zero i ∙ sym (h i e))
+        (λ e. inside i stored 0 value e) x hx
+
+    same : store stored 0 value ≡ value
+    same = by-bits (store stored 0 value) value (λ i. at i (bit i stored) (bit-lt i stored) refl)
+
+-- a store whose reach is within the stored bits leaves a register within them
+pub store-within : (stored reach old value : ℕ)
+    → T (within stored reach) → T (within stored old) → T (within stored (store reach old value))
+store-within stored reach old value r o =
+    within-by-bits stored (store reach old value)
+    (λ i e. outside i reach old value (within-bit i stored reach r e) ∙ within-bit i stored old o e)
+
+-- every number is within itself
+pub within-self : (stored : ℕ) → T (within stored stored)
+within-self stored = within-by-bits stored stored (λ i e. e)

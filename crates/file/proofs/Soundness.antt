@@ -1,0 +1,141 @@
+-- Soundness is kept: by a store within the stored bits, by every step of the pointer, and so by an effect made of these.
+-- Assumes nothing.
+use Prim.Native.Nat.{ℕ, zero, suc}
+use mathlib.Core.Path.{_≡_, refl, sym, subst}
+use mathlib.Core.Bool.{Bool, true, false, _&&_}
+use mathlib.Core.List.{List, [], _∷_}
+use lib.Dec.{T, eqb}
+use lib.ListN.{getD, set}
+use Rattle.bits.specs.Store.{store, within}
+use Rattle.bits.proofs.Stored.{store-within}
+use Rattle.bits.proofs.Test.{left, right, both}
+use Rattle.file.specs.declared.effect.Effect.{Effect}
+use Rattle.file.specs.declared.effect.Effect.the-variants.{Nothing, Store, StoreAndFlip, Toggle, Move, Paint}
+use Rattle.file.specs.declared.palette.Colour.{Colour}
+use Rattle.file.specs.declared.palette.Pointer.{Pointer}
+use Rattle.file.specs.declared.registers.File.{File}
+use Rattle.file.specs.Effects.{apply, storeIn, paintIn}
+use Rattle.file.specs.File.{register, withRegisters, withPalette, withBank, withPointer, withToggle, powerOn, black}
+use Rattle.file.specs.Palette.{byColour, addressed, moved, afterWrite, afterRead, pointerSound}
+use Rattle.file.specs.Registers.{storedBits, storedTable, registers, singles, sequencer, crtc, graphics, attribute, pipeline}
+use Rattle.file.specs.Sound.{allWithin, sound}
+
+-- a register of a sound file is within its row
+pub at : (table values : List ℕ) (number : ℕ) → T (allWithin table values) → T (within (getD table number 0) (getD values number 0))
+unfolding allWithin within store
+at [] [] number t = tt
+at [] (value ∷ values) number t = absurd t
+at (stored ∷ table) [] number t = absurd t
+at (stored ∷ table) (value ∷ values) zero t = left (within stored value) (allWithin table values) t
+at (stored ∷ table) (value ∷ values) (suc number) t = at table values number (right (within stored value) (allWithin table values) t)
+
+-- and may take another value that is
+set-within : (table values : List ℕ) (number new : ℕ)
+    → T (allWithin table values) → T (within (getD table number 0) new) → T (allWithin table (set values number new))
+unfolding allWithin
+set-within [] [] number new t w = tt
+set-within [] (value ∷ values) number new t w = absurd t
+set-within (stored ∷ table) [] number new t w = absurd t
+set-within (stored ∷ table) (value ∷ values) zero new t w =
+    both (within stored new) (allWithin table values) w (right (within stored value) (allWithin table values) t)
+set-within (stored ∷ table) (value ∷ values) (suc number) new t w =
+    both (within stored value) (allWithin table (set values number new))
+      (left (within stored value) (allWithin table values) t)
+      (set-within table values number new (right (within stored value) (allWithin table values) t) w)
+
+-- writing an address leaves a sound pointer
+pub addressed-sound : (reading : Bool) (address : ℕ) → T (pointerSound (addressed reading address))
+unfolding pointerSound addressed
+addressed-sound reading address = tt
+
+-- a move from red to green takes no green along
+green-free : (address : ℕ) (reading : Bool) (next red green : ℕ)
+    → T (pointerSound (record { address = address; reading = reading; next = next; red = red; green = green }))
+    → T (byColour next (eqb green 0) true true)
+unfolding pointerSound
+green-free address reading zero red green t = left (eqb green 0) (eqb red 0) t
+green-free address reading (suc zero) red green t = tt
+green-free address reading (suc (suc next)) red green t = tt
+
+move-sound : (address : ℕ) (reading : Bool) (next r g red green : ℕ) → T (byColour next (eqb green 0) true true)
+    → T (pointerSound (moved (record { address = address; reading = reading; next = next; red = r; green = g }) red green))
+unfolding pointerSound moved
+move-sound address reading zero r g red green t = both (eqb green 0) true t tt
+move-sound address reading (suc zero) r g red green t = tt
+move-sound address reading (suc (suc next)) r g red green t = tt
+
+-- at red, what a write holds as green is what was held
+green-kept : (next green byte : ℕ) → byColour next (eqb green 0) true true ≡ byColour next (eqb (byColour next green byte green) 0) true true
+green-kept zero green byte = refl
+green-kept (suc zero) green byte = refl
+green-kept (suc (suc next)) green byte = refl
+
+-- so do a pixel data write
+pub afterWrite-sound : (p : Pointer) (byte : ℕ) → T (pointerSound p) → T (pointerSound (afterWrite p byte))
+unfolding afterWrite
+afterWrite-sound p byte t =
+    move-sound (p .address) (p .reading) (p .next) (p .red) (p .green)
+      (byColour (p .next) byte (p .red) (p .red)) (byColour (p .next) (p .green) byte (p .green))
+      (subst (λ (b : Bool). T b) (green-kept (p .next) (p .green) byte) (green-free (p .address) (p .reading) (p .next) (p .red) (p .green) t))
+
+-- and a pixel data read
+pub afterRead-sound : (p : Pointer) → T (pointerSound p) → T (pointerSound (afterRead p))
+unfolding afterRead
+afterRead-sound p t =
+    move-sound (p .address) (p .reading) (p .next) (p .red) (p .green) (p .red) (p .green)
+      (green-free (p .address) (p .reading) (p .next) (p .red) (p .green) t)
+
+-- the two parts of soundness
+pub registers-sound : (f : File) → T (sound f) → T (allWithin storedTable (f .registers))
+unfolding sound
+registers-sound f = left (allWithin storedTable (f .registers)) (pointerSound (f .pointer))
+
+pub pointer-sound : (f : File) → T (sound f) → T (pointerSound (f .pointer))
+unfolding sound
+pointer-sound f = right (allWithin storedTable (f .registers)) (pointerSound (f .pointer))
+
+-- an effect that stores within the stored bits, and moves to a sound pointer
+unfoldable pub keeps : Effect → Bool
+keeps Nothing = true
+keeps (Store number reach value) = within (storedBits number) reach
+keeps (StoreAndFlip number reach value) = within (storedBits number) reach
+keeps (Toggle state) = true
+keeps (Move pointer) = pointerSound pointer
+keeps (Paint bank entry colour pointer) = pointerSound pointer
+
+store-sound : (f : File) (number reach value : ℕ)
+    → T (within (storedBits number) reach) → T (sound f) → T (sound (storeIn number reach value f))
+unfolding storedBits sound storeIn withRegisters register
+store-sound f number reach value w s =
+    both (allWithin storedTable (set (f .registers) number (store reach (getD (f .registers) number 0) value))) (pointerSound (f .pointer))
+      (set-within storedTable (f .registers) number (store reach (getD (f .registers) number 0) value) (registers-sound f s)
+        (store-within (getD storedTable number 0) reach (getD (f .registers) number 0) value w
+          (at storedTable (f .registers) number (registers-sound f s))))
+      (pointer-sound f s)
+
+-- a new pointer, beside registers that stay
+move-to : (f g : File) (p : Pointer) → g .registers ≡ f .registers → T (pointerSound p) → T (sound f) → T (sound (withPointer p g))
+unfolding sound withPointer
+move-to f g p same t s =
+    both (allWithin storedTable (g .registers)) (pointerSound p)
+      (subst (λ (l : List ℕ). T (allWithin storedTable l)) (sym same) (registers-sound f s)) t
+
+paint-keeps : (f : File) (bank : Bool) (entry : ℕ) (colour : Colour) → paintIn bank entry colour f .registers ≡ f .registers
+unfolding paintIn withBank withPalette
+paint-keeps f true entry colour = refl
+paint-keeps f false entry colour = refl
+
+-- such an effect leaves a sound file sound
+pub apply-sound : (e : Effect) (f : File) → T (keeps e) → T (sound f) → T (sound (apply e f))
+unfolding keeps apply sound withToggle
+apply-sound Nothing f k s = s
+apply-sound (Store number reach value) f k s = store-sound f number reach value k s
+apply-sound (StoreAndFlip number reach value) f k s = store-sound f number reach value k s
+apply-sound (Toggle state) f k s = s
+apply-sound (Move pointer) f k s = move-to f f pointer refl k s
+apply-sound (Paint bank entry colour pointer) f k s = move-to f (paintIn bank entry colour f) pointer (paint-keeps f bank entry colour) k s
+
+-- the file at power-on is sound
+pub powerOn-sound : T (sound powerOn)
+unfolding sound powerOn allWithin storedTable registers singles sequencer crtc graphics attribute pipeline within store pointerSound addressed
+powerOn-sound = tt

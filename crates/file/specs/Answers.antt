@@ -1,0 +1,41 @@
+-- 01, 'Accesses and replies': the number and the value of each answer.
+-- Assumes nothing.
+use Prim.Native.Nat.{ℕ}
+use Rattle.file.specs.declared.answer.Answer.{Answer}
+use Rattle.file.specs.declared.answer.Answer.the-variants.{Done, NoRegister, Malformed, SpaceOff, NotHeld, OtherHalf, WrongWidth, ReadOnly, Locked, PaletteDown, OutOfRange, ShortBuffer, NotSound, NotBeforeRed, PlanRefused}
+
+-- 01's table of codes
+unfoldable pub codeOf : Answer → ℕ
+codeOf (Done value) = 0
+codeOf NoRegister = 1
+codeOf Malformed = 2
+codeOf SpaceOff = 3
+codeOf NotHeld = 4
+codeOf OtherHalf = 5
+codeOf WrongWidth = 6
+codeOf ReadOnly = 7
+codeOf Locked = 8
+codeOf PaletteDown = 9
+codeOf OutOfRange = 10
+codeOf ShortBuffer = 11
+codeOf NotSound = 12
+codeOf NotBeforeRed = 13
+codeOf PlanRefused = 14
+
+-- 'The reply's value is what was read if the code is 0 and it is a read, else 0': a write's `Done` has 0
+unfoldable pub valueOf : Answer → ℕ
+valueOf (Done value) = value
+valueOf NoRegister = 0
+valueOf Malformed = 0
+valueOf SpaceOff = 0
+valueOf NotHeld = 0
+valueOf OtherHalf = 0
+valueOf WrongWidth = 0
+valueOf ReadOnly = 0
+valueOf Locked = 0
+valueOf PaletteDown = 0
+valueOf OutOfRange = 0
+valueOf ShortBuffer = 0
+valueOf NotSound = 0
+valueOf NotBeforeRed = 0
+valueOf PlanRefused = 0

@@ -1,0 +1,18 @@
+-- What it means that two files differ inside a reach only.
+-- Assumes nothing.
+use Prim.Native.Nat.{ℕ}
+use mathlib.Core.Path.{_≡_}
+use mathlib.Core.Bool.{true, false}
+use lib.ListN.{getD}
+use Rattle.bits.specs.Store.{bit}
+use Rattle.file.specs.declared.effect.Reach.{Reach}
+use Rattle.file.specs.declared.registers.File.{File}
+use Rattle.file.specs.File.{register, black}
+
+-- outside the reach every bit of every register, every entry, the pointer and the toggle are as before
+pub record SameOutside (r : Reach) (before after : File) : Type 0 where
+  pub registers : (number i : ℕ) → (number ≡ r .register → bit i (r .bits) ≡ 0) → bit i (register after number) ≡ bit i (register before number)
+  pub palette : (n : ℕ) → (r .palette ≡ true → n ≡ r .entry → ⊥) → getD (after .palette) n black ≡ getD (before .palette) n black
+  pub bank : (n : ℕ) → (r .bank ≡ true → n ≡ r .entry → ⊥) → getD (after .bank) n black ≡ getD (before .bank) n black
+  pub pointer : r .pointer ≡ false → after .pointer ≡ before .pointer
+  pub toggle : r .toggle ≡ false → after .toggle ≡ before .toggle

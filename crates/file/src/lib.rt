@@ -1,0 +1,12 @@
+// The register file of the CL-GD546X as a value: registers, palette, bank, pointer and toggle; what an access may do to it.
+mod answer;
+mod effect;
+mod palette;
+mod registers;
+
+pub use answer::Answer;
+pub use effect::Effect;
+pub use effect::Reach;
+pub use palette::Colour;
+pub use palette::Pointer;
+pub use registers::File;
