@@ -1,3 +1,4 @@
 pub mod Bit
 pub mod Stored
 pub mod Test
+pub mod Ends

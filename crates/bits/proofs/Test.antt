@@ -1,5 +1,6 @@
--- Tests joined by `&&` and `||`. Assumes nothing.
-use mathlib.Core.Bool.{Bool, true, false, _&&_, _||_}
+-- Tests: joined by `&&`, chosen by, and as equations. Assumes nothing.
+use mathlib.Core.Path.{_≡_, refl, sym, subst}
+use mathlib.Core.Bool.{Bool, true, false, cond, _&&_, _||_}
 use lib.Dec.{T}
 
 pub left : (a b : Bool) → T (a && b) → T a
@@ -13,3 +14,35 @@ right false b t = absurd t
 pub both : (a b : Bool) → T a → T b → T (a && b)
 both true b s t = t
 both false b s t = s
+
+-- what both choices pass, the one chosen passes
+pub chosen : {A : Type 0} (P : A → Bool) (b : Bool) (x y : A) → T (P x) → T (P y) → T (P (cond b x y))
+chosen P true x y p q = p
+chosen P false x y p q = q
+
+-- and the first need pass only where it is chosen
+pub chosen-by : {A : Type 0} (P : A → Bool) (b : Bool) (x y : A) → (b ≡ true → T (P x)) → T (P y) → T (P (cond b x y))
+chosen-by P true x y p q = p refl
+chosen-by P false x y p q = q
+
+-- a test is true or false
+pub by-test : {A : Type 0} (b : Bool) → (b ≡ true → A) → (b ≡ false → A) → A
+by-test true p q = p refl
+by-test false p q = q refl
+
+-- a test that passes is true
+pub is-true : (b : Bool) → T b → b ≡ true
+is-true true t = refl
+is-true false t = absurd t
+
+pub passes : (b : Bool) → b ≡ true → T b
+passes b e = subst (λ (x : Bool). T x) (sym e) tt
+
+-- of two tests joined by `||`, the second passes where the first does not
+pub either : (a b : Bool) → T (a || b) → (T a → ⊥) → T b
+either true b t n = absurd (n tt)
+either false b t n = t
+
+pub second : (a b : Bool) → T b → T (a || b)
+second true b t = tt
+second false b t = t

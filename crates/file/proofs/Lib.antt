@@ -1,3 +1,4 @@
 pub mod Names
 pub mod Soundness
 pub mod Reached
+pub mod Typed

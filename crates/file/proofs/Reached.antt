@@ -42,12 +42,18 @@ same-outside Nothing f =
 same-outside (Store number reach value) f =
     record {
       registers = stored-outside (f .registers) number reach value;
-      palette = λ n h. refl; bank = λ n h. refl; pointer = λ h. refl; toggle = λ h. refl
+      palette = λ n h. refl;
+      bank = λ n h. refl;
+      pointer = λ h. refl;
+      toggle = λ h. refl;
     }
 same-outside (StoreAndFlip number reach value) f =
     record {
       registers = stored-outside (f .registers) number reach value;
-      palette = λ n h. refl; bank = λ n h. refl; pointer = λ h. refl; toggle = λ h. absurd (true≢false h)
+      palette = λ n h. refl;
+      bank = λ n h. refl;
+      pointer = λ h. refl;
+      toggle = λ h. absurd (true≢false h);
     }
 same-outside (Toggle state) f =
     record { registers = λ n i h. refl; palette = λ n h. refl; bank = λ n h. refl; pointer = λ h. refl; toggle = λ h. absurd (true≢false h) }
@@ -55,13 +61,17 @@ same-outside (Move pointer) f =
     record { registers = λ n i h. refl; palette = λ n h. refl; bank = λ n h. refl; pointer = λ h. absurd (true≢false h); toggle = λ h. refl }
 same-outside (Paint true entry colour pointer) f =
     record {
-      registers = λ n i h. refl; palette = λ n h. refl;
+      registers = λ n i h. refl;
+      palette = λ n h. refl;
       bank = λ n h. getD-set-other (f .bank) entry n colour black (h refl);
-      pointer = λ h. absurd (true≢false h); toggle = λ h. refl
+      pointer = λ h. absurd (true≢false h);
+      toggle = λ h. refl;
     }
 same-outside (Paint false entry colour pointer) f =
     record {
       registers = λ n i h. refl;
       palette = λ n h. getD-set-other (f .palette) entry n colour black (h refl);
-      bank = λ n h. refl; pointer = λ h. absurd (true≢false h); toggle = λ h. refl
+      bank = λ n h. refl;
+      pointer = λ h. absurd (true≢false h);
+      toggle = λ h. refl;
     }

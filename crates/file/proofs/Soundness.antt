@@ -40,8 +40,8 @@ set-within (stored ∷ table) (value ∷ values) zero new t w =
     both (within stored new) (allWithin table values) w (right (within stored value) (allWithin table values) t)
 set-within (stored ∷ table) (value ∷ values) (suc number) new t w =
     both (within stored value) (allWithin table (set values number new))
-      (left (within stored value) (allWithin table values) t)
-      (set-within table values number new (right (within stored value) (allWithin table values) t) w)
+    (left (within stored value) (allWithin table values) t)
+    (set-within table values number new (right (within stored value) (allWithin table values) t) w)
 
 -- writing an address leaves a sound pointer
 pub addressed-sound : (reading : Bool) (address : ℕ) → T (pointerSound (addressed reading address))
@@ -75,15 +75,15 @@ pub afterWrite-sound : (p : Pointer) (byte : ℕ) → T (pointerSound p) → T (
 unfolding afterWrite
 afterWrite-sound p byte t =
     move-sound (p .address) (p .reading) (p .next) (p .red) (p .green)
-      (byColour (p .next) byte (p .red) (p .red)) (byColour (p .next) (p .green) byte (p .green))
-      (subst (λ (b : Bool). T b) (green-kept (p .next) (p .green) byte) (green-free (p .address) (p .reading) (p .next) (p .red) (p .green) t))
+    (byColour (p .next) byte (p .red) (p .red)) (byColour (p .next) (p .green) byte (p .green))
+    (subst (λ (b : Bool). T b) (green-kept (p .next) (p .green) byte) (green-free (p .address) (p .reading) (p .next) (p .red) (p .green) t))
 
 -- and a pixel data read
 pub afterRead-sound : (p : Pointer) → T (pointerSound p) → T (pointerSound (afterRead p))
 unfolding afterRead
 afterRead-sound p t =
     move-sound (p .address) (p .reading) (p .next) (p .red) (p .green) (p .red) (p .green)
-      (green-free (p .address) (p .reading) (p .next) (p .red) (p .green) t)
+    (green-free (p .address) (p .reading) (p .next) (p .red) (p .green) t)
 
 -- the two parts of soundness
 pub registers-sound : (f : File) → T (sound f) → T (allWithin storedTable (f .registers))
@@ -108,17 +108,17 @@ store-sound : (f : File) (number reach value : ℕ)
 unfolding storedBits sound storeIn withRegisters register
 store-sound f number reach value w s =
     both (allWithin storedTable (set (f .registers) number (store reach (getD (f .registers) number 0) value))) (pointerSound (f .pointer))
-      (set-within storedTable (f .registers) number (store reach (getD (f .registers) number 0) value) (registers-sound f s)
-        (store-within (getD storedTable number 0) reach (getD (f .registers) number 0) value w
-          (at storedTable (f .registers) number (registers-sound f s))))
-      (pointer-sound f s)
+    (set-within storedTable (f .registers) number (store reach (getD (f .registers) number 0) value) (registers-sound f s)
+    (store-within (getD storedTable number 0) reach (getD (f .registers) number 0) value w
+    (at storedTable (f .registers) number (registers-sound f s))))
+    (pointer-sound f s)
 
 -- a new pointer, beside registers that stay
 move-to : (f g : File) (p : Pointer) → g .registers ≡ f .registers → T (pointerSound p) → T (sound f) → T (sound (withPointer p g))
 unfolding sound withPointer
 move-to f g p same t s =
     both (allWithin storedTable (g .registers)) (pointerSound p)
-      (subst (λ (l : List ℕ). T (allWithin storedTable l)) (sym same) (registers-sound f s)) t
+    (subst (λ (l : List ℕ). T (allWithin storedTable l)) (sym same) (registers-sound f s)) t
 
 paint-keeps : (f : File) (bank : Bool) (entry : ℕ) (colour : Colour) → paintIn bank entry colour f .registers ≡ f .registers
 unfolding paintIn withBank withPalette

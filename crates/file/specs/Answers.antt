@@ -1,6 +1,8 @@
 -- 01, 'Accesses and replies': the number and the value of each answer.
 -- Assumes nothing.
 use Prim.Native.Nat.{ℕ}
+use mathlib.Core.Bool.{Bool}
+use lib.Dec.{leb}
 use Rattle.file.specs.declared.answer.Answer.{Answer}
 use Rattle.file.specs.declared.answer.Answer.the-variants.{Done, NoRegister, Malformed, SpaceOff, NotHeld, OtherHalf, WrongWidth, ReadOnly, Locked, PaletteDown, OutOfRange, ShortBuffer, NotSound, NotBeforeRed, PlanRefused}
 
@@ -39,3 +41,7 @@ valueOf ShortBuffer = 0
 valueOf NotSound = 0
 valueOf NotBeforeRed = 0
 valueOf PlanRefused = 0
+
+-- 'Codes from 2 up leave the file as given and lent bytes as found'; 'Code 1 is no refusal'
+unfoldable pub refused : Answer → Bool
+refused a = leb 2 (codeOf a)

@@ -4,14 +4,21 @@ use Prim.Native.Nat.{ℕ}
 use mathlib.Core.Bool.{Bool, false}
 use mathlib.Core.List.{List}
 use lib.ListN.{getD, replicate}
+use lib.Dec.{eqb}
+use Rattle.bits.specs.Store.{bit}
 use Rattle.file.specs.declared.palette.Colour.{Colour}
 use Rattle.file.specs.declared.palette.Pointer.{Pointer}
 use Rattle.file.specs.declared.registers.File.{File}
+use Rattle.file.specs.Names.{CR11}
 use Rattle.file.specs.Palette.{addressed}
 
 -- what a register holds
 unfoldable pub register : File → ℕ → ℕ
 register f number = getD (f .registers) number 0
+
+-- code 8: 'while CR11[7]=1'
+unfoldable pub crtcLocked : File → Bool
+crtcLocked f = eqb (bit 7 (register f CR11)) 1
 
 -- the file with one part anew
 unfoldable pub withRegisters : List ℕ → File → File

@@ -23,6 +23,15 @@ pixelMask = 5
 abbrev pub PCI04 : ℕ
 PCI04 = 6
 
+abbrev pub SR0 : ℕ
+SR0 = 7
+
+abbrev pub SR0E : ℕ
+SR0E = 18
+
+abbrev pub SR1E : ℕ
+SR1E = 24
+
 abbrev pub CR0 : ℕ
 CR0 = 25
 
@@ -89,11 +98,11 @@ CR1D = 53
 abbrev pub CR1E : ℕ
 CR1E = 54
 
-abbrev pub SR0E : ℕ
-SR0E = 18
+abbrev pub GR0 : ℕ
+GR0 = 55
 
-abbrev pub SR1E : ℕ
-SR1E = 24
+abbrev pub AR0 : ℕ
+AR0 = 64
 
 abbrev pub B0 : ℕ
 B0 = 85

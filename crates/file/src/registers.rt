@@ -18,106 +18,106 @@ pub struct File {
 impl File {
     // The bits that each register stores.
     pub const STORED: [u16; 100] = [
-        0xEF,
-        0x1F,
-        0x3F,
-        0x3F,
-        0x3F,
-        0xFF,
-        0x0027,
-        0x03,
-        0x3D,
-        0x0F,
-        0x3F,
-        0x0E,
-        0x01,
-        0xFF,
-        0xFF,
-        0xFF,
-        0xFF,
-        0xFF,
-        0xFF,
-        0xFF,
-        0xFF,
-        0x7F,
-        0x7F,
-        0x7F,
-        0x7F,
-        0xFF,
-        0xFF,
-        0xFF,
-        0xFF,
-        0xFF,
-        0xFF,
-        0xFF,
-        0xFF,
-        0x7F,
-        0xFF,
-        0x3F,
-        0x7F,
-        0xFF,
-        0xFF,
-        0xFF,
-        0xFF,
-        0xFF,
-        0xFF,
-        0xFF,
-        0xFF,
-        0x7F,
-        0xFF,
-        0xFF,
-        0xEF,
-        0xFF,
-        0xFF,
-        0xFF,
-        0xFF,
-        0x18,
-        0xFF,
-        0x0F,
-        0x0F,
-        0x0F,
-        0x1F,
-        0x03,
-        0x7B,
-        0x0F,
-        0x0F,
-        0xFF,
-        0x3F,
-        0x3F,
-        0x3F,
-        0x3F,
-        0x3F,
-        0x3F,
-        0x3F,
-        0x3F,
-        0x3F,
-        0x3F,
-        0x3F,
-        0x3F,
-        0x3F,
-        0x3F,
-        0x3F,
-        0x3F,
-        0xEF,
-        0xFF,
-        0x3F,
-        0x0F,
-        0x0F,
-        0x88,
-        0xFF,
-        0xFF,
-        0x3F3F,
-        0x0FFF,
-        0x0FFF,
-        0x0FFF,
-        0x0FFF,
-        0xFF,
-        0x3F,
-        0x0FFF,
-        0x0FFF,
-        0x7F7F,
-        0x1101,
-        0x7FFC,
+        0xEF, // MISC
+        0x1F, // SRX
+        0x3F, // CRX
+        0x3F, // GRX
+        0x3F, // ARX
+        0xFF, // pixel mask
+        0x0027, // PCI04
+        0x03, // SR0
+        0x3D, // SR1
+        0x0F, // SR2
+        0x3F, // SR3
+        0x0E, // SR4
+        0x01, // SR7
+        0xFF, // SR9
+        0xFF, // SRA
+        0xFF, // SR0B
+        0xFF, // SR0C
+        0xFF, // SR0D
+        0xFF, // SR0E
+        0xFF, // SR14
+        0xFF, // SR15
+        0x7F, // SR1B
+        0x7F, // SR1C
+        0x7F, // SR1D
+        0x7F, // SR1E
+        0xFF, // CR0
+        0xFF, // CR1
+        0xFF, // CR2
+        0xFF, // CR3
+        0xFF, // CR4
+        0xFF, // CR5
+        0xFF, // CR6
+        0xFF, // CR7
+        0x7F, // CR8
+        0xFF, // CR9
+        0x3F, // CRA
+        0x7F, // CRB
+        0xFF, // CRC
+        0xFF, // CRD
+        0xFF, // CRE
+        0xFF, // CRF
+        0xFF, // CR10
+        0xFF, // CR11
+        0xFF, // CR12
+        0xFF, // CR13
+        0x7F, // CR14
+        0xFF, // CR15
+        0xFF, // CR16
+        0xEF, // CR17
+        0xFF, // CR18
+        0xFF, // CR19
+        0xFF, // CR1A
+        0xFF, // CR1B
+        0x18, // CR1D
+        0xFF, // CR1E
+        0x0F, // GR0
+        0x0F, // GR1
+        0x0F, // GR2
+        0x1F, // GR3
+        0x03, // GR4
+        0x7B, // GR5
+        0x0F, // GR6
+        0x0F, // GR7
+        0xFF, // GR8
+        0x3F, // AR0
+        0x3F, // AR1
+        0x3F, // AR2
+        0x3F, // AR3
+        0x3F, // AR4
+        0x3F, // AR5
+        0x3F, // AR6
+        0x3F, // AR7
+        0x3F, // AR8
+        0x3F, // AR9
+        0x3F, // ARA
+        0x3F, // ARB
+        0x3F, // ARC
+        0x3F, // ARD
+        0x3F, // ARE
+        0x3F, // ARF
+        0xEF, // AR10
+        0xFF, // AR11
+        0x3F, // AR12
+        0x0F, // AR13
+        0x0F, // AR14
+        0x88, // B0
+        0xFF, // B8
+        0xFF, // BC
+        0x3F3F, // C0
+        0x0FFF, // CC
+        0x0FFF, // CE
+        0x0FFF, // D0
+        0x0FFF, // D2
+        0xFF, // D4
+        0x3F, // D5
+        0x0FFF, // E0
+        0x0FFF, // E2
+        0x7F7F, // E4
+        0x1101, // E6
+        0x7FFC, // E8
     ];
 
     // Every stored bit and entry 0, the toggle at index, the pointer at address 0, write mode, red, nothing held.

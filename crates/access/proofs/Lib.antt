@@ -1,0 +1,5 @@
+pub mod Rows
+pub mod Sane
+pub mod Targets
+pub mod Roads
+pub mod Locked

@@ -1,0 +1,94 @@
+-- 01, the table of codes and 'Access checks run 12, 2, 3, 4, 5, 6, then 1 or 7 or 8 or 9.'
+-- Assumes nothing.
+use Prim.Native.Nat.{ℕ, _/_, _%_, _^_}
+use mathlib.Core.Bool.{Bool, true, false, cond, not, _&&_, _||_}
+use mathlib.Core.List.{List, [], _∷_}
+use mathlib.Core.Option.{Option, none, some}
+use lib.Dec.{eqb, leb, ltb}
+use Rattle.bits.specs.Store.{bit}
+use Rattle.file.specs.declared.answer.Answer.{Answer}
+use Rattle.file.specs.declared.answer.Answer.the-variants.{Malformed, SpaceOff, NotHeld, OtherHalf, WrongWidth, NotSound}
+use Rattle.file.specs.declared.registers.File.{File}
+use Rattle.file.specs.File.{register}
+use Rattle.file.specs.Names.{MISC, PCI04}
+use Rattle.file.specs.Sound.{sound}
+use Rattle.access.specs.declared.record.Record.{Record}
+use Rattle.access.specs.Lookup.{rowOf}
+use Rattle.access.specs.Places.{Row}
+
+-- 'byte 0 kind (0 config read, 1 config write, 2 port read, 3 port write, 4 MMIO read, 5 MMIO write)'
+unfoldable pub isWrite : Record → Bool
+isWrite r = eqb (r .kind % 2) 1
+
+unfoldable pub isPort : Record → Bool
+isPort r = eqb (r .kind / 2) 1
+
+unfoldable pub isMmio : Record → Bool
+isMmio r = eqb (r .kind / 2) 2
+
+-- code 12
+unfoldable pub notSound : File → Record → Bool
+notSound f r = not (sound f)
+
+-- code 2: 'kind over 5; width not 1 or 2; a write's value that doesn't fit the width; a read's value not 0'
+unfoldable pub malformed : File → Record → Bool
+malformed f r =
+    ltb 5 (r .kind)
+    || not (eqb (r .width) 1 || eqb (r .width) 2)
+    || cond (isWrite r) (leb (256 ^ r .width) (r .value)) (not (eqb (r .value) 0))
+
+-- code 3: 'port access with PCI04[0]=0, or MMIO access with PCI04[1]=0'
+unfoldable pub spaceOff : File → Record → Bool
+spaceOff f r =
+    isPort r && eqb (bit 0 (register f PCI04)) 0 || isMmio r && eqb (bit 1 (register f PCI04)) 0
+
+-- code 4: 'address not held in that space and direction'
+unfoldable pub noRow : Option Row → Bool
+noRow none = true
+noRow (some row) = false
+
+unfoldable pub notHeld : File → Record → Bool
+notHeld f r = noRow (rowOf f r)
+
+unfoldable pub isOneOf : List ℕ → ℕ → Bool
+isOneOf [] n = false
+isOneOf (m ∷ ms) n = eqb m n || isOneOf ms n
+
+-- code 5: '3B4h/3B5h/3BAh while MISC[0]=1, or 3D4h/3D5h/3DAh while it is 0'
+unfoldable pub otherHalf : File → Record → Bool
+otherHalf f r =
+    isPort r
+    && (isOneOf (0x3B4 ∷ 0x3B5 ∷ 0x3BA ∷ []) (r .address) && eqb (bit 0 (register f MISC)) 1
+    || isOneOf (0x3D4 ∷ 0x3D5 ∷ 0x3DA ∷ []) (r .address) && eqb (bit 0 (register f MISC)) 0)
+
+-- code 6: 'width is not the register's (all ports: 1)'
+unfoldable pub otherWidth : ℕ → Option Row → Bool
+otherWidth width none = false
+otherWidth width (some row) = not (eqb (row .width) width)
+
+unfoldable pub wrongWidth : File → Record → Bool
+wrongWidth f r = otherWidth (r .width) (rowOf f r)
+
+-- one check: the answer, and when it is given
+pub record Check : Type 0 where
+  pub answer : Answer
+  pub refuses : File → Record → Bool
+
+abbrev check : Answer → (File → Record → Bool) → Check
+check answer refuses = record { answer = answer; refuses = refuses }
+
+-- 'Access checks run 12, 2, 3, 4, 5, 6': the checks that every record passes before its place is asked
+unfoldable pub checks : List Check
+checks =
+    check NotSound notSound
+    ∷ check Malformed malformed
+    ∷ check SpaceOff spaceOff
+    ∷ check NotHeld notHeld
+    ∷ check OtherHalf otherHalf
+    ∷ check WrongWidth wrongWidth
+    ∷ []
+
+-- the answer of the first check of a list that refuses, else another
+unfoldable pub firstRefusal : List Check → File → Record → Answer → Answer
+firstRefusal [] f r otherwise = otherwise
+firstRefusal (c ∷ cs) f r otherwise = cond (c .refuses f r) (c .answer) (firstRefusal cs f r otherwise)

@@ -1,0 +1,6 @@
+pub mod Records
+pub mod Places
+pub mod Lookup
+pub mod Checks
+pub mod Access
+pub mod Run

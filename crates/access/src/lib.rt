@@ -1,0 +1,10 @@
+// One access to a register file: record, place, answer and effect, reply; and a run over a trace.
+mod access;
+mod place;
+mod record;
+
+pub use access::Accessed;
+pub use place::Place;
+pub use record::Item;
+pub use record::Record;
+pub use record::Reply;

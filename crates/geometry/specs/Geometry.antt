@@ -1,0 +1,87 @@
+-- 01, 'Cursor and window 2'.
+-- Assumes nothing.
+use Prim.Native.Nat.{ℕ, _-_, _*_, min}
+use mathlib.Core.Bool.{Bool, true, false, cond, _||_}
+use lib.Dec.{eqb, leb, ltb}
+use lib.IntN.{ℤ, pos, subℕ}
+use Rattle.bits.specs.Store.{bit, bits}
+use Rattle.file.specs.declared.answer.Answer.the-variants.{Done, NotSound}
+use Rattle.file.specs.declared.registers.File.{File}
+use Rattle.file.specs.File.{register}
+use Rattle.file.specs.Names.{CC, CE, D0, D2, D4, D5, E0, E2, E4, E6, E8}
+use Rattle.file.specs.Sound.{sound}
+use Rattle.timing.specs.declared.Scanlines.{Scanlines}
+use Rattle.timing.specs.declared.Timing.{Timing}
+use Rattle.timing.specs.Timing.{timingIn}
+use Rattle.geometry.specs.declared.Pixels.{Pixels}
+use Rattle.geometry.specs.declared.Cursor.{Cursor}
+use Rattle.geometry.specs.declared.Window.{Window}
+use Rattle.geometry.specs.declared.Geometry.{Geometry}
+
+abbrev pixels : ℕ → Pixels
+pixels n = record { 0 = n }
+
+abbrev scanlines : ℕ → Scanlines
+scanlines n = record { 0 = n }
+
+-- one bit as a mark
+unfoldable pub mark : ℕ → ℕ → Bool
+mark place n = eqb (bit place n) 1
+
+-- 'Cursor left = E0 minus E4[14:8], top = E2 minus E4[6:0], signed'; 'Shown width = 64 minus preset, 0 from preset 64 up; height likewise.'
+-- 'Image address = E8[14:2] times 1024. Enabled: E6[0].'
+unfoldable pub cursorIn : File → Cursor
+cursorIn f =
+    record {
+      enabled = mark 0 (register f E6);
+      left = subℕ (register f E0) (bits 14 8 (register f E4));
+      top = subℕ (register f E2) (bits 6 0 (register f E4));
+      width = 64 - bits 14 8 (register f E4);
+      height = 64 - bits 6 0 (register f E4);
+      address = bits 14 2 (register f E8) * 1024;
+    }
+
+-- 'bottom the smaller of D2 and V display'
+unfoldable pub bottom : File → ℕ
+bottom f = min (register f D2) (timingIn f .«v_display» .0)
+
+-- 'left CC, top CE, right D0, ..; right and bottom not included; empty if right ≤ left or bottom ≤ top, the four edges given all the same.
+-- Fault mark if D2 exceeds V total. Enabled D4[7], video format D4[6]; BLT scanlines 64 times D4[5:0] and D5[5:0].'
+unfoldable pub windowIn : File → Window
+windowIn f =
+    record {
+      enabled = mark 7 (register f D4);
+      video = mark 6 (register f D4);
+      left = pixels (register f CC);
+      top = scanlines (register f CE);
+      right = pixels (register f D0);
+      bottom = scanlines (bottom f);
+      empty = leb (register f D0) (register f CC) || leb (bottom f) (register f CE);
+      fault = ltb (timingIn f .«v_total» .0) (register f D2);
+      start = scanlines (64 * bits 5 0 (register f D4));
+      stop = scanlines (64 * bits 5 0 (register f D5));
+    }
+
+-- 'Timing, geometry and all other readers of a file answer 12 with all numbers 0, marks off, window empty.'
+unfoldable pub noCursor : Cursor
+noCursor = record { enabled = false; left = pos 0; top = pos 0; width = 0; height = 0; address = 0 }
+
+unfoldable pub noWindow : Window
+noWindow =
+    record {
+      enabled = false;
+      video = false;
+      left = pixels 0;
+      top = scanlines 0;
+      right = pixels 0;
+      bottom = scanlines 0;
+      empty = true;
+      fault = false;
+      start = scanlines 0;
+      stop = scanlines 0;
+    }
+
+unfoldable pub readGeometry : File → Geometry
+readGeometry f =
+    cond (sound f) (record { answer = Done 0; cursor = cursorIn f; window = windowIn f })
+    (record { answer = NotSound; cursor = noCursor; window = noWindow })

@@ -1,0 +1,184 @@
+-- 01, 'Marked examples': P1 to P11 as one table.
+-- Assumes nothing.
+use Prim.Native.Nat.{ℕ, zero, suc, _+_}
+use Prim.Native.String.{String}
+use mathlib.Core.Bool.{Bool, true, false, _&&_}
+use mathlib.Core.List.{List, [], _∷_, _++_}
+use lib.Dec.{eqb}
+use lib.IntN.{ℤ, pos, negsuc}
+use lib.ListN.{getD}
+use Rattle.access.specs.declared.record.Record.{Record}
+use Rattle.access.specs.Access.{access, answer}
+use Rattle.file.specs.declared.palette.Colour.{Colour}
+use Rattle.file.specs.declared.registers.File.{File}
+use Rattle.file.specs.Answers.{codeOf, valueOf}
+use Rattle.file.specs.Effects.{storeIn}
+use Rattle.file.specs.File.{powerOn, black}
+use Rattle.file.specs.Names.{MISC, PCI04, CR0, CR1, CR2, CR3, CR4, CR5, CR6, CR7, CR9, CR10, CR11, CR12, CR13, CR15, CR16, CR18, CR1B, E0, E4}
+use Rattle.file.specs.Registers.{storedBits}
+use Rattle.geometry.specs.declared.Cursor.{Cursor}
+use Rattle.geometry.specs.Geometry.{readGeometry}
+use Rattle.timing.specs.Timing.{timingOf, numbersOf, readTiming, writeTiming}
+
+-- a register set to a value by its mask constant, as the examples write CR11=80h
+unfoldable pub setRegister : ℕ → ℕ → File → File
+setRegister number value f = storeIn number (storedBits number) value f
+
+pub record Setting : Type 0 where
+  pub register : ℕ
+  pub value : ℕ
+
+infix 70 _≔_
+abbrev pub _≔_ : ℕ → ℕ → Setting
+r ≔ v = record { register = r; value = v }
+
+-- 'From power-on', with some registers set
+unfoldable pub started : List Setting → File
+started [] = powerOn
+started (s ∷ ss) = setRegister (s .register) (s .value) (started ss)
+
+-- records as the examples write them
+abbrev wide : ℕ → ℕ → ℕ → ℕ → Record
+wide kind width address value = record { kind = kind; width = width; address = address; value = value }
+
+abbrev configRead : ℕ → Record
+configRead address = wide 0 2 address 0
+
+abbrev configWrite : ℕ → ℕ → Record
+configWrite address value = wide 1 2 address value
+
+abbrev portRead : ℕ → Record
+portRead address = wide 2 1 address 0
+
+abbrev portWrite : ℕ → ℕ → Record
+portWrite address value = wide 3 1 address value
+
+abbrev mmioRead : ℕ → Record
+mmioRead address = wide 4 1 address 0
+
+abbrev mmioWrite : ℕ → ℕ → Record
+mmioWrite address value = wide 5 1 address value
+
+-- a record, and the code and value that it gets
+pub record Step : Type 0 where
+  pub asks : Record
+  pub code : ℕ
+  pub value : ℕ
+
+infix 70 _gives_
+abbrev _gives_ : Record → ℕ → Step
+r gives code = record { asks = r; code = code; value = 0 }
+
+infix 70 _reads_
+abbrev _reads_ : Record → ℕ → Step
+r reads value = record { asks = r; code = 0; value = value }
+
+-- what is looked at in the file after the records: nothing more; a palette entry; the timing; a timing write's code, and that it reads
+-- back where that is 0; the cursor's left edge and shown width
+pub data Look : Type 0 where
+  nothing : Look
+  entryIs : ℕ → ℕ → ℕ → ℕ → Look
+  timingIs : List ℕ → Look
+  writing : List ℕ → ℕ → Look
+  cursorIs : ℤ → ℕ → Look
+
+pub record Example : Type 0 where
+  pub name : String
+  pub start : List Setting
+  pub steps : List Step
+  pub look : Look
+
+abbrev example : String → List Setting → List Step → Look → Example
+example name start steps look = record { name = name; start = start; steps = steps; look = look }
+
+-- 'From power-on with PCI04=0003h unless said.'
+abbrev pub opened : List Setting
+opened = PCI04 ≔ 0x0003 ∷ []
+
+-- 'IBM mode 12h: CR0-7 5F 4F 50 82 54 80 0B 3E, CR9 40, CR10-13 EA 8C DF 28, CR15 E7, CR16 04, CR18 FF, rest 0.'
+unfoldable pub mode12 : List Setting
+mode12 =
+    CR0 ≔ 0x5F ∷ CR1 ≔ 0x4F ∷ CR2 ≔ 0x50 ∷ CR3 ≔ 0x82 ∷ CR4 ≔ 0x54 ∷ CR5 ≔ 0x80 ∷ CR6 ≔ 0x0B ∷ CR7 ≔ 0x3E
+    ∷ CR9 ≔ 0x40 ∷ CR10 ≔ 0xEA ∷ CR11 ≔ 0x8C ∷ CR12 ≔ 0xDF ∷ CR13 ≔ 0x28 ∷ CR15 ≔ 0xE7 ∷ CR16 ≔ 0x04 ∷ CR18 ≔ 0xFF
+    ∷ opened
+
+-- the timing of mode 12h, its horizontal blanking of so many clocks
+abbrev blanked : ℕ → List ℕ
+blanked clocks =
+    100 ∷ 80 ∷ 80 ∷ (80 + clocks) ∷ 84 ∷ 96 ∷ 525 ∷ 480 ∷ 487 ∷ 516 ∷ 490 ∷ 492 ∷ 1023 ∷ 40 ∷ 0 ∷ []
+
+unfoldable pub examples : List Example
+examples =
+    example "P1" (PCI04 ≔ 0x0000 ∷ []) (portRead 0x3CC gives 3 ∷ wide 9 1 0x3CC 0 gives 2 ∷ []) nothing
+    ∷ example "P2" opened (configWrite 0x04 0xFFFF gives 0 ∷ configRead 0x04 reads 0x0027 ∷ []) nothing
+    ∷ example "P3" opened (portWrite 0x3C2 0xFF gives 0 ∷ portRead 0x3CC reads 0xEF ∷ mmioRead 0x80 reads 0xEF ∷ []) nothing
+    ∷ example "P4" (CR11 ≔ 0x80 ∷ opened) (mmioWrite 0x00 0x00 gives 8 ∷ mmioWrite 0x1C 0xFF gives 0 ∷ mmioRead 0x1C reads 0x10 ∷ []) nothing
+    ∷ example "P5" (MISC ≔ 0x01 ∷ opened)
+    (portRead 0x3B4 gives 5 ∷ portWrite 0x3B4 0x00 gives 5 ∷ wide 4 2 0x00 0 gives 6 ∷ wide 5 2 0x00 0 gives 6
+    ∷ mmioRead 0x70 gives 4 ∷ mmioWrite 0x70 0x00 gives 4 ∷ [])
+    nothing
+    ∷ example "P6" opened
+    (portWrite 0x3C0 0x15 gives 0 ∷ portWrite 0x3C0 0x07 gives 1 ∷ portWrite 0x3B4 0x24 gives 0 ∷ portRead 0x3B5 reads 0x00 ∷ [])
+    nothing
+    ∷ example "P7" opened
+    (portWrite 0x3C8 0xFF gives 0 ∷ portWrite 0x3C9 1 gives 0 ∷ portWrite 0x3C9 2 gives 0 ∷ portWrite 0x3C9 3 gives 0
+    ∷ portRead 0x3C8 reads 0x00 ∷ [])
+    (entryIs 255 1 2 3)
+    ∷ example "P8" opened (mmioWrite 0xB0 0xFF gives 0 ∷ mmioRead 0xB0 reads 0x8A ∷ portRead 0x3C9 gives 9 ∷ []) nothing
+    ∷ example "P9" mode12 []
+    (timingIs (100 ∷ 80 ∷ 80 ∷ 98 ∷ 84 ∷ 96 ∷ 525 ∷ 480 ∷ 487 ∷ 516 ∷ 490 ∷ 492 ∷ 1023 ∷ 40 ∷ 0 ∷ []))
+    ∷ example "P10" opened [] (writing (blanked 64) 0)
+    ∷ example "P10" opened [] (writing (blanked 65) 10)
+    ∷ example "P10" (CR1B ≔ 0x20 ∷ opened) [] (writing (blanked 256) 0)
+    ∷ example "P10" (CR1B ≔ 0x20 ∷ opened) [] (writing (blanked 257) 10)
+    ∷ example "P11" (E0 ≔ 0x0005 ∷ E4 ≔ 0x0A00 ∷ opened) [] (cursorIs (negsuc 4) 54)
+    ∷ []
+
+-- the tests
+unfoldable pub sameNumbers : List ℕ → List ℕ → Bool
+sameNumbers [] [] = true
+sameNumbers [] (b ∷ bs) = false
+sameNumbers (a ∷ as′) [] = false
+sameNumbers (a ∷ as′) (b ∷ bs) = eqb a b && sameNumbers as′ bs
+
+unfoldable pub sameInteger : ℤ → ℤ → Bool
+sameInteger (pos a) (pos b) = eqb a b
+sameInteger (pos a) (negsuc b) = false
+sameInteger (negsuc a) (pos b) = false
+sameInteger (negsuc a) (negsuc b) = eqb a b
+
+-- each record gets its code and value
+unfoldable pub stepsHold : File → List Step → Bool
+stepsHold f [] = true
+stepsHold f (s ∷ ss) =
+    eqb (codeOf (answer f (s .asks))) (s .code)
+    && eqb (valueOf (answer f (s .asks))) (s .value)
+    && stepsHold (access f (s .asks) .file) ss
+
+unfoldable pub afterSteps : File → List Step → File
+afterSteps f [] = f
+afterSteps f (s ∷ ss) = afterSteps (access f (s .asks) .file) ss
+
+unfoldable pub colourIs : Colour → ℕ → ℕ → ℕ → Bool
+colourIs c red green blue = eqb (c .red) red && eqb (c .green) green && eqb (c .blue) blue
+
+-- a timing write gets its code; accepted, it reads back
+unfoldable pub writingHolds : File → List ℕ → ℕ → Bool
+writingHolds f numbers zero =
+    eqb (codeOf (writeTiming f (timingOf numbers) .answer)) 0
+    && sameNumbers (numbersOf (readTiming (writeTiming f (timingOf numbers) .file) .timing)) numbers
+writingHolds f numbers (suc code) = eqb (codeOf (writeTiming f (timingOf numbers) .answer)) (suc code)
+
+unfoldable pub lookHolds : File → Look → Bool
+lookHolds f nothing = true
+lookHolds f (entryIs n red green blue) = colourIs (getD (f .palette) n black) red green blue
+lookHolds f (timingIs numbers) = sameNumbers (numbersOf (readTiming f .timing)) numbers
+lookHolds f (writing numbers code) = writingHolds f numbers code
+lookHolds f (cursorIs left width) = sameInteger (readGeometry f .cursor .left) left && eqb (readGeometry f .cursor .width) width
+
+unfoldable pub holds : Example → Bool
+holds e = stepsHold (started (e .start)) (e .steps) && lookHolds (afterSteps (started (e .start)) (e .steps)) (e .look)
+
+unfoldable pub allHold : List Example → Bool
+allHold [] = true
+allHold (e ∷ es) = holds e && allHold es

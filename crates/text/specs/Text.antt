@@ -1,0 +1,67 @@
+-- 01, 'The replay program': the text that it prints, as bytes.
+-- Assumes nothing.
+use Prim.Native.Char.{code}
+use Prim.Native.Nat.{ℕ, zero, suc, _+_, _/_, _%_}
+use Prim.Native.String.{String, [] as empty, _∷_ as _then_}
+use mathlib.Core.Bool.{Bool, true, false, cond}
+use mathlib.Core.List.{List, [], _∷_, _++_}
+use lib.Dec.{ltb}
+use Rattle.io.specs.Digits.{digits}
+use Rattle.access.specs.declared.record.Item.{Item}
+use Rattle.access.specs.Access.{accessItem}
+use Rattle.access.specs.Records.{items, itemCount}
+use Rattle.access.specs.Run.{fileAfter}
+use Rattle.file.specs.declared.answer.Answer.{Answer}
+use Rattle.file.specs.declared.registers.File.{File}
+use Rattle.file.specs.Answers.{codeOf, valueOf}
+use Rattle.file.specs.File.{powerOn}
+use Rattle.timing.specs.declared.Timing.{Timing}
+use Rattle.timing.specs.Timing.{numbersOf, timingIn}
+
+-- a text as its bytes
+unfoldable pub ascii : String → List ℕ
+ascii empty = []
+ascii (c then s) = code c ∷ ascii s
+
+-- how many decimal digits a number has; the first argument bounds how far it is looked at
+unfoldable pub decimalPlaces : ℕ → ℕ → ℕ
+decimalPlaces zero n = 1
+decimalPlaces (suc fuel) n = elim (ltb n 10) [ true ↦ 1 | false ↦ suc (decimalPlaces fuel (n / 10)) ]
+
+unfoldable pub decimal : ℕ → List ℕ
+decimal n = digits 10 (decimalPlaces n n) n
+
+-- 'four hex digits, capitals'
+unfoldable pub capital : ℕ → ℕ
+capital d = cond (ltb d 10) (48 + d) (55 + d)
+
+unfoldable pub hexFour : ℕ → List ℕ
+hexFour n = capital (n / 4096 % 16) ∷ capital (n / 256 % 16) ∷ capital (n / 16 % 16) ∷ capital (n % 16) ∷ []
+
+unfoldable pub space : List ℕ
+space = 0x20 ∷ []
+
+unfoldable pub newline : List ℕ
+newline = 0x0A ∷ []
+
+-- 'For each record: its number from 0, code (decimal), value (four hex digits, capitals), one space between, each line ended by a newline.'
+unfoldable pub recordLine : ℕ → Answer → List ℕ
+recordLine number a = decimal number ++ space ++ decimal (codeOf a) ++ space ++ hexFour (valueOf a) ++ newline
+
+unfoldable pub spaced : List ℕ → List ℕ
+spaced [] = []
+spaced (n ∷ ns) = space ++ decimal n ++ spaced ns
+
+-- 'Last comes one line: the word timing, then the fifteen numbers in table order, decimal.'
+unfoldable pub timingLine : Timing → List ℕ
+timingLine t = ascii "timing" ++ spaced (numbersOf t) ++ newline
+
+-- the lines of items, from a number on
+unfoldable pub recordLines : ℕ → File → List Item → List ℕ
+recordLines number f [] = []
+recordLines number f (i ∷ is) = recordLine number (accessItem f i .answer) ++ recordLines (suc number) (accessItem f i .file) is
+
+-- 'It reads a trace on standard input from power-on.'
+unfoldable pub replayed : List ℕ → List ℕ
+replayed trace =
+    recordLines 0 powerOn (items (itemCount trace) trace) ++ timingLine (timingIn (fileAfter powerOn (items (itemCount trace) trace)))

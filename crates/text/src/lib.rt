@@ -1,0 +1,1 @@
+// The lines that replay prints, as bytes in a lent buffer.
