@@ -2,3 +2,4 @@ pub mod Names
 pub mod Soundness
 pub mod Reached
 pub mod Typed
+pub mod Colours

@@ -1,11 +1,12 @@
 -- Soundness is kept: by a store within the stored bits, by every step of the pointer, and so by an effect made of these.
 -- Assumes nothing.
-use Prim.Native.Nat.{ℕ, zero, suc}
-use mathlib.Core.Path.{_≡_, refl, sym, subst}
+use Prim.Native.Nat.{ℕ, zero, suc, pred, _<_, suc-le-suc, zero-le}
+use native.Mathlib.Nat.{suc-ne-zero}
+use mathlib.Core.Path.{_≡_, refl, sym, ap, subst}
 use mathlib.Core.Bool.{Bool, true, false, _&&_}
 use mathlib.Core.List.{List, [], _∷_}
 use lib.Dec.{T, eqb}
-use lib.ListN.{getD, set}
+use lib.ListN.{length, getD, set}
 use Rattle.bits.specs.Store.{store, within}
 use Rattle.bits.proofs.Stored.{store-within}
 use Rattle.bits.proofs.Test.{left, right, both}
@@ -28,6 +29,17 @@ at [] (value ∷ values) number t = absurd t
 at (stored ∷ table) [] number t = absurd t
 at (stored ∷ table) (value ∷ values) zero t = left (within stored value) (allWithin table values) t
 at (stored ∷ table) (value ∷ values) (suc number) t = at table values number (right (within stored value) (allWithin table values) t)
+
+-- a list of registers is within a table as long where each is within its row
+pub within-by-number : (table values : List ℕ) → length values ≡ length table
+    → ((number : ℕ) → number < length values → T (within (getD table number 0) (getD values number 0))) → T (allWithin table values)
+unfolding allWithin
+within-by-number [] [] e h = tt
+within-by-number [] (value ∷ values) e h = absurd (suc-ne-zero (length values) e)
+within-by-number (stored ∷ table) [] e h = absurd (suc-ne-zero (length table) (sym e))
+within-by-number (stored ∷ table) (value ∷ values) e h =
+    both (within stored value) (allWithin table values) (h 0 (suc-le-suc zero-le))
+    (within-by-number table values (ap pred e) (λ number l. h (suc number) (suc-le-suc l)))
 
 -- and may take another value that is
 set-within : (table values : List ℕ) (number new : ℕ)

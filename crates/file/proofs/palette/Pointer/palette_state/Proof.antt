@@ -1,0 +1,27 @@
+-- `Pointer::palette_state` meets its contract. Assumes nothing.
+use mathlib.Core.Path.{sym}
+use native.Mathlib.Nat.{zero-add}
+use Rattle.file.specs.Palette.{paletteState}
+use borrow.Author.Needs.{needs}
+use Rattle.file.proofs.palette.Pointer.palette_state.Statement.{statement}
+use Rattle.file.proofs.palette.Pointer.palette_state.Tie as tie
+
+wide-requires : tie.Need-wide-requires
+wide-requires c κs = search needs
+
+add-colour : tie.Need-add-colour
+add-colour c = search needs
+
+add-result : tie.Need-add-result
+add-result c = search needs
+
+returns : tie.Need-returns
+unfolding paletteState
+returns c = rw (c .if1 .taken, ← c .before .wide .ensures)
+
+returns-2 : tie.Need-returns-2
+unfolding paletteState
+returns-2 c = rw (c .if1 .left, ← c .before .wide .ensures) (sym (zero-add _))
+
+pub palette-state-spec : {M : Type 1} → statement M
+palette-state-spec = tie.close (tie.spec wide-requires add-colour add-result returns returns-2)
