@@ -3,3 +3,4 @@ pub mod Sane
 pub mod Targets
 pub mod Roads
 pub mod Locked
+pub mod Cells

@@ -1,0 +1,124 @@
+-- The engine's cells: a number for what a kind and an address name, read off the list of places, and for what an index names behind an indexed port.
+-- Assumes nothing.
+use Prim.Native.Nat.{ℕ, zero, suc, _+_, _-_, _*_}
+use mathlib.Core.Bool.{Bool, true, false, cond, _&&_}
+use mathlib.Core.List.{List, [], _∷_}
+use lib.Dec.{eqb, leb, ltb}
+use lib.ListN.{getD}
+use Rattle.file.specs.declared.registers.File.{File}
+use Rattle.file.specs.File.{register, withRegisters, withToggle, powerOn}
+use Rattle.file.specs.Names.{SRX, CRX, GRX, ARX}
+use Rattle.access.specs.declared.place.Place.{Place}
+use Rattle.access.specs.declared.place.Place.the-variants.{Register, Attribute, Fixed, ToggleState, AttributeIndex, PaletteState, ReadAddress, WriteAddress, PixelData, ToggleReset, NoRegister, NoAttribute}
+use Rattle.access.specs.Lookup.{attributeIndex, selects, first, placeIn}
+use Rattle.access.specs.Places.{Index, any, sr, cr, gr, ar, indexDue, dataDue, Row, places}
+
+-- the places that stand alone, from cell 101 on
+unfoldable pub alone : List Place
+alone =
+    PaletteState
+    ∷ ReadAddress
+    ∷ WriteAddress
+    ∷ PixelData
+    ∷ ToggleReset
+    ∷ Fixed 0x1013
+    ∷ Fixed 0x00D4
+    ∷ Fixed 0x12
+    ∷ ToggleState
+    ∷ AttributeIndex
+    ∷ NoRegister
+    ∷ []
+
+-- what a cell names, whatever the file holds: 1 to 100 is a register's number plus one
+unfoldable pub plainPlace : ℕ → Place
+plainPlace cell = cond (leb cell 100) (Register (cell - 1)) (getD alone (cell - 101) NoRegister)
+
+unfoldable pub plainCell : Place → ℕ
+plainCell (Register n) = n + 1
+plainCell (Attribute n) = n + 1
+plainCell PaletteState = 101
+plainCell ReadAddress = 102
+plainCell WriteAddress = 103
+plainCell PixelData = 104
+plainCell ToggleReset = 105
+plainCell (Fixed value) = cond (eqb value 0x1013) 106 (cond (eqb value 0x00D4) 107 108)
+plainCell ToggleState = 109
+plainCell AttributeIndex = 110
+plainCell NoRegister = 111
+plainCell NoAttribute = 111
+
+-- the cell of an indexed port, by its rows' index
+unfoldable pub indexedCell : Index → ℕ
+indexedCell any = 0
+indexedCell (sr n) = 112
+indexedCell (cr n) = 113
+indexedCell (gr n) = 114
+indexedCell (ar n) = 115
+indexedCell indexDue = 116
+indexedCell (dataDue n) = 116
+
+-- the rows of a kind, and those of an address among them
+unfoldable pub ofKind : ℕ → List Row → List Row
+ofKind kind [] = []
+ofKind kind (row ∷ rows) = cond (eqb kind (row .kind)) (row ∷ ofKind kind rows) (ofKind kind rows)
+
+unfoldable pub ofAddress : ℕ → List Row → List Row
+ofAddress address [] = []
+ofAddress address (row ∷ rows) = cond (eqb address (row .address)) (row ∷ ofAddress address rows) (ofAddress address rows)
+
+unfoldable pub rowsAt : ℕ → ℕ → List Row
+rowsAt kind address = ofAddress address (ofKind kind places)
+
+-- 0 where nothing is held; 128 more at width 2
+unfoldable pub cellOf : List Row → ℕ
+cellOf [] = 0
+cellOf (row ∷ []) = plainCell (row .place) + 128 * (row .width - 1)
+cellOf (row ∷ next ∷ rows) = indexedCell (row .index)
+
+unfoldable pub cellAt : ℕ → ℕ → ℕ
+cellAt kind address = cellOf (rowsAt kind address)
+
+-- the place that a file selects among rows
+unfoldable pub chosen : File → List Row → Place
+chosen f rows = placeIn (first (λ (row : Row). selects f (row .index)) rows)
+
+-- a file whose index registers all hold a number, with a toggle
+unfoldable pub indexing : Bool → ℕ → File
+indexing toggle n = withToggle toggle (withRegisters (0 ∷ n ∷ n ∷ n ∷ n ∷ []) powerOn)
+
+-- so many cells, one for each number from n on that the index registers may hold
+unfoldable pub cellsFrom : List Row → ℕ → ℕ → List ℕ
+cellsFrom rows n zero = []
+cellsFrom rows n (suc count) = plainCell (chosen (indexing false n) rows) ∷ cellsFrom rows (n + 1) count
+
+-- the cells behind an indexed port, by its index
+unfoldable pub behind : ℕ → ℕ → List ℕ
+behind address count = cellsFrom (rowsAt 2 address) 0 count
+
+-- what a 3C0h write stores into: the index, or the register behind it
+unfoldable pub asAttribute : Place → Place
+asAttribute (Register n) = Attribute n
+asAttribute (Attribute n) = NoAttribute
+asAttribute (Fixed value) = NoAttribute
+asAttribute ToggleState = NoAttribute
+asAttribute AttributeIndex = NoAttribute
+asAttribute PaletteState = NoAttribute
+asAttribute ReadAddress = NoAttribute
+asAttribute WriteAddress = NoAttribute
+asAttribute PixelData = NoAttribute
+asAttribute ToggleReset = NoAttribute
+asAttribute NoRegister = NoAttribute
+asAttribute NoAttribute = NoAttribute
+
+-- what a cell names in a file
+unfoldable pub cellPlace : File → ℕ → Place
+cellPlace f cell =
+    cond (ltb cell 112) (plainPlace cell)
+    (getD
+    (plainPlace (getD (behind 0x3C5 32) (register f SRX) 111)
+    ∷ plainPlace (getD (behind 0x3B5 64) (register f CRX) 111)
+    ∷ plainPlace (getD (behind 0x3CF 64) (register f GRX) 111)
+    ∷ plainPlace (getD (behind 0x3C1 32) (attributeIndex f) 111)
+    ∷ cond (f .toggle) (asAttribute (plainPlace (getD (behind 0x3C1 32) (attributeIndex f) 111))) (Attribute ARX)
+    ∷ [])
+    (cell - 112) NoRegister)
