@@ -4,3 +4,4 @@ pub mod Targets
 pub mod Roads
 pub mod Locked
 pub mod Cells
+pub mod Tables

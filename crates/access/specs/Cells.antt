@@ -13,7 +13,7 @@ use Rattle.access.specs.declared.place.Place.the-variants.{Register, Att
 use Rattle.access.specs.Lookup.{attributeIndex, selects, first, placeIn}
 use Rattle.access.specs.Places.{Index, any, sr, cr, gr, ar, indexDue, dataDue, Row, places}
 
--- the places that stand alone, from cell 101 on
+-- the places that stand alone, from cell 100 on
 unfoldable pub alone : List Place
 alone =
     PaletteState
@@ -29,33 +29,33 @@ alone =
     ∷ NoRegister
     ∷ []
 
--- what a cell names, whatever the file holds: 1 to 100 is a register's number plus one
+-- what a cell names, whatever the file holds: below 100 the register of that number
 unfoldable pub plainPlace : ℕ → Place
-plainPlace cell = cond (leb cell 100) (Register (cell - 1)) (getD alone (cell - 101) NoRegister)
+plainPlace cell = cond (ltb cell 100) (Register cell) (getD alone (cell - 100) NoRegister)
 
 unfoldable pub plainCell : Place → ℕ
-plainCell (Register n) = n + 1
-plainCell (Attribute n) = n + 1
-plainCell PaletteState = 101
-plainCell ReadAddress = 102
-plainCell WriteAddress = 103
-plainCell PixelData = 104
-plainCell ToggleReset = 105
-plainCell (Fixed value) = cond (eqb value 0x1013) 106 (cond (eqb value 0x00D4) 107 108)
-plainCell ToggleState = 109
-plainCell AttributeIndex = 110
-plainCell NoRegister = 111
-plainCell NoAttribute = 111
+plainCell (Register n) = n
+plainCell (Attribute n) = n
+plainCell PaletteState = 100
+plainCell ReadAddress = 101
+plainCell WriteAddress = 102
+plainCell PixelData = 103
+plainCell ToggleReset = 104
+plainCell (Fixed value) = cond (eqb value 0x1013) 105 (cond (eqb value 0x00D4) 106 107)
+plainCell ToggleState = 108
+plainCell AttributeIndex = 109
+plainCell NoRegister = 110
+plainCell NoAttribute = 110
 
 -- the cell of an indexed port, by its rows' index
 unfoldable pub indexedCell : Index → ℕ
-indexedCell any = 0
-indexedCell (sr n) = 112
-indexedCell (cr n) = 113
-indexedCell (gr n) = 114
-indexedCell (ar n) = 115
-indexedCell indexDue = 116
-indexedCell (dataDue n) = 116
+indexedCell any = 127
+indexedCell (sr n) = 111
+indexedCell (cr n) = 112
+indexedCell (gr n) = 113
+indexedCell (ar n) = 114
+indexedCell indexDue = 115
+indexedCell (dataDue n) = 115
 
 -- the rows of a kind, and those of an address among them
 unfoldable pub ofKind : ℕ → List Row → List Row
@@ -69,9 +69,9 @@ ofAddress address (row ∷ rows) = cond (eqb address (row .address)) (row ∷ of
 unfoldable pub rowsAt : ℕ → ℕ → List Row
 rowsAt kind address = ofAddress address (ofKind kind places)
 
--- 0 where nothing is held; 128 more at width 2
+-- 127 where nothing is held; 128 more at width 2
 unfoldable pub cellOf : List Row → ℕ
-cellOf [] = 0
+cellOf [] = 127
 cellOf (row ∷ []) = plainCell (row .place) + 128 * (row .width - 1)
 cellOf (row ∷ next ∷ rows) = indexedCell (row .index)
 
@@ -110,15 +110,22 @@ asAttribute ToggleReset = NoAttribute
 asAttribute NoRegister = NoAttribute
 asAttribute NoAttribute = NoAttribute
 
+unfoldable pub attributePlace : Bool → ℕ → Place
+attributePlace toggle cell = cond toggle (asAttribute (plainPlace cell)) (Attribute ARX)
+
+-- a file of these registers and this toggle, of which no more is looked at
+unfoldable pub seen : List ℕ → Bool → File
+seen registers toggle = withToggle toggle (withRegisters registers powerOn)
+
 -- what a cell names in a file
 unfoldable pub cellPlace : File → ℕ → Place
 cellPlace f cell =
-    cond (ltb cell 112) (plainPlace cell)
+    cond (ltb cell 111) (plainPlace cell)
     (getD
-    (plainPlace (getD (behind 0x3C5 32) (register f SRX) 111)
-    ∷ plainPlace (getD (behind 0x3B5 64) (register f CRX) 111)
-    ∷ plainPlace (getD (behind 0x3CF 64) (register f GRX) 111)
-    ∷ plainPlace (getD (behind 0x3C1 32) (attributeIndex f) 111)
-    ∷ cond (f .toggle) (asAttribute (plainPlace (getD (behind 0x3C1 32) (attributeIndex f) 111))) (Attribute ARX)
+    (plainPlace (getD (behind 0x3C5 32) (register f SRX) 0)
+    ∷ plainPlace (getD (behind 0x3B5 64) (register f CRX) 0)
+    ∷ plainPlace (getD (behind 0x3CF 64) (register f GRX) 0)
+    ∷ plainPlace (getD (behind 0x3C1 32) (attributeIndex f) 0)
+    ∷ attributePlace (f .toggle) (getD (behind 0x3C1 32) (attributeIndex f) 0)
     ∷ [])
-    (cell - 112) NoRegister)
+    (cell - 111) NoRegister)

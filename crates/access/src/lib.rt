@@ -1,5 +1,6 @@
 // One access to a register file: record, place, answer and effect, reply; and a run over a trace.
 mod access;
+mod decode;
 mod place;
 mod record;
 

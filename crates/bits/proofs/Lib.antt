@@ -2,3 +2,4 @@ pub mod Bit
 pub mod Stored
 pub mod Test
 pub mod Ends
+pub mod Lists

@@ -1,9 +1,9 @@
 -- The store rule, bit by bit, and what follows for the bits that a register stores.
 -- Assumes nothing.
 use mathlib.Core.Path.{_≡_, refl, sym, ap, ap₂, _∙_, subst}
-use Prim.Native.Nat.{ℕ, _<_, min}
-use native.Mathlib.Nat.{min-zero}
-use lib.Bits.{bitAnd, bitXor, differ}
+use Prim.Native.Nat.{ℕ, _≤_, _<_, min}
+use native.Mathlib.Nat.{min-zero, le-trans, le-of-eq}
+use lib.Bits.{bitAnd, bitXor, differ, and-le-r}
 use lib.Dec.{T, eqb, eqb→eq, eqb-refl}
 use Rattle.bits.specs.Store.{bit, store, within}
 use Rattle.bits.proofs.Bit.{by-bit, bit-lt, bit-and, bit-xor, bit-of-zero, by-bits}
@@ -70,3 +70,8 @@ store-within stored reach old value r o =
 -- every number is within itself
 pub within-self : (stored : ℕ) → T (within stored stored)
 within-self stored = within-by-bits stored stored (λ i e. e)
+
+-- what is within a mask is at most the mask
+pub within-le : (stored value : ℕ) → T (within stored value) → value ≤ stored
+unfolding within store
+within-le stored value t = le-trans (le-of-eq (sym (eqb→eq (store stored 0 value) value t))) (and-le-r value stored)

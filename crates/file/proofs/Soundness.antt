@@ -1,6 +1,6 @@
 -- Soundness is kept: by a store within the stored bits, by every step of the pointer, and so by an effect made of these.
 -- Assumes nothing.
-use Prim.Native.Nat.{ℕ, zero, suc, pred, _<_, suc-le-suc, zero-le}
+use Prim.Native.Nat.{ℕ, zero, suc, pred, _≤_, _<_, suc-le-suc, zero-le}
 use native.Mathlib.Nat.{suc-ne-zero}
 use mathlib.Core.Path.{_≡_, refl, sym, ap, subst}
 use mathlib.Core.Bool.{Bool, true, false, _&&_}
@@ -8,7 +8,7 @@ use mathlib.Core.List.{List, [], _∷_}
 use lib.Dec.{T, eqb}
 use lib.ListN.{length, getD, set}
 use Rattle.bits.specs.Store.{store, within}
-use Rattle.bits.proofs.Stored.{store-within}
+use Rattle.bits.proofs.Stored.{store-within, within-le}
 use Rattle.bits.proofs.Test.{left, right, both}
 use Rattle.file.specs.declared.effect.Effect.{Effect}
 use Rattle.file.specs.declared.effect.Effect.the-variants.{Nothing, Store, StoreAndFlip, Toggle, Move, Paint}
@@ -151,3 +151,8 @@ apply-sound (Paint bank entry colour pointer) f k s = move-to f (paintIn bank en
 pub powerOn-sound : T (sound powerOn)
 unfolding sound powerOn allWithin storedTable registers singles sequencer crtc graphics attribute pipeline within store pointerSound addressed
 powerOn-sound = tt
+
+-- a register of a sound file is at most its stored bits
+pub at-most : (values : List ℕ) (number : ℕ) → T (allWithin storedTable values) → getD values number 0 ≤ storedBits number
+unfolding storedBits
+at-most values number t = within-le (getD storedTable number 0) (getD values number 0) (at storedTable values number t)
