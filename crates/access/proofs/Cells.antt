@@ -20,7 +20,7 @@ use Rattle.access.specs.declared.place.Place.{Place}
 use Rattle.access.specs.declared.place.Place.the-variants.{Register, Attribute, Fixed, ToggleState, AttributeIndex, PaletteState, ReadAddress, WriteAddress, PixelData, ToggleReset, NoRegister, NoAttribute}
 use Rattle.access.specs.declared.record.Record.{Record}
 use Rattle.access.specs.Checks.{notHeld, noRow, wrongWidth, otherWidth}
-use Rattle.access.specs.Cells.{alone, plainPlace, plainCell, indexedCell, ofKind, ofAddress, rowsAt, cellOf, cellAt, chosen, indexing, cellsFrom, behind, asAttribute, attributePlace, cellPlace}
+use Rattle.access.specs.Cells.{alone, plainPlace, plainCell, indexedCell, ofKind, ofAddress, rowsAt, cellOf, cellAt, cellWidth, chosen, indexing, cellsFrom, behind, asAttribute, attributePlace, cellPlace}
 use Rattle.access.specs.Lookup.{attributeIndex, selects, fits, first, rowOf, placeIn, placeOf}
 use Rattle.access.specs.Places.{Index, any, sr, cr, gr, ar, indexDue, dataDue, Row, places, each, attributePorts, generalPorts, crtcPorts, pipelinePlace, mmioPlaces, pciPlaces}
 use Rattle.access.proofs.Rows.{every, Passes, found}
@@ -112,10 +112,6 @@ unfolding placeOf rowOf chosen rowsAt
 place-chosen f r = ap placeIn (of-kind f r places ∙ of-address f (r .address) (ofKind (r .kind) places))
 
 -- ---- one computed test over all rows
-
--- 1 or 2 bytes
-unfoldable pub cellWidth : ℕ → ℕ
-cellWidth cell = cond (ltb cell 128) 1 2
 
 -- the indexed ports: kind, address, cell
 pub record Door : Type 0 where

@@ -5,3 +5,5 @@ pub mod Roads
 pub mod Locked
 pub mod Cells
 pub mod Tables
+pub mod Halves
+pub mod Looks

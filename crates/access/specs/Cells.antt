@@ -78,6 +78,10 @@ cellOf (row ∷ next ∷ rows) = indexedCell (row .index)
 unfoldable pub cellAt : ℕ → ℕ → ℕ
 cellAt kind address = cellOf (rowsAt kind address)
 
+-- 1 or 2 bytes
+unfoldable pub cellWidth : ℕ → ℕ
+cellWidth cell = cond (ltb cell 128) 1 2
+
 -- the place that a file selects among rows
 unfoldable pub chosen : File → List Row → Place
 chosen f rows = placeIn (first (λ (row : Row). selects f (row .index)) rows)

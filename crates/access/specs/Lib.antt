@@ -4,4 +4,5 @@ pub mod Lookup
 pub mod Cells
 pub mod Checks
 pub mod Access
+pub mod Looked
 pub mod Run

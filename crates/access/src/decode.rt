@@ -3,7 +3,7 @@
 ghost use mathlib.Core.Path.{_≡_};
 ghost use Prim.Native.Nat.{_<_};
 ghost use lib.Dec.{T};
-ghost use Rattle.access.specs.Cells.{cellAt, plainPlace, attributePlace, cellPlace, seen};
+ghost use Rattle.access.specs.Cells.{cellAt, cellWidth, plainPlace, attributePlace, cellPlace, seen};
 ghost use Rattle.file.specs.Registers.{storedTable};
 ghost use Rattle.file.specs.Sound.{allWithin};
 use crate::place::Place;
@@ -552,6 +552,13 @@ fn mmio_cell(at: usize) -> u8
         return CONFIG[at - 0x300];
     }
     NOTHING
+}
+
+// The width that a cell asks for.
+pub fn width_of(cell: u8) -> u8
+    ensures { λ r. ⌜ r ≡ cellWidth cell ⌝ }
+{
+    if cell < 128 { 1 } else { 2 }
 }
 
 // The places that stand alone, from cell 100 on.

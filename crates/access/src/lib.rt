@@ -1,6 +1,7 @@
 // One access to a register file: record, place, answer and effect, reply; and a run over a trace.
 mod access;
 mod decode;
+mod engine;
 mod place;
 mod record;
 

@@ -46,3 +46,11 @@ either false b t n = t
 pub second : (a b : Bool) → T b → T (a || b)
 second true b t = tt
 second false b t = t
+
+pub or-false : (b : Bool) → b || false ≡ b
+or-false true = refl
+or-false false = refl
+
+pub or-left : (a b : Bool) → a || b ≡ false → a ≡ false
+or-left true b e = e
+or-left false b e = refl

@@ -1,0 +1,32 @@
+-- `is_space_off` meets its contract. Assumes nothing.
+use mathlib.Core.Path.{sym, ap, _∙_}
+use Prim.Native.Nat.{ℕ}
+use borrow.Author.Tests.{lt-ltb, le-ltb, lt-leb, le-leb, eq-eqb, ne-eqb}
+use lib.Dec.{eqb}
+use Rattle.bits.specs.Store.{bit}
+use Rattle.bits.proofs.Bit.{bit-zero}
+use Rattle.bits.proofs.Test.{or-false}
+use Rattle.file.specs.File.{register, withRegisters, withToggle}
+use Rattle.access.specs.Cells.{seen}
+use Rattle.access.specs.Checks.{isPort, isMmio, spaceOff}
+use borrow.Author.Needs.{needs}
+use Rattle.access.proofs.engine.is_space_off.Statement.{statement}
+use Rattle.access.proofs.engine.is_space_off.Tie as tie
+
+element-copy-out-enables : tie.Need-element-copy-out-enables
+element-copy-out-enables c = search needs
+
+returns : tie.Need-returns
+unfolding spaceOff isPort isMmio seen register withRegisters withToggle
+returns c = rw (c .if1 .taken, bit-zero, or-false)
+
+returns-2 : tie.Need-returns-2
+unfolding spaceOff isPort isMmio bit seen register withRegisters withToggle
+returns-2 c = rw (c .if2 .taken)
+
+returns-3 : tie.Need-returns-3
+unfolding spaceOff isPort isMmio seen register withRegisters withToggle
+returns-3 c = rw (ne-eqb _ _ (c .before .if1 .left), ne-eqb _ _ (c .if2 .left))
+
+pub is-space-off-spec : {M : Type 1} → statement M
+is-space-off-spec = tie.close (tie.spec element-copy-out-enables returns returns-2 returns-3)

@@ -1,0 +1,51 @@
+-- The engine's way through 01's checks: what its parts mean. The law that this is 01's order is in the proofs.
+-- Assumes nothing.
+use Prim.Native.Nat.{ℕ, _%_}
+use mathlib.Core.Path.{_≡_}
+use mathlib.Core.Bool.{Bool, true, cond, not}
+use mathlib.Core.List.{List}
+use lib.Dec.{eqb, ltb}
+use Rattle.file.specs.declared.answer.Answer.{Answer}
+use Rattle.file.specs.declared.answer.Answer.the-variants.{Malformed, SpaceOff, NotHeld, OtherHalf, WrongWidth}
+use Rattle.file.specs.declared.palette.Pointer.{Pointer}
+use Rattle.file.specs.declared.registers.File.{File}
+use Rattle.file.specs.Palette.{component}
+use Rattle.access.specs.declared.engine.Looked.{Looked}
+use Rattle.access.specs.declared.engine.Looked.the-variants.{Refused, At}
+use Rattle.access.specs.declared.place.Place.{Place}
+use Rattle.access.specs.declared.place.Place.the-variants.{Register, Attribute, Fixed, ToggleState, AttributeIndex, PaletteState, ReadAddress, WriteAddress, PixelData, ToggleReset, NoRegister, NoAttribute}
+use Rattle.access.specs.declared.record.Record.{Record}
+use Rattle.access.specs.Access.{entry}
+use Rattle.access.specs.Cells.{cellAt, cellWidth}
+use Rattle.access.specs.Checks.{malformed, spaceOff, otherHalf}
+
+-- 'Access checks run .. 2, 3, 4, 5, 6', by the cell of the record's kind and address
+unfoldable pub lookedAt : File → Record → Looked
+lookedAt f r =
+    cond (malformed f r) (Refused Malformed)
+    (cond (spaceOff f r) (Refused SpaceOff)
+    (cond (eqb (cellAt (r .kind) (r .address)) 127) (Refused NotHeld)
+    (cond (otherHalf f r) (Refused OtherHalf)
+    (cond (not (eqb (cellWidth (cellAt (r .kind) (r .address))) (r .width))) (Refused WrongWidth) (At (cellAt (r .kind) (r .address) % 128))))))
+
+-- a place whose register, if it names one, is a register of the file
+unfoldable pub inFile : Place → Bool
+inFile (Register n) = ltb n 100
+inFile (Attribute n) = ltb n 100
+inFile (Fixed value) = true
+inFile ToggleState = true
+inFile AttributeIndex = true
+inFile PaletteState = true
+inFile ReadAddress = true
+inFile WriteAddress = true
+inFile PixelData = true
+inFile ToggleReset = true
+inFile NoRegister = true
+inFile NoAttribute = true
+
+-- the parts of a file that an answer looks at; of the entry that the pointer names, only the component of the next colour
+pub record Shows (f : File) (registers : List ℕ) (toggle : Bool) (pointer : Pointer) (shown : ℕ) : Type 0 where
+  pub same-registers : f .registers ≡ registers
+  pub same-toggle : f .toggle ≡ toggle
+  pub same-pointer : f .pointer ≡ pointer
+  pub same-shown : component (entry f) (pointer .next) ≡ shown
