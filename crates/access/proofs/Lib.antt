@@ -7,3 +7,4 @@ pub mod Cells
 pub mod Tables
 pub mod Halves
 pub mod Looks
+pub mod Shown

@@ -32,12 +32,12 @@ pub in-order : (f : File) (r : Record) (otherwise : Answer) → T (sound f) → 
 unfolding firstRefusal checks notSound settled lookedAt
 in-order f r otherwise s =
     rw (is-true (sound f) s)
-      (by-test (malformed f r) (λ m. rw m)
-        (λ m. rw m
-          (by-test (spaceOff f r) (λ o. rw o)
-            (λ o. rw (o, not-held f r (kind-below f r m))
-              (by-test (eqb (cellAt (r .kind) (r .address)) 127) (λ n. rw n)
-                (λ n. rw (n, wrong-width f r (kind-below f r m) (eqb-false _ _ n))
-                  (by-test (otherHalf f r) (λ h. rw h)
-                    (λ h. rw h
-                      (by-test (eqb (cellWidth (cellAt (r .kind) (r .address))) (r .width)) (λ w. rw w) (λ w. rw w))))))))))
+    (by-test (malformed f r) (λ m. rw m)
+    (λ m. rw m
+    (by-test (spaceOff f r) (λ o. rw o)
+    (λ o. rw (o, not-held f r (kind-below f r m))
+    (by-test (eqb (cellAt (r .kind) (r .address)) 127) (λ n. rw n)
+    (λ n. rw (n, wrong-width f r (kind-below f r m) (eqb-false _ _ n))
+    (by-test (otherHalf f r) (λ h. rw h)
+    (λ h. rw h
+    (by-test (eqb (cellWidth (cellAt (r .kind) (r .address))) (r .width)) (λ w. rw w) (λ w. rw w))))))))))

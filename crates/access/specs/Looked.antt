@@ -43,6 +43,21 @@ inFile ToggleReset = true
 inFile NoRegister = true
 inFile NoAttribute = true
 
+-- a place whose register takes a value: the pointer's ports take a byte
+unfoldable pub holds : Place → ℕ → Bool
+holds (Register n) value = true
+holds (Attribute n) value = true
+holds (Fixed fixed) value = true
+holds ToggleState value = true
+holds AttributeIndex value = true
+holds PaletteState value = true
+holds ReadAddress value = ltb value 256
+holds WriteAddress value = ltb value 256
+holds PixelData value = ltb value 256
+holds ToggleReset value = true
+holds NoRegister value = true
+holds NoAttribute value = true
+
 -- the parts of a file that an answer looks at; of the entry that the pointer names, only the component of the next colour
 pub record Shows (f : File) (registers : List ℕ) (toggle : Bool) (pointer : Pointer) (shown : ℕ) : Type 0 where
   pub same-registers : f .registers ≡ registers

@@ -1,16 +1,16 @@
 // One access in parts: the common checks, then answer and effect by place. Nothing here changes a file.
 ghost use mathlib.Core.Path.{_≡_};
-ghost use Prim.Native.Nat.{_<_};
-ghost use mathlib.Core.Bool.{false};
+ghost use Prim.Native.Nat.{_%_, _<_};
+ghost use mathlib.Core.Bool.{true, false, cond};
 ghost use lib.Dec.{T};
 ghost use Rattle.file.specs.declared.registers.File.{File as FileOf};
 ghost use Rattle.file.specs.File.{crtcLocked, withPointer, powerOn};
 ghost use Rattle.file.specs.Registers.{storedTable};
 ghost use Rattle.file.specs.Sound.{allWithin};
-ghost use Rattle.access.specs.Access.{reachIn, lockedOut, paletteUp, inBank, answerAt, effectAt, pixelWrite};
+ghost use Rattle.access.specs.Access.{reachIn, lockedOut, paletteUp, inBank, answerAt, pixelWrite, writeAt, readAt};
 ghost use Rattle.access.specs.Cells.{cellAt, seen};
 ghost use Rattle.access.specs.Checks.{malformed, spaceOff, otherHalf};
-ghost use Rattle.access.specs.Looked.{lookedAt, inFile, Shows};
+ghost use Rattle.access.specs.Looked.{lookedAt, inFile, holds, Shows};
 use crate::decode;
 use crate::place::Place;
 use crate::record::Record;
@@ -110,4 +110,210 @@ pub fn look(registers: &[u16; 100], asked: Record) -> Looked
         return Looked::Refused(Answer::WrongWidth);
     }
     Looked::At(cell % 128)
+}
+
+// CR11[7] locks CR0 to CR6.
+fn is_locked_out(registers: &[u16; 100], number: usize) -> bool
+    ensures { λ r. ⌜ r ≡ lockedOut (seen (now (registers .entry)) false) number ⌝ }
+{
+    if is_locked(registers) {
+        if 25 <= number {
+            return number <= 31;
+        }
+    }
+    false
+}
+
+fn is_locked(registers: &[u16; 100]) -> bool
+    ensures { λ r. ⌜ r ≡ crtcLocked (seen (now (registers .entry)) false) ⌝ }
+{
+    registers[42] / 128 % 2 == 1
+}
+
+// The bits of a register that a write may change.
+pub fn reach_in(registers: &[u16; 100], number: usize) -> u16
+    ensures { λ r. ⌜ r ≡ reachIn (seen (now (registers .entry)) false) number ⌝ }
+{
+    if number != 32 {
+        return File::stored_bits(number);
+    }
+    if is_locked(registers) {
+        0x10
+    } else {
+        File::stored_bits(number)
+    }
+}
+
+fn is_palette_up(registers: &[u16; 100]) -> bool
+    ensures { λ r. ⌜ r ≡ paletteUp (seen (now (registers .entry)) false) ⌝ }
+{
+    registers[85] / 128 % 2 == 0
+}
+
+// The pointer's entry is one of the bank's.
+pub fn is_in_bank(registers: &[u16; 100]) -> bool
+    ensures { λ r. ⌜ r ≡ inBank (seen (now (registers .entry)) false) ⌝ }
+{
+    registers[85] / 8 % 2 == 1
+}
+
+// What a place answers to a write.
+fn answer_write(registers: &[u16; 100], place: Place) -> Answer
+    ensures { λ r. ⌜ r ≡ answerAt true (seen (now (registers .entry)) false) place ⌝ }
+{
+    match place {
+        Place::Register(number) => {
+            if is_locked_out(registers, number) {
+                Answer::Locked
+            } else {
+                Answer::Done(0)
+            }
+        }
+        Place::Attribute(_) => Answer::Done(0),
+        Place::Fixed(_) => Answer::ReadOnly,
+        Place::ToggleState => Answer::ReadOnly,
+        Place::AttributeIndex => Answer::ReadOnly,
+        Place::PaletteState => Answer::Done(0),
+        Place::ReadAddress => Answer::Done(0),
+        Place::WriteAddress => Answer::Done(0),
+        Place::PixelData => {
+            if is_palette_up(registers) {
+                Answer::Done(0)
+            } else {
+                Answer::PaletteDown
+            }
+        }
+        Place::ToggleReset => Answer::Done(0),
+        Place::NoRegister => Answer::NoRegister,
+        Place::NoAttribute => Answer::NoRegister,
+    }
+}
+
+// What a place answers to a read; `shown` is the component that pixel data would show.
+fn answer_read(
+    registers: &[u16; 100],
+    toggle: bool,
+    pointer: Pointer,
+    shown: u8,
+    place: Place,
+) -> Answer
+    requires { ⌜ T (inFile place) ⌝ }
+    requires { ⌜ T (allWithin storedTable (now registers)) ⌝ }
+    ensures { λ r. ⌜ ((f : FileOf) → Shows f (now (registers .entry)) toggle pointer shown → r ≡ answerAt false f place) ⌝ }
+{
+    match place {
+        Place::Register(number) => Answer::Done(registers[number]),
+        Place::Attribute(_) => Answer::Done(0),
+        Place::Fixed(value) => Answer::Done(value),
+        Place::ToggleState => Answer::Done(if toggle { 0x80 } else { 0 }),
+        Place::AttributeIndex => Answer::Done(registers[4]),
+        Place::PaletteState => Answer::Done(registers[85] + pointer.palette_state()),
+        Place::ReadAddress => Answer::Done(pointer.dac_state()),
+        Place::WriteAddress => Answer::Done(pointer.address as u16),
+        Place::PixelData => {
+            if is_palette_up(registers) {
+                Answer::Done(shown as u16)
+            } else {
+                Answer::PaletteDown
+            }
+        }
+        Place::ToggleReset => Answer::Done(0),
+        Place::NoRegister => Answer::NoRegister,
+        Place::NoAttribute => Answer::NoRegister,
+    }
+}
+
+fn low(value: u16) -> u8
+    requires { ⌜ value < 256 ⌝ }
+    ensures { λ r. ⌜ r ≡ value ⌝ }
+{
+    value as u8
+}
+
+// A pixel data write: at blue it stores an entry.
+fn pixel_write(registers: &[u16; 100], pointer: Pointer, byte: u8) -> Effect
+    ensures { λ r. ⌜ r ≡ pixelWrite (withPointer pointer (seen (now (registers .entry)) false)) byte ⌝ }
+{
+    let after = pointer.after_write(byte);
+    if !pointer.stores() {
+        return Effect::Move(after);
+    }
+    let bank = is_in_bank(registers);
+    let entry = entry_number(bank, pointer.address);
+    Effect::Paint {
+        bank,
+        entry,
+        colour: pointer.mixed(byte),
+        pointer: after,
+    }
+}
+
+// The number of the entry that an address names.
+pub fn entry_number(bank: bool, address: u8) -> usize
+    ensures { λ r. ⌜ r ≡ cond bank (address % 16) address ⌝ }
+{
+    if bank {
+        (address % 16) as usize
+    } else {
+        address as usize
+    }
+}
+
+// What a write does at a place.
+fn effect_write(
+    registers: &[u16; 100],
+    toggle: bool,
+    pointer: Pointer,
+    place: Place,
+    value: u16,
+) -> Effect
+    requires { ⌜ T (holds place value) ⌝ }
+    ensures { λ r. ⌜ r ≡ writeAt (withPointer pointer (seen (now (registers .entry)) toggle)) place value ⌝ }
+{
+    match place {
+        Place::Register(number) => Effect::Store {
+            register: number,
+            reach: reach_in(registers, number),
+            value,
+        },
+        Place::Attribute(number) => Effect::StoreAndFlip {
+            register: number,
+            reach: reach_in(registers, number),
+            value,
+        },
+        Place::PaletteState => Effect::Store {
+            register: 85,
+            reach: reach_in(registers, 85),
+            value,
+        },
+        Place::ReadAddress => Effect::Move(Pointer::addressed(true, low(value))),
+        Place::WriteAddress => Effect::Move(Pointer::addressed(false, low(value))),
+        Place::PixelData => pixel_write(registers, pointer, low(value)),
+        Place::NoAttribute => Effect::Toggle(!toggle),
+        Place::Fixed(_) => Effect::Nothing,
+        Place::ToggleState => Effect::Nothing,
+        Place::AttributeIndex => Effect::Nothing,
+        Place::ToggleReset => Effect::Nothing,
+        Place::NoRegister => Effect::Nothing,
+    }
+}
+
+// What a read does at a place.
+fn effect_read(pointer: Pointer, place: Place) -> Effect
+    ensures { λ r. ⌜ r ≡ readAt (withPointer pointer powerOn) place ⌝ }
+{
+    match place {
+        Place::PixelData => Effect::Move(pointer.after_read()),
+        Place::ToggleReset => Effect::Toggle(false),
+        Place::Register(_) => Effect::Nothing,
+        Place::Attribute(_) => Effect::Nothing,
+        Place::Fixed(_) => Effect::Nothing,
+        Place::ToggleState => Effect::Nothing,
+        Place::AttributeIndex => Effect::Nothing,
+        Place::PaletteState => Effect::Nothing,
+        Place::ReadAddress => Effect::Nothing,
+        Place::WriteAddress => Effect::Nothing,
+        Place::NoRegister => Effect::Nothing,
+        Place::NoAttribute => Effect::Nothing,
+    }
 }

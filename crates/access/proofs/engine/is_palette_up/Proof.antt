@@ -1,0 +1,18 @@
+-- `is_palette_up` meets its contract. Assumes nothing.
+use Rattle.bits.specs.Store.{bit}
+use Rattle.file.specs.File.{register, crtcLocked, withRegisters, withToggle}
+use Rattle.access.specs.Cells.{seen}
+use Rattle.access.specs.Access.{paletteUp}
+use borrow.Author.Needs.{needs}
+use Rattle.access.proofs.engine.is_palette_up.Statement.{statement}
+use Rattle.access.proofs.engine.is_palette_up.Tie as tie
+
+element-copy-out-result : tie.Need-element-copy-out-result
+element-copy-out-result c = search needs
+
+returns : tie.Need-returns
+unfolding paletteUp bit seen register withRegisters withToggle
+returns c = search needs
+
+pub is-palette-up-spec : {M : Type 1} → statement M
+is-palette-up-spec = tie.close (tie.spec element-copy-out-result returns)

@@ -1,0 +1,40 @@
+-- `reach_in` meets its contract. Assumes nothing.
+use mathlib.Core.Path.{sym, _∙_}
+use borrow.Author.Tests.{eq-eqb, ne-eqb}
+use Rattle.bits.proofs.Test.{and-false}
+use Rattle.access.specs.Access.{lockedReach, reachIn}
+use borrow.Author.Needs.{needs}
+use Rattle.access.proofs.engine.reach_in.Statement.{statement}
+use Rattle.access.proofs.engine.reach_in.Tie as tie
+
+stored-bits-requires : tie.Need-stored-bits-requires
+stored-bits-requires c κs = search needs
+
+returns : tie.Need-returns
+unfolding reachIn
+returns c = rw (ne-eqb _ _ (c .before .if1 .taken), and-false) (c .stored-bits .ensures)
+
+is-locked-requires : tie.Need-is-locked-requires
+is-locked-requires c κs = search needs
+
+stored-bits-requires-2 : tie.Need-stored-bits-requires-2
+stored-bits-requires-2 c κs = search needs
+
+returns-2 : tie.Need-returns-2
+unfolding reachIn lockedReach
+returns-2 c = rw (sym (c .before .is-locked .ensures) ∙ c .if2 .taken, eq-eqb _ _ (c .before .before .if1 .left))
+
+returns-3 : tie.Need-returns-3
+unfolding reachIn
+returns-3 c = rw (sym (c .before .before .is-locked .ensures) ∙ c .before .if2 .left) (c .stored-bits2 .ensures)
+
+pub reach-in-spec : {M : Type 1} → statement M
+reach-in-spec =
+    tie.close
+    (tie.spec
+    stored-bits-requires
+    returns
+    is-locked-requires
+    stored-bits-requires-2
+    returns-2
+    returns-3)
