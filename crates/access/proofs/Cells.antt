@@ -20,7 +20,7 @@ use Rattle.access.specs.declared.place.Place.{Place}
 use Rattle.access.specs.declared.place.Place.the-variants.{Register, Attribute, Fixed, ToggleState, AttributeIndex, PaletteState, ReadAddress, WriteAddress, PixelData, ToggleReset, NoRegister, NoAttribute}
 use Rattle.access.specs.declared.record.Record.{Record}
 use Rattle.access.specs.Checks.{notHeld, noRow, wrongWidth, otherWidth}
-use Rattle.access.specs.Cells.{alone, plainPlace, plainCell, indexedCell, ofKind, ofAddress, rowsAt, cellOf, cellAt, cellWidth, chosen, indexing, cellsFrom, behind, asAttribute, attributePlace, cellPlace}
+use Rattle.access.specs.Cells.{alone, plainPlace, plainCell, indexedCell, ofKind, ofAddress, rowsAt, cellOf, cellAt, cellWidth, chosen, indexing, cellsFrom, behind, asAttribute, attributePlace, indexedPlaces, cellPlace}
 use Rattle.access.specs.Lookup.{attributeIndex, selects, fits, first, rowOf, placeIn, placeOf}
 use Rattle.access.specs.Places.{Index, any, sr, cr, gr, ar, indexDue, dataDue, Row, places, each, attributePorts, generalPorts, crtcPorts, pipelinePlace, mmioPlaces, pciPlaces}
 use Rattle.access.proofs.Rows.{every, Passes, found}
@@ -260,7 +260,7 @@ pub record Spoken (row : Row) (cell : ℕ) : Type 0 where
   pub width : row .width ≡ cellWidth cell
   pub place : T (ltb (cell % 128) 111 && samePlace (row .place) (plainPlace (cell % 128)) || isDoor doors (row .kind) (row .address) cell)
 
-spoken : (row : Row) (cell : ℕ) → T (says row cell) → Spoken row cell
+pub spoken : (row : Row) (cell : ℕ) → T (says row cell) → Spoken row cell
 unfolding says
 spoken row cell t =
     let two : T (not (eqb cell 127) && eqb (row .width) (cellWidth cell)) =
@@ -384,12 +384,12 @@ allOpened [] = true
 allOpened (d ∷ ds) = opened d && allOpened ds
 
 doors-opened : T (allOpened doors)
-unfolding allOpened opened opens allBelow count doors every isBy samePlace tag number alone plainPlace plainCell indexedCell ofKind ofAddress rowsAt cellOf chosen indexing cellsFrom behind asAttribute attributePlace cellPlace register withRegisters withToggle powerOn bits attributeIndex selects first placeIn places each attributePorts generalPorts crtcPorts pipelinePlace mmioPlaces pciPlaces sequencer crtc graphics attribute pipeline
+unfolding allOpened opened opens allBelow count doors every isBy samePlace tag number alone plainPlace plainCell indexedCell ofKind ofAddress rowsAt cellOf chosen indexing cellsFrom behind asAttribute attributePlace indexedPlaces cellPlace register withRegisters withToggle powerOn bits attributeIndex selects first placeIn places each attributePorts generalPorts crtcPorts pipelinePlace mmioPlaces pciPlaces sequencer crtc graphics attribute pipeline
 doors-opened = tt
 
 -- the cell names the same place in a file and in its stand-in
 same-cell : (f : File) (c : ℕ) → c < 5 → cellPlace (standIn f c) (c + 111) ≡ cellPlace f (c + 111)
-unfolding cellPlace standIn indexing decider attributeIndex register withToggle withRegisters
+unfolding indexedPlaces cellPlace standIn indexing decider attributeIndex register withToggle withRegisters
 same-cell f zero h = refl
 same-cell f (suc zero) h = refl
 same-cell f (suc (suc zero)) h = refl

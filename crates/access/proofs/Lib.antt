@@ -8,3 +8,4 @@ pub mod Tables
 pub mod Halves
 pub mod Looks
 pub mod Shown
+pub mod Decided

@@ -121,15 +121,16 @@ attributePlace toggle cell = cond toggle (asAttribute (plainPlace cell)) (Attrib
 unfoldable pub seen : List ℕ → Bool → File
 seen registers toggle = withToggle toggle (withRegisters registers powerOn)
 
--- what a cell names in a file
-unfoldable pub cellPlace : File → ℕ → Place
-cellPlace f cell =
-    cond (ltb cell 111) (plainPlace cell)
-    (getD
-    (plainPlace (getD (behind 0x3C5 32) (register f SRX) 0)
+-- what stands behind the indexed ports in a file, from cell 111 on
+unfoldable pub indexedPlaces : File → List Place
+indexedPlaces f =
+    plainPlace (getD (behind 0x3C5 32) (register f SRX) 0)
     ∷ plainPlace (getD (behind 0x3B5 64) (register f CRX) 0)
     ∷ plainPlace (getD (behind 0x3CF 64) (register f GRX) 0)
     ∷ plainPlace (getD (behind 0x3C1 32) (attributeIndex f) 0)
     ∷ attributePlace (f .toggle) (getD (behind 0x3C1 32) (attributeIndex f) 0)
-    ∷ [])
-    (cell - 111) NoRegister)
+    ∷ []
+
+-- what a cell names in a file
+unfoldable pub cellPlace : File → ℕ → Place
+cellPlace f cell = cond (ltb cell 111) (plainPlace cell) (getD (indexedPlaces f) (cell - 111) NoRegister)

@@ -1,6 +1,6 @@
 -- Tests: joined by `&&`, chosen by, and as equations. Assumes nothing.
 use mathlib.Core.Path.{_≡_, refl, sym, subst}
-use mathlib.Core.Bool.{Bool, true, false, cond, _&&_, _||_}
+use mathlib.Core.Bool.{Bool, true, false, cond, true≢false, _&&_, _||_}
 use lib.Dec.{T}
 
 pub left : (a b : Bool) → T (a && b) → T a
@@ -58,3 +58,7 @@ or-left false b e = refl
 pub and-false : (b : Bool) → b && false ≡ false
 and-false true = refl
 and-false false = refl
+
+pub or-right : (a b : Bool) → a || b ≡ false → b ≡ false
+or-right true b e = absurd (true≢false e)
+or-right false b e = e

@@ -11,7 +11,7 @@ use Rattle.file.specs.File.{register, withRegisters, withToggle, powerOn}
 use Rattle.file.specs.Registers.{storedBits, storedTable, registers, singles, sequencer, crtc, graphics, attribute, pipeline}
 use Rattle.file.proofs.Soundness.{at-most}
 use Rattle.access.specs.declared.place.Place.the-variants.{NoRegister}
-use Rattle.access.specs.Cells.{alone, plainPlace, plainCell, indexedCell, ofKind, ofAddress, rowsAt, cellOf, chosen, indexing, cellsFrom, behind, asAttribute, attributePlace, seen, cellPlace}
+use Rattle.access.specs.Cells.{alone, plainPlace, plainCell, indexedCell, ofKind, ofAddress, rowsAt, cellOf, chosen, indexing, cellsFrom, behind, asAttribute, attributePlace, seen, indexedPlaces, cellPlace}
 use Rattle.access.specs.Lookup.{attributeIndex, selects, first, placeIn}
 use Rattle.access.specs.Places.{places, each, attributePorts, generalPorts, crtcPorts, pipelinePlace, mmioPlaces, pciPlaces}
 use borrow.Author.Needs.{needs}
@@ -22,7 +22,7 @@ plain-requires : tie.Need-plain-requires
 plain-requires c κs = search needs
 
 returns : tie.Need-returns
-unfolding cellPlace
+unfolding indexedPlaces cellPlace
 returns c = rw (lt-ltb _ _ (c .before .if1 .taken)) (c .plain .ensures)
 
 element-copy-out-wide : tie.Need-element-copy-out-wide
@@ -89,27 +89,27 @@ attribute-requires : tie.Need-attribute-requires
 attribute-requires c κs = search needs
 
 returns-2 : tie.Need-returns-2
-unfolding alone plainCell indexedCell ofKind ofAddress rowsAt cellOf chosen indexing cellsFrom behind attributePlace cellPlace seen register withRegisters withToggle powerOn bits attributeIndex selects first placeIn places each attributePorts generalPorts crtcPorts pipelinePlace mmioPlaces pciPlaces sequencer crtc graphics attribute pipeline
+unfolding alone plainCell indexedCell ofKind ofAddress rowsAt cellOf chosen indexing cellsFrom behind attributePlace indexedPlaces cellPlace seen register withRegisters withToggle powerOn bits attributeIndex selects first placeIn places each attributePorts generalPorts crtcPorts pipelinePlace mmioPlaces pciPlaces sequencer crtc graphics attribute pipeline
 returns-2 c = rw (c .before .before .before .match .keys1) (c .plain2 .ensures ∙ ap (λ (n : ℕ). plainPlace (getD (behind 0x3C5 32) n 0)) (c .before .wide .ensures))
 
 returns-3 : tie.Need-returns-3
-unfolding alone plainCell indexedCell ofKind ofAddress rowsAt cellOf chosen indexing cellsFrom behind attributePlace cellPlace seen register withRegisters withToggle powerOn bits attributeIndex selects first placeIn places each attributePorts generalPorts crtcPorts pipelinePlace mmioPlaces pciPlaces sequencer crtc graphics attribute pipeline
+unfolding alone plainCell indexedCell ofKind ofAddress rowsAt cellOf chosen indexing cellsFrom behind attributePlace indexedPlaces cellPlace seen register withRegisters withToggle powerOn bits attributeIndex selects first placeIn places each attributePorts generalPorts crtcPorts pipelinePlace mmioPlaces pciPlaces sequencer crtc graphics attribute pipeline
 returns-3 c = rw (c .before .before .before .match .keys2) (c .plain3 .ensures ∙ ap (λ (n : ℕ). plainPlace (getD (behind 0x3B5 64) n 0)) (c .before .wide2 .ensures))
 
 returns-4 : tie.Need-returns-4
-unfolding alone plainCell indexedCell ofKind ofAddress rowsAt cellOf chosen indexing cellsFrom behind attributePlace cellPlace seen register withRegisters withToggle powerOn bits attributeIndex selects first placeIn places each attributePorts generalPorts crtcPorts pipelinePlace mmioPlaces pciPlaces sequencer crtc graphics attribute pipeline
+unfolding alone plainCell indexedCell ofKind ofAddress rowsAt cellOf chosen indexing cellsFrom behind attributePlace indexedPlaces cellPlace seen register withRegisters withToggle powerOn bits attributeIndex selects first placeIn places each attributePorts generalPorts crtcPorts pipelinePlace mmioPlaces pciPlaces sequencer crtc graphics attribute pipeline
 returns-4 c = rw (c .before .before .before .match .keys3) (c .plain4 .ensures ∙ ap (λ (n : ℕ). plainPlace (getD (behind 0x3CF 64) n 0)) (c .before .wide3 .ensures))
 
 returns-5 : tie.Need-returns-5
-unfolding alone plainCell indexedCell ofKind ofAddress rowsAt cellOf chosen indexing cellsFrom behind attributePlace cellPlace seen register withRegisters withToggle powerOn bits attributeIndex selects first placeIn places each attributePorts generalPorts crtcPorts pipelinePlace mmioPlaces pciPlaces sequencer crtc graphics attribute pipeline
+unfolding alone plainCell indexedCell ofKind ofAddress rowsAt cellOf chosen indexing cellsFrom behind attributePlace indexedPlaces cellPlace seen register withRegisters withToggle powerOn bits attributeIndex selects first placeIn places each attributePorts generalPorts crtcPorts pipelinePlace mmioPlaces pciPlaces sequencer crtc graphics attribute pipeline
 returns-5 c = rw (c .before .before .before .match .keys4) (c .plain5 .ensures ∙ ap (λ (n : ℕ). plainPlace (getD (behind 0x3C1 32) n 0)) (c .before .wide4 .ensures ∙ sym (ap (λ (n : ℕ). n % 32) (div-one (getD (c .before .before .before .before .before .args .registers .now) 4 0)))))
 
 returns-6 : tie.Need-returns-6
-unfolding alone plainCell indexedCell ofKind ofAddress rowsAt cellOf chosen indexing cellsFrom behind attributePlace cellPlace seen register withRegisters withToggle powerOn bits attributeIndex selects first placeIn places each attributePorts generalPorts crtcPorts pipelinePlace mmioPlaces pciPlaces sequencer crtc graphics attribute pipeline
+unfolding alone plainCell indexedCell ofKind ofAddress rowsAt cellOf chosen indexing cellsFrom behind attributePlace indexedPlaces cellPlace seen register withRegisters withToggle powerOn bits attributeIndex selects first placeIn places each attributePorts generalPorts crtcPorts pipelinePlace mmioPlaces pciPlaces sequencer crtc graphics attribute pipeline
 returns-6 c = rw (c .before .before .before .match .keys5) (c .attribute .ensures ∙ ap (λ (n : ℕ). attributePlace (c .before .before .before .before .before .args .toggle) (getD (behind 0x3C1 32) n 0)) (c .before .wide5 .ensures ∙ sym (ap (λ (n : ℕ). n % 32) (div-one (getD (c .before .before .before .before .before .args .registers .now) 4 0)))))
 
 returns-7 : tie.Need-returns-7
-unfolding cellPlace
+unfolding indexedPlaces cellPlace
 returns-7 c = rw (le-ltb _ _ (c .before .if1 .left)) (sym (List·getD-eq-default (_ ∷ _ ∷ _ ∷ _ ∷ _ ∷ []) NoRegister {n = c .before .before .args .cell - 111} (omega (arith, c .before .if1 .left))))
 
 pub place-in-spec : {M : Type 1} → statement M
