@@ -1,3 +1,6 @@
+ghost use mathlib.Core.Path.{_≡_};
+ghost use Rattle.file.specs.Answers.{codeOf, valueOf};
+
 // 01's table of codes: what an access, a reader, a writer, a plan or a restore answers.
 pub enum Answer {
     // 0, with what a read gave
@@ -30,4 +33,40 @@ pub enum Answer {
     NotBeforeRed,
     // 14: a plan's own record, during a restore
     PlanRefused,
+}
+
+impl Answer {
+    // The answer's number in 01's table.
+    pub fn code(self) -> u8
+        ensures { λ r. ⌜ r ≡ codeOf self ⌝ }
+    {
+        match self {
+            Answer::Done(_) => 0,
+            Answer::NoRegister => 1,
+            Answer::Malformed => 2,
+            Answer::SpaceOff => 3,
+            Answer::NotHeld => 4,
+            Answer::OtherHalf => 5,
+            Answer::WrongWidth => 6,
+            Answer::ReadOnly => 7,
+            Answer::Locked => 8,
+            Answer::PaletteDown => 9,
+            Answer::OutOfRange => 10,
+            Answer::ShortBuffer => 11,
+            Answer::NotSound => 12,
+            Answer::NotBeforeRed => 13,
+            Answer::PlanRefused => 14,
+        }
+    }
+
+    // What was read; 0 where nothing was.
+    pub fn value(self) -> u16
+        ensures { λ r. ⌜ r ≡ valueOf self ⌝ }
+    {
+        if let Answer::Done(value) = self {
+            value
+        } else {
+            0
+        }
+    }
 }
