@@ -21,6 +21,7 @@ use Rattle.file.specs.File.{register, withRegisters, withToggle, withPointer, c
 use Rattle.file.specs.Registers.{storedBits, storedTable, registers, singles, sequencer, crtc, graphics, attribute, pipeline}
 use Rattle.file.specs.Sound.{allWithin, sound}
 use Rattle.file.proofs.Soundness.{at-most, registers-sound}
+use Rattle.access.specs.declared.engine.Decision.{Decision}
 use Rattle.access.specs.declared.engine.Looked.{Looked}
 use Rattle.access.specs.declared.engine.Looked.the-variants.{Refused, At}
 use Rattle.access.specs.declared.place.Place.{Place}
@@ -29,7 +30,7 @@ use Rattle.access.specs.declared.record.Record.{Record}
 use Rattle.access.specs.Access.{lockedOut, paletteUp, reachIn, inBank, entryNumber, pixelWrite, answerAt, writeAt, readAt, effectAt, answer, effect}
 use Rattle.access.specs.Cells.{alone, plainPlace, cellAt, cellWidth, asAttribute, attributePlace, seen, indexedPlaces, cellPlace}
 use Rattle.access.specs.Checks.{isWrite, isPort, isMmio, isOneOf, malformed, spaceOff, otherHalf, wrongWidth}
-use Rattle.access.specs.Looked.{lookedAt, inFile, holds, Shows}
+use Rattle.access.specs.Looked.{lookedAt, inFile, holds, Shows, decision}
 use Rattle.access.specs.Lookup.{attributeIndex, fits, rowOf, placeIn, placeOf}
 use Rattle.access.specs.Places.{Row, places, each, attributePorts, generalPorts, crtcPorts, pipelinePlace, mmioPlaces, pciPlaces}
 use Rattle.access.proofs.Cells.{Outcome, nothing, held, outcome, spoken, Indexed, decider, count, cell-names, samePlace, alone-unstored}
@@ -321,3 +322,46 @@ module _ (f : File) (s : T (sound f)) (values : List ℕ) (toggle : Bool) (point
     pub place-answer : answer f r ≡ answerAt (isWrite r) f (placeOf f r)
     unfolding answer settled
     place-answer = in-order f r (answerAt (isWrite r) f (placeOf f r)) s ∙ ap (λ (l : Looked). settled l (answerAt (isWrite r) f (placeOf f r))) (looked-here ∙ e)
+
+-- ---- the same from the parts alone, before any file is named
+
+module _ (values : List ℕ) (t : T (allWithin storedTable values)) (toggle : Bool) (r : Record) (cell : ℕ) (e : lookedAt (seen values false) r ≡ At cell) where
+  seen-passed : Passed (seen values toggle) r cell
+  unfolding seen withRegisters withToggle
+  seen-passed = passed (seen values toggle) r cell (looked-same (seen values toggle) values r refl ∙ e)
+
+  seen-place : placeOf (seen values toggle) r ≡ cellPlace (seen values toggle) cell
+  unfolding seen withRegisters withToggle
+  seen-place =
+      cell-names (seen values toggle) r (indices (seen values toggle) t) (kind-below (seen values toggle) r (seen-passed .formed)) (seen-passed .something)
+      ∙ ap (cellPlace (seen values toggle)) (sym (seen-passed .named))
+
+  pub seen-holds : isWrite r ≡ true → T (holds (cellPlace (seen values toggle) cell) (r .value))
+  seen-holds w = subst (λ (p : Place). T (holds p (r .value))) seen-place (place-holds (seen values toggle) r cell seen-passed w)
+
+  pub seen-word : isWrite r ≡ true → r .value < 65536
+  seen-word w = word-fits (seen values toggle) r cell seen-passed w
+
+-- ---- the whole decision
+
+module _ (f : File) (s : T (sound f)) (values : List ℕ) (toggle : Bool) (pointer : Pointer) (shown : ℕ) (parts-of : Shows f values toggle pointer shown)
+    (r : Record) (cell : ℕ) (e : lookedAt (seen values false) r ≡ At cell) (place : Place) (p : place ≡ cellPlace (seen values toggle) cell)
+    (write : Bool) (w : isWrite r ≡ write) (d : Decision) (done : Effect)
+    (a : d .answer ≡ answerAt write f place) (does : done ≡ effectAt write f place (r .value)) (x : d .effect ≡ cond (refused (d .answer)) Nothing done) where
+  place-of : placeOf f r ≡ place
+  place-of = place-here f s values toggle pointer shown parts-of r cell e ∙ sym p
+
+  answers : d .answer ≡ answer f r
+  answers =
+      a ∙ ap₂ (λ (b : Bool) (q : Place). answerAt b f q) (sym w) (sym place-of)
+      ∙ sym (place-answer f s values toggle pointer shown parts-of r cell e)
+
+  effects : d .effect ≡ effect f r
+  unfolding effect
+  effects =
+      x ∙ ap₂ (λ (b : Answer) (o : Effect). cond (refused b) Nothing o) answers
+        (does ∙ ap₂ (λ (b : Bool) (q : Place). effectAt b f q (r .value)) (sym w) (sym place-of))
+
+  pub decided : d ≡ decision f r
+  unfolding decision
+  decided = λ i. record { answer = answers i; effect = effects i }

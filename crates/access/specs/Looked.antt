@@ -10,12 +10,13 @@ use Rattle.file.specs.declared.answer.Answer.the-variants.{Malformed, SpaceOff,
 use Rattle.file.specs.declared.palette.Pointer.{Pointer}
 use Rattle.file.specs.declared.registers.File.{File}
 use Rattle.file.specs.Palette.{component}
+use Rattle.access.specs.declared.engine.Decision.{Decision}
 use Rattle.access.specs.declared.engine.Looked.{Looked}
 use Rattle.access.specs.declared.engine.Looked.the-variants.{Refused, At}
 use Rattle.access.specs.declared.place.Place.{Place}
 use Rattle.access.specs.declared.place.Place.the-variants.{Register, Attribute, Fixed, ToggleState, AttributeIndex, PaletteState, ReadAddress, WriteAddress, PixelData, ToggleReset, NoRegister, NoAttribute}
 use Rattle.access.specs.declared.record.Record.{Record}
-use Rattle.access.specs.Access.{entry}
+use Rattle.access.specs.Access.{entry, answer, effect}
 use Rattle.access.specs.Cells.{cellAt, cellWidth}
 use Rattle.access.specs.Checks.{malformed, spaceOff, otherHalf}
 
@@ -64,3 +65,7 @@ pub record Shows (f : File) (registers : List ℕ) (toggle : Bool) (pointer : Po
   pub same-toggle : f .toggle ≡ toggle
   pub same-pointer : f .pointer ≡ pointer
   pub same-shown : component (entry f) (pointer .next) ≡ shown
+
+-- answer and effect of a record, as the engine computes them together
+unfoldable pub decision : File → Record → Decision
+decision f r = record { answer = answer f r; effect = effect f r }

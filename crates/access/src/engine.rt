@@ -6,11 +6,14 @@ ghost use lib.Dec.{T};
 ghost use Rattle.file.specs.declared.registers.File.{File as FileOf};
 ghost use Rattle.file.specs.File.{crtcLocked, withPointer, powerOn};
 ghost use Rattle.file.specs.Registers.{storedTable};
-ghost use Rattle.file.specs.Sound.{allWithin};
+ghost use Rattle.file.specs.Sound.{allWithin, sound};
 ghost use Rattle.access.specs.Access.{reachIn, lockedOut, paletteUp, inBank, answerAt, pixelWrite, writeAt, readAt};
 ghost use Rattle.access.specs.Cells.{cellAt, seen};
 ghost use Rattle.access.specs.Checks.{malformed, spaceOff, otherHalf};
-ghost use Rattle.access.specs.Looked.{lookedAt, inFile, holds, Shows};
+ghost use Rattle.access.specs.Looked.{lookedAt, inFile, holds, Shows, decision};
+ghost use Rattle.file.specs.Answers.{refused};
+ghost use Rattle.file.specs.Palette.{pointerSound};
+ghost use Rattle.file.specs.declared.effect.Effect.the-variants.{Nothing};
 use crate::decode;
 use crate::place::Place;
 use crate::record::Record;
@@ -315,5 +318,66 @@ fn effect_read(pointer: Pointer, place: Place) -> Effect
         Place::WriteAddress => Effect::Nothing,
         Place::NoRegister => Effect::Nothing,
         Place::NoAttribute => Effect::Nothing,
+    }
+}
+
+// What an access answers and what it does, both computed from the parts of a file that it looks at.
+pub struct Decision {
+    pub answer: Answer,
+    pub effect: Effect,
+}
+
+// A refusal, code 2 or more, does nothing.
+fn settle(answer: Answer, effect: Effect) -> Decision
+    ensures { λ r. ⌜ (r .answer ≡ answer) × (r .effect ≡ cond (refused answer) Nothing effect) ⌝ }
+{
+    if 2 <= answer.code() {
+        return Decision {
+            answer,
+            effect: Effect::Nothing,
+        };
+    }
+    Decision { answer, effect }
+}
+
+fn word(value: u32) -> u16
+    requires { ⌜ value < 65536 ⌝ }
+    ensures { λ r. ⌜ r ≡ value ⌝ }
+{
+    value as u16
+}
+
+// Answer and effect of a record in a file of these registers, toggle and pointer. `shown` is the component that pixel data shows.
+pub fn decide(
+    registers: &[u16; 100],
+    toggle: bool,
+    pointer: Pointer,
+    shown: u8,
+    asked: Record,
+) -> Decision
+    requires { ⌜ T (allWithin storedTable (now registers)) ⌝ }
+    requires { ⌜ T (pointerSound pointer) ⌝ }
+    ensures { λ r. ⌜ ((f : FileOf) → T (sound f) → Shows f (now (registers .entry)) toggle pointer shown → r ≡ decision f asked) ⌝ }
+{
+    match look(registers, asked) {
+        Looked::Refused(answer) => Decision {
+            answer,
+            effect: Effect::Nothing,
+        },
+        Looked::At(cell) => {
+            let place = decode::place_in(registers, toggle, cell);
+            if asked.kind % 2 == 1 {
+                let value = word(asked.value);
+                settle(
+                    answer_write(registers, place),
+                    effect_write(registers, toggle, pointer, place, value),
+                )
+            } else {
+                settle(
+                    answer_read(registers, toggle, pointer, shown, place),
+                    effect_read(pointer, place),
+                )
+            }
+        }
     }
 }
