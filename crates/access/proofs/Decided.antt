@@ -360,7 +360,7 @@ module _ (f : File) (s : T (sound f)) (values : List ℕ) (toggle : Bool) (point
   unfolding effect
   effects =
       x ∙ ap₂ (λ (b : Answer) (o : Effect). cond (refused b) Nothing o) answers
-        (does ∙ ap₂ (λ (b : Bool) (q : Place). effectAt b f q (r .value)) (sym w) (sym place-of))
+      (does ∙ ap₂ (λ (b : Bool) (q : Place). effectAt b f q (r .value)) (sym w) (sym place-of))
 
   pub decided : d ≡ decision f r
   unfolding decision

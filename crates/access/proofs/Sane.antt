@@ -28,7 +28,7 @@ use Rattle.access.specs.declared.place.Place.{Place}
 use Rattle.access.specs.declared.place.Place.the-variants.{Register, Attribute, Fixed, ToggleState, AttributeIndex, PaletteState, ReadAddress, WriteAddress, PixelData, ToggleReset, NoRegister as NoRegisterThere, NoAttribute}
 use Rattle.access.specs.declared.record.Record.{Record}
 use Rattle.access.specs.Access.{lockedOut, lockedReach, reachIn, paletteUp, inBank, entryNumber, entry, answerAt, pixelWrite, writeAt, readAt, effectAt, answer, effect, reach, access}
-use Rattle.access.specs.Checks.{Check, isWrite, checks, firstRefusal}
+use Rattle.access.specs.Checks.{Check, isWrite, checks, firstRefusal, notSound}
 use Rattle.access.specs.Lookup.{placeOf}
 
 -- ---- a refusal leaves the file
@@ -41,6 +41,15 @@ refusal-does-nothing f r e = rw e
 pub refusal-leaves : (f : File) (r : Record) → T (refused (answer f r)) → access f r .file ≡ f
 unfolding access apply
 refusal-leaves f r t = ap (λ (e : Effect). apply e f) (refusal-does-nothing f r (is-true (refused (answer f r)) t))
+
+-- 'A single access to an unsound file replies 12.'
+pub unsound-answer : (f : File) (r : Record) → sound f ≡ false → answer f r ≡ NotSound
+unfolding answer checks firstRefusal notSound
+unsound-answer f r e = rw e
+
+pub unsound-effect : (f : File) (r : Record) → sound f ≡ false → effect f r ≡ Nothing
+unfolding refused codeOf
+unsound-effect f r e = refusal-does-nothing f r (ap refused (unsound-answer f r e))
 
 -- ---- nothing differs outside the reach
 

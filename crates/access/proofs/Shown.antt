@@ -1,19 +1,21 @@
--- Pixel data read in a file of which parts are given. Assumes nothing.
-use Prim.Native.Nat.{ℕ}
+-- Pixel data read in a file of which parts are given; the entry that a pointer names. Assumes nothing.
+use Prim.Native.Nat.{ℕ, _%_, _<_}
 use mathlib.Core.Path.{_≡_, sym, ap, _∙_}
 use mathlib.Core.Bool.{Bool, true, false}
 use mathlib.Core.List.{List}
 use lib.Dec.{eqb}
-use lib.ListN.{getD}
+use lib.ListN.{length, getD}
 use Rattle.bits.specs.Store.{bit}
+use Rattle.bits.proofs.Lists.{any-default}
 use Rattle.file.specs.declared.answer.Answer.the-variants.{Done}
+use Rattle.file.specs.declared.palette.Colour.{Colour}
 use Rattle.file.specs.declared.palette.Pointer.{Pointer}
 use Rattle.file.specs.declared.registers.File.{File}
-use Rattle.file.specs.File.{register, withRegisters, withToggle}
+use Rattle.file.specs.File.{register, withRegisters, withToggle, black}
 use Rattle.file.specs.Names.{B0}
 use Rattle.file.specs.Palette.{component}
 use Rattle.access.specs.declared.place.Place.the-variants.{PixelData}
-use Rattle.access.specs.Access.{paletteUp, entry, answerAt}
+use Rattle.access.specs.Access.{paletteUp, inBank, entryNumber, entry, answerAt}
 use Rattle.access.specs.Cells.{seen}
 
 -- whether the palette is up goes by the registers alone
@@ -26,3 +28,13 @@ pub shown-up : (f : File) (pointer : Pointer) (shown : ℕ) → f .pointer ≡ p
     → paletteUp f ≡ true → Done shown ≡ answerAt false f PixelData
 unfolding answerAt
 shown-up f pointer shown e h up = rw up (ap Done (sym h ∙ ap (λ (p : Pointer). component (entry f) (p .next)) (sym e)))
+
+-- the entry, where it is known whether it is one of the bank's; a list's default plays no part
+pub entry-in-bank : (f : File) (n : ℕ) (d : Colour) → inBank f ≡ true → n ≡ f .pointer .address % 16 → n < length (f .bank) → getD (f .bank) n d ≡ entry f
+unfolding entry entryNumber
+entry-in-bank f n d b e h = rw b (any-default (f .bank) n d black h ∙ ap (λ (m : ℕ). getD (f .bank) m black) e)
+
+pub entry-in-palette : (f : File) (n : ℕ) (d : Colour) → inBank f ≡ false → n ≡ f .pointer .address → n < length (f .palette)
+    → getD (f .palette) n d ≡ entry f
+unfolding entry entryNumber
+entry-in-palette f n d b e h = rw b (any-default (f .palette) n d black h ∙ ap (λ (m : ℕ). getD (f .palette) m black) e)

@@ -1,8 +1,83 @@
+ghost use mathlib.Core.Path.{_≡_};
+ghost use lib.Dec.{T};
+ghost use Rattle.file.specs.Palette.{component};
+ghost use Rattle.file.specs.Sound.{sound};
+ghost use Rattle.access.specs.Looked.{decision};
+ghost use Rattle.access.specs.Access.{access as accessOf, entry, reach as reachOfAccess};
+use crate::engine;
+use crate::record::Record;
 use file::Answer;
 use file::File;
+use file::Reach;
+use file::is_sound;
 
 // What an access hands back: the file after it, and its answer.
 pub struct Accessed {
     pub file: File,
     pub answer: Answer,
+}
+
+// The component of the next colour, in the entry that the pointer names.
+fn shown_in(whole: File) -> u8
+    ensures { λ r. ⌜ r ≡ component (entry whole) (whole .pointer .next) ⌝ }
+{
+    let registers = whole.registers;
+    let pointer = whole.pointer;
+    let bank = engine::is_in_bank(&registers);
+    let number = engine::entry_number(bank, pointer.address);
+    if bank {
+        let colour = whole.bank[number];
+        colour.component(pointer.next)
+    } else {
+        let colour = whole.palette[number];
+        colour.component(pointer.next)
+    }
+}
+
+// What a record's access answers, and what it does to the file.
+fn decide(asked: Record, whole: File) -> engine::Decision
+    requires { ⌜ T (sound whole) ⌝ }
+    ensures { λ r. ⌜ r ≡ decision whole asked ⌝ }
+{
+    let registers = whole.registers;
+    engine::decide(
+        &registers,
+        whole.toggle,
+        whole.pointer,
+        shown_in(whole),
+        asked,
+    )
+}
+
+impl Record {
+    // One access: takes the file and hands back the new one with the answer. A refusal hands back the file as given.
+    pub fn access(self, whole: File) -> Accessed
+        ensures { λ r. ⌜ r ≡ accessOf whole self ⌝ }
+    {
+        if !is_sound(whole) {
+            return Accessed {
+                file: whole,
+                answer: Answer::NotSound,
+            };
+        }
+        let decision = decide(self, whole);
+        let effect = decision.effect;
+        let answer = decision.answer;
+        Accessed {
+            file: effect.apply(whole),
+            answer,
+        }
+    }
+
+    // What this access may change in the file: nothing for a refusal and for a plain read.
+    pub fn reach(self, whole: File) -> Reach
+        ensures { λ r. ⌜ r ≡ reachOfAccess whole self ⌝ }
+    {
+        if !is_sound(whole) {
+            return Reach::none();
+        }
+        let decision = decide(self, whole);
+        let effect = decision.effect;
+        effect.reach()
+    }
 }

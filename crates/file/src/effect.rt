@@ -1,5 +1,7 @@
 ghost use mathlib.Core.Path.{_≡_};
-ghost use Rattle.file.specs.Effects.{storeIn, paintIn, apply as applyTo};
+ghost use mathlib.Core.Bool.{true, false};
+ghost use Rattle.file.specs.declared.effect.Effect.the-variants.{Nothing};
+ghost use Rattle.file.specs.Effects.{storeIn, paintIn, apply as applyTo, reachOf};
 ghost use Rattle.file.specs.File.{withPointer, withToggle};
 use crate::palette::Colour;
 use crate::palette::Pointer;
@@ -114,6 +116,72 @@ impl Effect {
                 colour,
                 pointer,
             } => pointed(painted(file, bank, entry, colour), pointer),
+        }
+    }
+
+    // What the effect may change.
+    pub fn reach(self) -> Reach
+        ensures { λ r. ⌜ r ≡ reachOf self ⌝ }
+    {
+        match self {
+            Effect::Nothing => Reach::none(),
+            Effect::Store {
+                register,
+                reach,
+                value: _,
+            } => Reach::bits_of(register, reach, false),
+            Effect::StoreAndFlip {
+                register,
+                reach,
+                value: _,
+            } => Reach::bits_of(register, reach, true),
+            Effect::Toggle(_) => Reach::bits_of(0, 0, true),
+            Effect::Move(_) => Reach::colours(false, false, 0),
+            Effect::Paint {
+                bank,
+                entry,
+                colour: _,
+                pointer: _,
+            } => Reach::colours(!bank, bank, entry),
+        }
+    }
+}
+
+impl Reach {
+    // Nothing at all.
+    pub fn none() -> Reach
+        ensures { λ r. ⌜ r ≡ reachOf Nothing ⌝ }
+    {
+        Reach::bits_of(0, 0, false)
+    }
+
+    // Bits of a register, and perhaps the toggle.
+    fn bits_of(register: usize, bits: u16, toggle: bool) -> Reach
+        ensures { λ r. ⌜ r ≡ record { register = register; bits = bits; toggle = toggle; pointer = false; palette = false; bank = false; entry = 0 } ⌝ }
+    {
+        Reach {
+            register,
+            bits,
+            toggle,
+            pointer: false,
+            palette: false,
+            bank: false,
+            entry: 0,
+        }
+    }
+
+    // The pointer, and perhaps an entry.
+    fn colours(palette: bool, bank: bool, entry: usize) -> Reach
+        ensures { λ r. ⌜ r ≡ record { register = 0; bits = 0; toggle = false; pointer = true; palette = palette; bank = bank; entry = entry } ⌝ }
+    {
+        Reach {
+            register: 0,
+            bits: 0,
+            toggle: false,
+            pointer: true,
+            palette,
+            bank,
+            entry,
         }
     }
 }

@@ -37,9 +37,9 @@ answer-write-requires c κs = search needs
 
 effect-write-requires : tie.Need-effect-write-requires
 unfolding isWrite
-effect-write-requires c κs = 
+effect-write-requires c κs =
     subst₂ (λ (p : Place) (v : ℕ). T (holds p v)) (sym (c .before .before .before .before .place-in .ensures)) (sym (c .before .word .ensures))
-      (seen-holds (c .before .before .before .before .before .before .before .before .before .args .registers .now) (c .before .before .before .before .before .before .before .before .before .pre .0) (c .before .before .before .before .before .before .before .before .before .args .toggle) (c .before .before .before .before .before .before .before .before .before .args .asked) (c .before .before .before .before .before .before .cell .given .0 .0) (sym (c .before .before .before .before .before .before .before .before .look .ensures) ∙ c .before .before .before .before .before .before .cell .given .1) (eq-eqb _ _ (c .before .before .if1 .taken)))
+    (seen-holds (c .before .before .before .before .before .before .before .before .before .args .registers .now) (c .before .before .before .before .before .before .before .before .before .pre .0) (c .before .before .before .before .before .before .before .before .before .args .toggle) (c .before .before .before .before .before .before .before .before .before .args .asked) (c .before .before .before .before .before .before .cell .given .0 .0) (sym (c .before .before .before .before .before .before .before .before .look .ensures) ∙ c .before .before .before .before .before .before .cell .given .1) (eq-eqb _ _ (c .before .before .if1 .taken)))
 
 settle-requires : tie.Need-settle-requires
 settle-requires c κs = search needs
@@ -61,19 +61,19 @@ returns-2 : tie.Need-returns-2
 unfolding effectAt isWrite
 returns-2 c = λ f s parts.
     decided f s (c .before .before .before .before .before .before .before .before .before .before .before .args .registers .now) (c .before .before .before .before .before .before .before .before .before .before .before .args .toggle) (c .before .before .before .before .before .before .before .before .before .before .before .args .pointer) (c .before .before .before .before .before .before .before .before .before .before .before .args .shown) parts (c .before .before .before .before .before .before .before .before .before .before .before .args .asked) (c .before .before .before .before .before .before .before .before .cell .given .0 .0) (sym (c .before .before .before .before .before .before .before .before .before .before .look .ensures) ∙ c .before .before .before .before .before .before .before .before .cell .given .1)
-      (c .before .before .before .before .before .before .place-in .result) (c .before .before .before .before .before .before .place-in .ensures) true (eq-eqb _ _ (c .before .before .before .before .if1 .taken)) (c .settle .result) (c .before .effect-write .result)
-      (c .settle .ensures .0 ∙ c .before .before .answer-write .ensures ∙ sym (answer-same f (c .before .before .before .before .before .before .before .before .before .before .before .args .registers .now) (c .before .before .before .before .before .before .before .before .before .before .before .args .toggle) (c .before .before .before .before .before .before .before .before .before .before .before .args .pointer) (c .before .before .before .before .before .before .before .before .before .before .before .args .shown) parts (c .before .before .before .before .before .before .place-in .result)))
-      (c .before .effect-write .ensures ∙ ap (writeAt _ (c .before .before .before .before .before .before .place-in .result)) (c .before .before .before .word .ensures) ∙ sym (write-same f (c .before .before .before .before .before .before .before .before .before .before .before .args .registers .now) (c .before .before .before .before .before .before .before .before .before .before .before .args .toggle) (c .before .before .before .before .before .before .before .before .before .before .before .args .pointer) (c .before .before .before .before .before .before .before .before .before .before .before .args .shown) parts (c .before .before .before .before .before .before .place-in .result) (c .before .before .before .before .before .before .before .before .before .before .before .args .asked .value)))
-      (c .settle .ensures .1 ∙ ap (λ (a : Answer). cond (refused a) Nothing (c .before .effect-write .result)) (sym (c .settle .ensures .0)))
+    (c .before .before .before .before .before .before .place-in .result) (c .before .before .before .before .before .before .place-in .ensures) true (eq-eqb _ _ (c .before .before .before .before .if1 .taken)) (c .settle .result) (c .before .effect-write .result)
+    (c .settle .ensures .0 ∙ c .before .before .answer-write .ensures ∙ sym (answer-same f (c .before .before .before .before .before .before .before .before .before .before .before .args .registers .now) (c .before .before .before .before .before .before .before .before .before .before .before .args .toggle) (c .before .before .before .before .before .before .before .before .before .before .before .args .pointer) (c .before .before .before .before .before .before .before .before .before .before .before .args .shown) parts (c .before .before .before .before .before .before .place-in .result)))
+    (c .before .effect-write .ensures ∙ ap (writeAt _ (c .before .before .before .before .before .before .place-in .result)) (c .before .before .before .word .ensures) ∙ sym (write-same f (c .before .before .before .before .before .before .before .before .before .before .before .args .registers .now) (c .before .before .before .before .before .before .before .before .before .before .before .args .toggle) (c .before .before .before .before .before .before .before .before .before .before .before .args .pointer) (c .before .before .before .before .before .before .before .before .before .before .before .args .shown) parts (c .before .before .before .before .before .before .place-in .result) (c .before .before .before .before .before .before .before .before .before .before .before .args .asked .value)))
+    (c .settle .ensures .1 ∙ ap (λ (a : Answer). cond (refused a) Nothing (c .before .effect-write .result)) (sym (c .settle .ensures .0)))
 
 returns-3 : tie.Need-returns-3
 unfolding effectAt isWrite
 returns-3 c = λ f s parts.
     decided f s (c .before .before .before .before .before .before .before .before .before .before .args .registers .now) (c .before .before .before .before .before .before .before .before .before .before .args .toggle) (c .before .before .before .before .before .before .before .before .before .before .args .pointer) (c .before .before .before .before .before .before .before .before .before .before .args .shown) parts (c .before .before .before .before .before .before .before .before .before .before .args .asked) (c .before .before .before .before .before .before .before .cell .given .0 .0) (sym (c .before .before .before .before .before .before .before .before .before .look .ensures) ∙ c .before .before .before .before .before .before .before .cell .given .1)
-      (c .before .before .before .before .before .place-in .result) (c .before .before .before .before .before .place-in .ensures) false (ne-eqb _ _ (c .before .before .before .if1 .left)) (c .settle2 .result) (c .before .effect-read .result)
-      (c .settle2 .ensures .0 ∙ c .before .before .answer-read .ensures f parts)
-      (c .before .effect-read .ensures ∙ sym (read-same f (c .before .before .before .before .before .before .before .before .before .before .args .registers .now) (c .before .before .before .before .before .before .before .before .before .before .args .toggle) (c .before .before .before .before .before .before .before .before .before .before .args .pointer) (c .before .before .before .before .before .before .before .before .before .before .args .shown) parts (c .before .before .before .before .before .place-in .result)))
-      (c .settle2 .ensures .1 ∙ ap (λ (a : Answer). cond (refused a) Nothing (c .before .effect-read .result)) (sym (c .settle2 .ensures .0)))
+    (c .before .before .before .before .before .place-in .result) (c .before .before .before .before .before .place-in .ensures) false (ne-eqb _ _ (c .before .before .before .if1 .left)) (c .settle2 .result) (c .before .effect-read .result)
+    (c .settle2 .ensures .0 ∙ c .before .before .answer-read .ensures f parts)
+    (c .before .effect-read .ensures ∙ sym (read-same f (c .before .before .before .before .before .before .before .before .before .before .args .registers .now) (c .before .before .before .before .before .before .before .before .before .before .args .toggle) (c .before .before .before .before .before .before .before .before .before .before .args .pointer) (c .before .before .before .before .before .before .before .before .before .before .args .shown) parts (c .before .before .before .before .before .place-in .result)))
+    (c .settle2 .ensures .1 ∙ ap (λ (a : Answer). cond (refused a) Nothing (c .before .effect-read .result)) (sym (c .settle2 .ensures .0)))
 
 pub decide-spec : {M : Type 1} → statement M
 decide-spec =

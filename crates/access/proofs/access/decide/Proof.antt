@@ -1,0 +1,18 @@
+-- `access::decide` meets its contract. Assumes nothing.
+use mathlib.Core.Path.{refl, sym}
+use Rattle.file.proofs.Soundness.{registers-sound, pointer-sound}
+use borrow.Author.Needs.{needs}
+use Rattle.access.proofs.access.decide.Statement.{statement}
+use Rattle.access.proofs.access.decide.Tie as tie
+
+shown-in-requires : tie.Need-shown-in-requires
+shown-in-requires c κs = search needs
+
+decide-requires : tie.Need-decide-requires
+decide-requires c κs = (registers-sound (c .before .before .before .args .whole) (c .before .before .before .pre), pointer-sound (c .before .before .before .args .whole) (c .before .before .before .pre))
+
+returns : tie.Need-returns
+returns c = c .decide .ensures (c .before .before .before .before .args .whole) (c .before .before .before .before .pre) (record { same-registers = refl; same-toggle = refl; same-pointer = refl; same-shown = sym (c .before .shown-in .ensures) })
+
+pub decide-spec : {M : Type 1} → statement M
+decide-spec = tie.close (tie.spec shown-in-requires decide-requires returns)
