@@ -1,11 +1,11 @@
 -- Soundness is kept: by a store within the stored bits, by every step of the pointer, and so by an effect made of these.
 -- Assumes nothing.
 use Prim.Native.Nat.{ℕ, zero, suc}
-use mathlib.Core.Path.{_≡_, refl, sym, subst}
+use mathlib.Core.Path.{_≡_, refl, sym, ap, subst}
 use mathlib.Core.Bool.{Bool, true, false, _&&_}
 use mathlib.Core.List.{List, [], _∷_}
 use lib.Dec.{T, eqb}
-use lib.ListN.{getD, set}
+use lib.ListN.{getD, set, length}
 use Rattle.bits.specs.Store.{store, within}
 use Rattle.bits.proofs.Stored.{store-within}
 use Rattle.bits.proofs.Test.{left, right, both}
@@ -30,7 +30,7 @@ at (stored ∷ table) (value ∷ values) zero t = left (within stored value) (al
 at (stored ∷ table) (value ∷ values) (suc number) t = at table values number (right (within stored value) (allWithin table values) t)
 
 -- and may take another value that is
-set-within : (table values : List ℕ) (number new : ℕ)
+pub set-within : (table values : List ℕ) (number new : ℕ)
     → T (allWithin table values) → T (within (getD table number 0) new) → T (allWithin table (set values number new))
 unfolding allWithin
 set-within [] [] number new t w = tt
@@ -42,6 +42,14 @@ set-within (stored ∷ table) (value ∷ values) (suc number) new t w =
     both (within stored value) (allWithin table (set values number new))
     (left (within stored value) (allWithin table values) t)
     (set-within table values number new (right (within stored value) (allWithin table values) t) w)
+
+-- there are as many registers as rows
+pub within-count : (table values : List ℕ) → T (allWithin table values) → length values ≡ length table
+unfolding allWithin
+within-count [] [] t = refl
+within-count [] (value ∷ values) t = absurd t
+within-count (stored ∷ table) [] t = absurd t
+within-count (stored ∷ table) (value ∷ values) t = ap suc (within-count table values (right (within stored value) (allWithin table values) t))
 
 -- writing an address leaves a sound pointer
 pub addressed-sound : (reading : Bool) (address : ℕ) → T (pointerSound (addressed reading address))

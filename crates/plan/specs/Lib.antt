@@ -1,0 +1,3 @@
+pub mod Roads
+pub mod Plan
+pub mod Restores

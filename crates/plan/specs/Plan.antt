@@ -1,0 +1,74 @@
+-- 01, 'A plan is made from the wanted file alone': its records, stage by stage.
+-- Assumes nothing.
+use Prim.Native.Nat.{ℕ}
+use mathlib.Core.Bool.{Bool, cond}
+use mathlib.Core.List.{List, [], _∷_, _++_}
+use Rattle.file.specs.declared.palette.Colour.{Colour}
+use Rattle.file.specs.declared.palette.Pointer.{Pointer}
+use Rattle.file.specs.declared.registers.File.{File}
+use Rattle.file.specs.File.{register}
+use Rattle.file.specs.Names.{MISC, ARX}
+use Rattle.access.specs.declared.record.Record.{Record}
+use Rattle.access.specs.Places.{Index, any, sr, cr, gr, ar, indexDue, dataDue}
+use Rattle.plan.specs.Roads.{Road, toPCI04, toCR11, toB0, toMISC, toSRX, toGRX, toARX, byHalf, registerRoads, indexRoads}
+
+-- the record that writes a value by a road
+abbrev pub write : Road → ℕ → Record
+write road value = record { kind = road .kind; width = road .width; address = road .address; value = value }
+
+abbrev pub mmioWrite : ℕ → ℕ → Record
+mmioWrite address value = record { kind = 5; width = 1; address = address; value = value }
+
+abbrev pub portRead : ℕ → Record
+portRead address = record { kind = 2; width = 1; address = address; value = 0 }
+
+-- the records that select an index, the toggle being index
+unfoldable pub selecting : Index → List Record
+selecting any = []
+selecting (sr n) = write toSRX n ∷ []
+selecting (cr n) = []
+selecting (gr n) = write toGRX n ∷ []
+selecting (ar n) = []
+selecting indexDue = []
+selecting (dataDue n) = write toARX n ∷ []
+
+-- the wanted values of some registers, each by its road
+unfoldable pub along : File → List Road → List Record
+along w [] = []
+along w (road ∷ roads) = selecting (road .index) ++ write road (register w (road .register)) ∷ along w roads
+
+-- '3?Ah read (gives 0, sets the toggle to index)'
+abbrev pub toIndex : File → Record
+toIndex w = portRead (byHalf w 0x3BA 0x3DA)
+
+-- both spaces on, CR0 to CR7 unlocked, the palette up and its 256 entries chosen, MISC as wanted, the toggle at index
+unfoldable pub opening : File → List Record
+opening w =
+    write toPCI04 0x0003 ∷ write toCR11 0x00 ∷ write toB0 0x00 ∷ write toMISC (register w MISC) ∷ toIndex w ∷ []
+
+-- three 3C9h writes for each entry
+unfoldable pub pixels : List Colour → List Record
+pixels [] = []
+pixels (c ∷ cs) = mmioWrite 0xAC (c .red) ∷ mmioWrite 0xAC (c .green) ∷ mmioWrite 0xAC (c .blue) ∷ pixels cs
+
+-- a run of entries, from one on: '3C8h A8h, 3C9h ACh'
+unfoldable pub entries : ℕ → List Colour → List Record
+entries first cs = mmioWrite 0xA8 first ∷ pixels cs
+
+-- the palette, and with B0[3]=1 the bank
+unfoldable pub colours : File → List Record
+colours w = entries 0 (w .palette) ++ write toB0 0x08 ∷ entries 0 (w .bank)
+
+-- SRX, GRX, CRX and ARX, which leaves the toggle at data; then the toggle: a 3?Ah read, or a 3C0h read, which moves nothing
+unfoldable pub indices : File → List Record
+indices w =
+    along w (indexRoads w) ++ write toARX (register w ARX) ∷ portRead (cond (w .toggle) 0x3C0 (byHalf w 0x3BA 0x3DA)) ∷ []
+
+-- the pointer, '3C7h's pair A4h, 3C8h A8h'; then what was open, PCI04 last
+unfoldable pub closing : File → List Record
+closing w =
+    mmioWrite (cond (w .pointer .reading) 0xA4 0xA8) (w .pointer .address)
+    ∷ along w (toB0 ∷ toCR11 ∷ toPCI04 ∷ [])
+
+unfoldable pub planRecords : File → List Record
+planRecords w = opening w ++ colours w ++ along w registerRoads ++ indices w ++ closing w

@@ -1,0 +1,43 @@
+-- What demand 3 says of a plan: 'accepted means code 0', and the run ends in the wanted file.
+-- Assumes nothing.
+use Prim.Native.Nat.{ℕ, _<_}
+use mathlib.Core.Path.{_≡_}
+use mathlib.Core.Bool.{Bool, true, _&&_}
+use mathlib.Core.List.{List, [], _∷_, map}
+use lib.Dec.{T, eqb, ltb}
+use lib.ListN.{length}
+use Rattle.file.specs.declared.answer.Answer.{Answer}
+use Rattle.file.specs.declared.palette.Colour.{Colour}
+use Rattle.file.specs.declared.palette.Pointer.{Pointer}
+use Rattle.file.specs.declared.registers.File.{File}
+use Rattle.file.specs.Answers.{codeOf}
+use Rattle.access.specs.declared.record.Item.{Item}
+use Rattle.access.specs.declared.record.Item.the-variants.{Whole}
+use Rattle.access.specs.declared.record.Record.{Record}
+use Rattle.access.specs.Run.{fileAfter, answers}
+
+-- 'accepted means code 0'
+unfoldable pub accepted : Answer → Bool
+accepted a = eqb (codeOf a) 0
+
+unfoldable pub allAccepted : List Answer → Bool
+allAccepted [] = true
+allAccepted (a ∷ as′) = accepted a && allAccepted as′
+
+-- from one file, every record is accepted and the run ends in another
+pub record Runs (f : File) (records : List Record) (g : File) : Type 0 where
+  pub allDone : T (allAccepted (answers f (map Whole records)))
+  pub ends : fileAfter f (map Whole records) ≡ g
+
+-- 'a bank of 16 cursor and border colours, else one of 256; three whole bytes each'
+unfoldable pub bytes : List Colour → Bool
+bytes [] = true
+bytes (c ∷ cs) = ltb (c .red) 256 && ltb (c .green) 256 && ltb (c .blue) 256 && bytes cs
+
+-- what a file is by its type, as far as a plan goes by it
+pub record IsFile (f : File) : Type 0 where
+  pub palette : length (f .palette) ≡ 256
+  pub bank : length (f .bank) ≡ 16
+  pub paletteBytes : T (bytes (f .palette))
+  pub bankBytes : T (bytes (f .bank))
+  pub address : f .pointer .address < 256
