@@ -1,2 +1,4 @@
 pub mod Composed
 pub mod Asked
+pub mod Leads
+pub mod Stored
