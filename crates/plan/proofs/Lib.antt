@@ -2,3 +2,4 @@ pub mod Composed
 pub mod Asked
 pub mod Leads
 pub mod Stored
+pub mod Ready
