@@ -3,3 +3,4 @@ pub mod Asked
 pub mod Leads
 pub mod Stored
 pub mod Ready
+pub mod Along

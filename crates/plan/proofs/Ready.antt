@@ -5,6 +5,7 @@ use mathlib.Core.Path.{_≡_, refl, sym, ap, _∙_, subst}
 use mathlib.Core.Bool.{Bool, true, false, cond, not, _&&_, _||_}
 use mathlib.Core.List.{List, [], _∷_}
 use native.Mathlib.Omega.{arith}
+use borrow.Author.Tests.{eqb-true, eqb-false}
 use lib.Dec.{T, eqb, leb, T-not, eqb-refl}
 use lib.ListN.{getD, set, length}
 use lib.Seq.{getD-set-same, getD-set-other}
@@ -12,7 +13,7 @@ use Rattle.bits.specs.Store.{bit, within}
 use Rattle.bits.proofs.Test.{left, right, both, by-test}
 use Rattle.file.specs.declared.registers.File.{File}
 use Rattle.file.specs.File.{register, crtcLocked, withRegisters, withToggle}
-use Rattle.file.specs.Names.{MISC, PCI04, CR11}
+use Rattle.file.specs.Names.{MISC, SRX, CRX, GRX, ARX, PCI04, CR11}
 use Rattle.file.specs.Palette.{pointerSound}
 use Rattle.file.specs.Registers.{storedBits, storedTable, registers, singles, sequencer, crtc, graphics, attribute, pipeline}
 use Rattle.file.specs.Sound.{allWithin, sound}
@@ -41,6 +42,27 @@ at-same f number value s h = getD-set-same (f .registers) number value 0 (rw (co
 pub at-other : (f : File) (number value n : ℕ) → (n ≡ number → ⊥) → register (withRegister number value f) n ≡ register f n
 unfolding register withRegister withRegisters
 at-other f number value n h = getD-set-other (f .registers) number n value 0 h
+
+pub at-any : (f : File) (number value n : ℕ) → T (sound f) → number < 100
+    → register (withRegister number value f) n ≡ cond (eqb n number) value (register f n)
+at-any f number value n s h =
+    by-test (eqb n number)
+    (λ e. rw (e, eqb-true n number e) (at-same f number value s h)) (λ e. rw e (at-other f number value n (eqb-false n number e)))
+
+-- what the file then shows
+pub view-with : (f : File) (number value : ℕ) → T (sound f) → number < 100
+    → viewOf (withRegister number value f)
+    ≡ record {
+      misc = cond (eqb MISC number) value (register f MISC);
+      srx = cond (eqb SRX number) value (register f SRX);
+      crx = cond (eqb CRX number) value (register f CRX);
+      grx = cond (eqb GRX number) value (register f GRX);
+      arx = cond (eqb ARX number) value (register f ARX);
+      toggle = f .toggle;
+    }
+unfolding viewOf withRegister withRegisters
+view-with f number value s h =
+    rw (at-any f number value MISC s h, at-any f number value SRX s h, at-any f number value CRX s h, at-any f number value GRX s h, at-any f number value ARX s h)
 
 pub with-sound : (f : File) (number value : ℕ) → T (sound f) → T (within (storedBits number) value) → T (sound (withRegister number value f))
 unfolding sound withRegister withRegisters storedBits
