@@ -128,7 +128,7 @@ move-to f g p same t s =
     both (allWithin storedTable (g .registers)) (pointerSound p)
     (subst (λ (l : List ℕ). T (allWithin storedTable l)) (sym same) (registers-sound f s)) t
 
-paint-keeps : (f : File) (bank : Bool) (entry : ℕ) (colour : Colour) → paintIn bank entry colour f .registers ≡ f .registers
+pub paint-keeps : (f : File) (bank : Bool) (entry : ℕ) (colour : Colour) → paintIn bank entry colour f .registers ≡ f .registers
 unfolding paintIn withBank withPalette
 paint-keeps f true entry colour = refl
 paint-keeps f false entry colour = refl

@@ -4,3 +4,4 @@ pub mod Leads
 pub mod Stored
 pub mod Ready
 pub mod Along
+pub mod Colours
