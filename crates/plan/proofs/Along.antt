@@ -9,24 +9,22 @@ use borrow.Author.Tests.{eqb-true, eqb-false}
 use lib.Dec.{T, eqb, leb, T-not, eqb→eq, eqb-refl, lit<}
 use lib.ListN.{getD, set, length, length-set}
 use lib.Seq.{getD-set-same, getD-set-other}
-use Rattle.bits.specs.Store.{bits, bit, within}
+use Rattle.bits.specs.Store.{within}
 use Rattle.bits.proofs.Test.{left, right, by-test}
 use Rattle.file.specs.declared.registers.File.{File}
 use Rattle.file.specs.File.{register, withRegisters, withToggle}
 use Rattle.file.specs.Names.{MISC, SRX, CRX, GRX, ARX}
-use Rattle.file.specs.Registers.{storedBits, storedTable, registers, singles, sequencer, crtc, graphics, attribute, pipeline}
+use Rattle.file.specs.Registers.{storedBits}
 use Rattle.file.specs.Sound.{sound}
 use Rattle.access.specs.declared.record.Record.{Record}
-use Rattle.access.specs.Checks.{isPort, isOneOf, otherHalf}
-use Rattle.access.specs.Lookup.{attributeIndex, selects, fits, first, rowOf}
-use Rattle.access.specs.Places.{Index, any, sr, cr, gr, ar, indexDue, dataDue, places, each, attributePorts, generalPorts, crtcPorts, pipelinePlace, mmioPlaces, pciPlaces}
-use Rattle.access.proofs.Targets.{storesInto, movesToggle}
+use Rattle.access.specs.Checks.{isOneOf}
+use Rattle.access.specs.Places.{Index, any, sr, cr, gr, ar, indexDue, dataDue}
 use Rattle.plan.specs.Roads.{Road, toSRX, toGRX, toARX}
 use Rattle.plan.specs.Plan.{write, selecting, along}
 use Rattle.plan.specs.Restores.{Runs}
-use Rattle.plan.proofs.Asked.{View, viewOf, shown}
+use Rattle.plan.proofs.Asked.{View, viewOf}
 use Rattle.plan.proofs.Composed.{none, then}
-use Rattle.plan.proofs.Leads.{flips, seen, same, finds, leads, everyRoad}
+use Rattle.plan.proofs.Leads.{flips, seen, leads, everyRoad, leading, singles-lead}
 use Rattle.plan.proofs.Ready.{Ready, at-same, at-other, view-with, wanted-within, ready-runs, loose, ready-with, ready-flipped}
 use Rattle.plan.proofs.Stored.{withRegister, flipped}
 
@@ -56,17 +54,10 @@ selectable (dataDue n) = within (storedBits ARX) n
 unfoldable pub selected : Index → File → File
 selected i f = flipped (flips i) (withRegisters (afterSelecting i (f .registers)) f)
 
-srx-leads : (v : View) → T (leads v toSRX)
-unfolding leads finds same flips storedBits storedTable registers singles sequencer crtc graphics attribute pipeline otherHalf isPort isOneOf rowOf first fits selects attributeIndex bits bit register shown places each attributePorts generalPorts crtcPorts pipelinePlace mmioPlaces pciPlaces storesInto movesToggle
-srx-leads v = tt
-
-grx-leads : (v : View) → T (leads v toGRX)
-unfolding leads finds same flips storedBits storedTable registers singles sequencer crtc graphics attribute pipeline otherHalf isPort isOneOf rowOf first fits selects attributeIndex bits bit register shown places each attributePorts generalPorts crtcPorts pipelinePlace mmioPlaces pciPlaces storesInto movesToggle
-grx-leads v = tt
-
-arx-leads : (v : View) → v .toggle ≡ false → T (leads v toARX)
-unfolding leads finds same flips storedBits storedTable registers singles sequencer crtc graphics attribute pipeline otherHalf isPort isOneOf rowOf first fits selects attributeIndex bits bit register shown places each attributePorts generalPorts crtcPorts pipelinePlace mmioPlaces pciPlaces storesInto movesToggle
-arx-leads v e = rw e tt
+-- 3C0h, with the toggle at index
+pub arx-leads : (f : File) → f .toggle ≡ false → T (leads (viewOf f) toARX)
+unfolding seen viewOf
+arx-leads f t = subst (λ (b : Bool). T (leads (record { misc = register f MISC; srx = register f SRX; crx = register f CRX; grx = register f GRX; arx = register f ARX; toggle = b }) toARX)) (sym t) (singles-lead (viewOf f) .arx)
 
 -- what selecting leaves
 pub record Selected (w f : File) (i : Index) : Type 0 where
@@ -84,16 +75,16 @@ select : (w f : File) (i : Index) → Ready w f → f .toggle ≡ false → T (s
 unfolding selecting selected afterSelecting selectable flips flipped loose isOneOf withRegister withRegisters withToggle register seen viewOf
 select w f any ready t s = record { runs = none f; ready = ready; view = refl }
 select w f (sr n) ready t s =
-    let by = select-by w f toSRX n ready (srx-leads (viewOf f)) tt s in
+    let by = select-by w f toSRX n ready (singles-lead (viewOf f) .srx) tt s in
     record { runs = by .0; ready = by .1; view = view-with f SRX n (ready .isSound) (lit< tt) }
 select w f (cr n) ready t s = absurd s
 select w f (gr n) ready t s =
-    let by = select-by w f toGRX n ready (grx-leads (viewOf f)) tt s in
+    let by = select-by w f toGRX n ready (singles-lead (viewOf f) .grx) tt s in
     record { runs = by .0; ready = by .1; view = view-with f GRX n (ready .isSound) (lit< tt) }
 select w f (ar n) ready t s = absurd s
 select w f indexDue ready t s = absurd s
 select w f (dataDue n) ready t s =
-    let by = select-by w f toARX n ready (arx-leads (viewOf f) t) tt s in
+    let by = select-by w f toARX n ready (arx-leads f t) tt s in
     record { runs = by .0; ready = by .1; view =
         rw t
         (ap (λ (v : View). record { misc = v .misc; srx = v .srx; crx = v .crx; grx = v .grx; arx = v .arx; toggle = true })
@@ -129,7 +120,7 @@ road-ends w f (dataDue n) number value t s = rw t
 
 -- every road leads to its register, with its index selected, in a file that shows the wanted MISC
 abbrev pub Lead : File → List Road → Type 0
-Lead w roads = (v : View) → v .misc ≡ register w MISC → T (everyRoad (λ (road : Road). leads (seen (road .index) v) road) roads)
+Lead w roads = (v : View) → v .misc ≡ register w MISC → T (leading v roads)
 
 -- what a list of roads does
 pub record Brings (w f : File) (roads : List Road) : Type 0 where
@@ -174,7 +165,7 @@ module _ (w : File) (s : T (sound w)) where
 
   -- any list of roads
   pub roads-bring : (roads : List Road) (f : File) → Ready w f → f .toggle ≡ false → T (everyRoad open′ roads) → Lead w roads → Brings w f roads
-  unfolding along brought afterRoads everyRoad viewOf withRegisters
+  unfolding along brought afterRoads everyRoad leading viewOf withRegisters
   roads-bring [] f ready t o lead = record { runs = none f; ready = ready }
   roads-bring (road ∷ roads) f ready t o lead =
       let first = road-brings f road ready t (left (open′ road) (everyRoad open′ roads) o)

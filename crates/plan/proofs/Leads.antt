@@ -1,18 +1,21 @@
 -- That a road leads to its register, as a test of the road and of what the file shows; computed over the list of roads at once.
 -- Assumes nothing.
-use Prim.Native.Nat.{ℕ, _^_, _%_}
-use mathlib.Core.Bool.{Bool, true, false, not, _&&_, _||_}
+use Prim.Native.Nat.{ℕ, _<_, _^_, _%_}
+use mathlib.Core.Path.{_≡_}
+use mathlib.Core.Bool.{Bool, true, false, cond, not, _&&_, _||_}
 use mathlib.Core.List.{List, [], _∷_}
 use mathlib.Core.Option.{Option, none, some}
 use lib.Dec.{T, eqb, leb, ltb}
 use Rattle.bits.specs.Store.{bits, bit}
+use Rattle.bits.proofs.Bit.{by-bit}
 use Rattle.file.specs.File.{register}
+use Rattle.file.specs.Names.{CRX}
 use Rattle.file.specs.Registers.{storedBits, storedTable, registers, singles, sequencer, crtc, graphics, attribute, pipeline}
 use Rattle.access.specs.Checks.{isPort, isOneOf, otherHalf}
 use Rattle.access.specs.Lookup.{attributeIndex, selects, fits, first, rowOf}
 use Rattle.access.specs.Places.{Index, any, sr, cr, gr, ar, indexDue, dataDue, Row, places, each, attributePorts, generalPorts, crtcPorts, pipelinePlace, mmioPlaces, pciPlaces}
 use Rattle.access.proofs.Targets.{storesInto, movesToggle}
-use Rattle.plan.specs.Roads.{Road, eachRoad, but, registerRoads}
+use Rattle.plan.specs.Roads.{Road, portRoad, eachRoad, but, toPCI04, toCR11, toB0, toMISC, toSRX, toGRX, toARX, registerRoads}
 use Rattle.plan.specs.Plan.{write}
 use Rattle.plan.proofs.Asked.{View, shown}
 
@@ -64,7 +67,31 @@ unfoldable pub everyRoad : (Road → Bool) → List Road → Bool
 everyRoad test [] = true
 everyRoad test (r ∷ rs) = test r && everyRoad test rs
 
--- whatever a file shows, with its index selected each road leads to its register
-pub registers-lead : (v : View) → T (everyRoad (λ (road : Road). leads (seen (road .index) v) road) registerRoads)
-unfolding everyRoad leads seen finds same flips registerRoads eachRoad but isOneOf storedBits storedTable registers singles sequencer crtc graphics attribute pipeline otherHalf isPort rowOf first fits selects attributeIndex bits bit register shown places each attributePorts generalPorts crtcPorts pipelinePlace mmioPlaces pciPlaces storesInto movesToggle
+-- in a file that shows this, each road leads to its register with its index selected
+unfoldable pub leading : View → List Road → Bool
+leading v roads = everyRoad (λ (road : Road). leads (seen (road .index) v) road) roads
+
+-- so does every register's, whatever a file shows
+pub registers-lead : (v : View) → T (leading v registerRoads)
+unfolding leading everyRoad leads seen finds same flips storedBits storedTable registers singles sequencer crtc graphics attribute pipeline otherHalf isPort isOneOf rowOf first fits selects attributeIndex bits register shown places each attributePorts generalPorts crtcPorts pipelinePlace mmioPlaces pciPlaces storesInto movesToggle registerRoads eachRoad but
 registers-lead v = tt
+
+-- and so do the roads that the stages take one by one
+pub record Singles (v : View) : Type 0 where
+  pub pci04 : T (leads v toPCI04)
+  pub cr11 : T (leads v toCR11)
+  pub b0 : T (leads v toB0)
+  pub misc : T (leads v toMISC)
+  pub srx : T (leads v toSRX)
+  pub grx : T (leads v toGRX)
+  pub arx : T (leads (seen indexDue v) toARX)
+
+pub singles-lead : (v : View) → Singles v
+unfolding everyRoad leads seen finds same flips storedBits storedTable registers singles sequencer crtc graphics attribute pipeline otherHalf isPort isOneOf rowOf first fits selects attributeIndex bits register shown places each attributePorts generalPorts crtcPorts pipelinePlace mmioPlaces pciPlaces storesInto movesToggle
+singles-lead v = record { pci04 = tt; cr11 = tt; b0 = tt; misc = tt; srx = tt; grx = tt; arx = tt }
+
+-- CRX has its port by MISC[0]
+pub crx-leads : (v : View) (x : ℕ) → x < 2 → bit 0 (v .misc) ≡ x → T (leads v (portRoad CRX (cond (eqb x 1) 0x3D4 0x3B4) any))
+unfolding leads seen finds same flips storedBits storedTable registers singles sequencer crtc graphics attribute pipeline otherHalf isPort isOneOf rowOf first fits selects attributeIndex bits register shown places each attributePorts generalPorts crtcPorts pipelinePlace mmioPlaces pciPlaces storesInto movesToggle
+crx-leads v =
+    by-bit (λ (x : ℕ). bit 0 (v .misc) ≡ x → T (leads v (portRoad CRX (cond (eqb x 1) 0x3D4 0x3B4) any))) (λ e. rw e tt) (λ e. rw e tt)

@@ -5,3 +5,4 @@ pub mod Stored
 pub mod Ready
 pub mod Along
 pub mod Colours
+pub mod Toggled
