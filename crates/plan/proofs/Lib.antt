@@ -6,3 +6,4 @@ pub mod Ready
 pub mod Along
 pub mod Colours
 pub mod Toggled
+pub mod Stages
