@@ -125,3 +125,89 @@ module _ (w f : File) (ws : T (sound w)) (fs : T (sound f)) where
   pub opened-up : register (opened w f) B0 ≡ 0x00
   unfolding opened withToggle register
   opened-up = at-any (paletteOn f) MISC (register w MISC) B0 s3 (lit< tt) ∙ at-any (unlocked f) B0 0x00 B0 s2 (lit< tt)
+
+-- ---- colours
+
+-- the file with all colours as wanted, the pointer behind the bank's
+unfoldable pub coloured : File → File → File
+coloured w f =
+    record {
+      registers = set (f .registers) B0 0x08;
+      palette = w .palette;
+      bank = w .bank;
+      pointer = addressed false 16;
+      toggle = f .toggle;
+    }
+
+-- a ready file stays ready while its registers stay
+ready-as : (w f g : File) → g .registers ≡ f .registers → T (pointerSound (g .pointer)) → Ready w f → Ready w g
+unfolding On sound register
+ready-as w f g e p ready =
+    record {
+      isSound =
+        both (allWithin storedTable (g .registers)) (pointerSound (g .pointer))
+        (subst (λ (rs : List ℕ). T (allWithin storedTable rs)) (sym e) (registers-sound f (ready .isSound))) p;
+      on = ap (λ (rs : List ℕ). getD rs PCI04 0) e ∙ ready .on;
+      unlocked = ap (λ (rs : List ℕ). getD rs CR11 0) e ∙ ready .unlocked;
+      misc = ap (λ (rs : List ℕ). getD rs MISC 0) e ∙ ready .misc;
+    }
+
+module _ (w f : File) (wf : IsFile w) (ready : Ready w f) where
+  -- the palette
+  palette-runs : register f B0 ≡ 0x00 → length (f .palette) ≡ 256
+      → Runs f (entries 0 (w .palette)) (withPointer (addressed false 0) (withPalette (w .palette) f))
+  unfolding On register bit
+  palette-runs b0 many =
+      subst (λ (g : File). Runs f (entries 0 (w .palette)) g)
+      (ap₂ (λ (a : ℕ) (g : File). withPointer (addressed false a) g) around
+      (painted-palette (w .palette) f 0 ∙ ap (λ (cs : List Colour). withPalette cs f) (sets-all (f .palette) (w .palette) (many ∙ sym (wf .palette)))))
+      (entries-run (w .palette) f false 0 (ready .isSound)
+      (record { sound′ = registers-sound f (ready .isSound); on = ready .on; up = rw b0; chosen = rw b0 }) (lit< tt) room (wf .paletteBytes))
+    where
+      around : (0 + length (w .palette)) % 256 ≡ 0
+      around = omega (arith, wf .palette)
+
+      room : 0 + length (w .palette) ≤ 256
+      room = omega (arith, wf .palette)
+
+  -- the bank
+  bank-runs : register f B0 ≡ 0x08 → length (f .bank) ≡ 16
+      → Runs f (entries 0 (w .bank)) (withPointer (addressed false 16) (withBank (w .bank) f))
+  unfolding On register bit
+  bank-runs b0 many =
+      subst (λ (g : File). Runs f (entries 0 (w .bank)) g)
+      (ap₂ (λ (a : ℕ) (g : File). withPointer (addressed false a) g) around
+      (painted-bank (w .bank) f 0 ∙ ap (λ (cs : List Colour). withBank cs f) (sets-all (f .bank) (w .bank) (many ∙ sym (wf .bank)))))
+      (entries-run (w .bank) f true 0 (ready .isSound)
+      (record { sound′ = registers-sound f (ready .isSound); on = ready .on; up = rw b0; chosen = rw b0 }) (lit< tt) room (wf .bankBytes))
+    where
+      around : (0 + length (w .bank)) % 256 ≡ 16
+      around = omega (arith, wf .bank)
+
+      room : 0 + length (w .bank) ≤ 16
+      room = omega (arith, wf .bank)
+
+module _ (w f : File) (wf : IsFile w) (ready : Ready w f) (b0 : register f B0 ≡ 0x00) (many : length (f .palette) ≡ 256) (few : length (f .bank) ≡ 16) where
+  -- between the two
+  abbrev half : File
+  half = withPointer (addressed false 0) (withPalette (w .palette) f)
+
+  half-ready : Ready w half
+  unfolding withPointer withPalette addressed pointerSound
+  half-ready = ready-as w f half refl tt ready
+
+  switched-ready : Ready w (withRegister B0 0x08 half)
+  unfolding loose isOneOf storedBits storedTable registers singles sequencer crtc graphics attribute pipeline within store
+  switched-ready = ready-with w half B0 0x08 half-ready tt tt
+
+  pub colours-run : Runs f (colours w) (coloured w f)
+  unfolding colours coloured flips flipped storedBits storedTable registers singles sequencer crtc graphics attribute pipeline within store withRegister withRegisters withPointer withPalette withBank
+  colours-run =
+      then (entries 0 (w .palette)) (write toB0 0x08 ∷ entries 0 (w .bank)) f half (coloured w f) (palette-runs w f wf ready b0 many)
+      (then (write toB0 0x08 ∷ []) (entries 0 (w .bank)) half (withRegister B0 0x08 half) (coloured w f)
+      (ready-runs w half toB0 0x08 half-ready (singles-lead (viewOf half) .b0) tt)
+      (bank-runs w (withRegister B0 0x08 half) wf switched-ready (at-any half B0 0x08 B0 (half-ready .isSound) (lit< tt)) few))
+
+  pub coloured-ready : Ready w (coloured w f)
+  unfolding coloured withRegister withRegisters withPointer withPalette addressed pointerSound
+  coloured-ready = ready-as w (withRegister B0 0x08 half) (coloured w f) refl tt switched-ready
