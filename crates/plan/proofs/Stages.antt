@@ -20,14 +20,14 @@ use Rattle.file.specs.Registers.{storedBits, storedTable, registers, singles, s
 use Rattle.file.specs.Sound.{allWithin, sound}
 use Rattle.file.proofs.Soundness.{registers-sound, pointer-sound}
 use Rattle.access.specs.Checks.{isPort, isMmio, isOneOf, spaceOff}
-use Rattle.plan.specs.Roads.{Road, toPCI04, toCR11, toB0, toMISC, toARX, registerRoads, indexRoads, eachRoad, but, byHalf}
-use Rattle.plan.specs.Plan.{write, mmioWrite, toIndex, along, opening, entries, colours, indices, closing}
+use Rattle.plan.specs.Roads.{Road, toPCI04, toCR11, toB0, toMISC, toSRX, toGRX, toARX, toCRX, registerRoads, indexRoads, eachRoad, but, byHalf}
+use Rattle.plan.specs.Plan.{write, mmioWrite, portRead, selecting, toIndex, along, opening, entries, colours, indices, closing}
 use Rattle.plan.specs.Restores.{Runs, IsFile}
 use Rattle.plan.proofs.Along.{brought, open′, selectable, Lead, Brings, roads-bring, arx-leads}
 use Rattle.plan.proofs.Asked.{View, viewOf}
 use Rattle.plan.proofs.Colours.{Up, entries-run, painted, painted-palette, painted-bank, sets-all, address-runs}
 use Rattle.plan.proofs.Composed.{one, then}
-use Rattle.plan.proofs.Leads.{flips, everyRoad, leading, singles-lead, registers-lead, crx-leads}
+use Rattle.plan.proofs.Leads.{flips, seen, leads, everyRoad, leading, singles-lead, registers-lead, crx-leads}
 use Rattle.plan.proofs.Ready.{On, Ready, at-any, with-sound, wanted-within, beyond-lock, unlocked-free, on-runs, ready-runs, ready-with, ready-flipped, loose}
 use Rattle.plan.proofs.Stored.{withRegister, flipped, road-stores}
 use Rattle.plan.proofs.Toggled.{reset-runs, toggle-runs}
@@ -211,3 +211,98 @@ module _ (w f : File) (wf : IsFile w) (ready : Ready w f) (b0 : register f B0 �
   pub coloured-ready : Ready w (coloured w f)
   unfolding coloured withRegister withRegisters withPointer withPalette addressed pointerSound
   coloured-ready = ready-as w (withRegister B0 0x08 half) (coloured w f) refl tt switched-ready
+
+-- ---- registers
+
+registers-open : T (everyRoad open′ registerRoads)
+unfolding everyRoad open′ selectable loose isOneOf registerRoads eachRoad but storedBits storedTable registers singles sequencer crtc graphics attribute pipeline within store
+registers-open = tt
+
+pub registers-bring : (w f : File) → T (sound w) → Ready w f → f .toggle ≡ false → Brings w f registerRoads
+registers-bring w f s ready t = roads-bring w s registerRoads f ready t registers-open (λ v e. registers-lead v)
+
+-- ---- indices
+
+indices-open : (w : File) → T (everyRoad open′ (indexRoads w))
+unfolding everyRoad open′ selectable loose isOneOf indexRoads
+indices-open w = tt
+
+indices-lead : (w : File) → Lead w (indexRoads w)
+unfolding leading everyRoad seen indexRoads byHalf
+indices-lead w v e =
+    both (leads v toSRX) (leads v toGRX && (leads v (toCRX w) && true)) (singles-lead v .srx)
+    (both (leads v toGRX) (leads v (toCRX w) && true) (singles-lead v .grx)
+    (both (leads v (toCRX w)) true (crx-leads v (bit 0 (register w MISC)) (bit-lt 0 (register w MISC)) (ap (bit 0) e)) tt))
+
+unfoldable pub indexed : File → File → File
+indexed w f = withToggle (w .toggle) (withRegister ARX (register w ARX) (brought w (indexRoads w) f))
+
+module _ (w f : File) (s : T (sound w)) (ready : Ready w f) (t : f .toggle ≡ false) where
+  three : Brings w f (indexRoads w)
+  three = roads-bring w s (indexRoads w) f ready t (indices-open w) (indices-lead w)
+
+  -- ARX too: data is due then
+  four-ready : Ready w (flipped true (withRegister ARX (register w ARX) (brought w (indexRoads w) f)))
+  unfolding loose isOneOf
+  four-ready =
+      ready-flipped w (withRegister ARX (register w ARX) (brought w (indexRoads w) f)) true
+      (ready-with w (brought w (indexRoads w) f) ARX (register w ARX) (three .ready) tt (wanted-within w ARX s))
+
+  pub indices-run : Runs f (indices w) (indexed w f)
+  unfolding indices indexed flips flipped brought withRegister withRegisters withToggle
+  indices-run =
+      then (along w (indexRoads w)) (write toARX (register w ARX) ∷ portRead (cond (w .toggle) 0x3C0 (byHalf w 0x3BA 0x3DA)) ∷ [])
+      f (brought w (indexRoads w) f) (indexed w f) (three .runs)
+      (then (write toARX (register w ARX) ∷ []) (portRead (cond (w .toggle) 0x3C0 (byHalf w 0x3BA 0x3DA)) ∷ [])
+      (brought w (indexRoads w) f) (flipped true (withRegister ARX (register w ARX) (brought w (indexRoads w) f))) (indexed w f)
+      (ready-runs w (brought w (indexRoads w) f) toARX (register w ARX) (three .ready) (arx-leads (brought w (indexRoads w) f) t) (wanted-within w ARX s))
+      (toggle-runs w (flipped true (withRegister ARX (register w ARX) (brought w (indexRoads w) f))) (w .toggle) four-ready (ap not t)))
+
+  pub indexed-ready : Ready w (indexed w f)
+  unfolding indexed flipped withToggle
+  indexed-ready = ready-as w (flipped true (withRegister ARX (register w ARX) (brought w (indexRoads w) f))) (indexed w f) refl (pointer-sound _ (four-ready .isSound)) four-ready
+
+-- ---- closing
+
+unfoldable pub closed : File → File → File
+closed w f =
+    withRegister PCI04 (register w PCI04) (withRegister CR11 (register w CR11) (withRegister B0 (register w B0) (withPointer (w .pointer) f)))
+
+-- a sound pointer before red holds nothing
+before-red : (w : File) → T (sound w) → w .pointer .next ≡ 0 → addressed (w .pointer .reading) (w .pointer .address) ≡ w .pointer
+unfolding addressed pointerSound
+before-red w s e =
+    let nothing : T (eqb (w .pointer .green) 0 && eqb (w .pointer .red) 0) = rw e at (pointer-sound w s) in
+    let red = eqb→eq (w .pointer .red) 0 (right (eqb (w .pointer .green) 0) (eqb (w .pointer .red) 0) nothing) in
+    let green = eqb→eq (w .pointer .green) 0 (left (eqb (w .pointer .green) 0) (eqb (w .pointer .red) 0) nothing) in
+    λ i. record { address = w .pointer .address; reading = w .pointer .reading; next = sym e i; red = sym red i; green = sym green i }
+
+module _ (w f : File) (s : T (sound w)) (red : w .pointer .next ≡ 0) (small : w .pointer .address < 256) (ready : Ready w f) where
+  abbrev pointed : File
+  pointed = withPointer (w .pointer) f
+
+  pointed-ready : Ready w pointed
+  unfolding withPointer
+  pointed-ready = ready-as w f pointed refl (pointer-sound w s) ready
+
+  b0-ready : Ready w (withRegister B0 (register w B0) pointed)
+  unfolding loose isOneOf
+  b0-ready = ready-with w pointed B0 (register w B0) pointed-ready tt (wanted-within w B0 s)
+
+  pub closing-runs : Runs f (closing w) (closed w f)
+  unfolding closing closed along selecting flips flipped
+  closing-runs =
+      then (mmioWrite (cond (w .pointer .reading) 0xA4 0xA8) (w .pointer .address) ∷ []) (along w (toB0 ∷ toCR11 ∷ toPCI04 ∷ []))
+      f pointed (closed w f)
+      (subst (λ (p : Pointer). Runs f (mmioWrite (cond (w .pointer .reading) 0xA4 0xA8) (w .pointer .address) ∷ []) (withPointer p f)) (before-red w s red)
+      (address-runs f (w .pointer .reading) (w .pointer .address) (ready .isSound) (ready .on) small))
+      (then (write toB0 (register w B0) ∷ []) (write toCR11 (register w CR11) ∷ write toPCI04 (register w PCI04) ∷ [])
+      pointed (withRegister B0 (register w B0) pointed) (closed w f)
+      (ready-runs w pointed toB0 (register w B0) pointed-ready (singles-lead (viewOf pointed) .b0) (wanted-within w B0 s))
+      (then (write toCR11 (register w CR11) ∷ []) (write toPCI04 (register w PCI04) ∷ [])
+      (withRegister B0 (register w B0) pointed) (withRegister CR11 (register w CR11) (withRegister B0 (register w B0) pointed)) (closed w f)
+      (ready-runs w (withRegister B0 (register w B0) pointed) toCR11 (register w CR11) b0-ready
+      (singles-lead (viewOf (withRegister B0 (register w B0) pointed)) .cr11) (wanted-within w CR11 s))
+      (config-runs (withRegister CR11 (register w CR11) (withRegister B0 (register w B0) pointed)) (register w PCI04)
+      (with-sound (withRegister B0 (register w B0) pointed) CR11 (register w CR11) (b0-ready .isSound) (wanted-within w CR11 s))
+      (wanted-within w PCI04 s))))
