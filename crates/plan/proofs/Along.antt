@@ -216,6 +216,22 @@ select-length (ar m) registers = refl
 select-length indexDue registers = refl
 select-length (dataDue m) registers = length-set registers ARX m
 
+-- as many registers as before
+pub after-length : (w : File) (roads : List Road) (registers : List ℕ) → length (afterRoads w roads registers) ≡ length registers
+unfolding afterRoads
+after-length w [] registers = refl
+after-length w (road ∷ roads) registers =
+    after-length w roads (set (afterSelecting (road .index) registers) (road .register) (register w (road .register)))
+    ∙ length-set (afterSelecting (road .index) registers) (road .register) (register w (road .register))
+    ∙ select-length (road .index) registers
+
+-- one list of roads behind another
+pub after-append : (w : File) (a b : List Road) (registers : List ℕ) → afterRoads w (a ++ b) registers ≡ afterRoads w b (afterRoads w a registers)
+unfolding afterRoads
+after-append w [] b registers = refl
+after-append w (road ∷ a) b registers =
+    after-append w a b (set (afterSelecting (road .index) registers) (road .register) (register w (road .register)))
+
 -- whether a register holds its wanted value after some roads, if it did or did not before
 unfoldable pub settles : List Road → ℕ → Bool → Bool
 settles [] n held = held

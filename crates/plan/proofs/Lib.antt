@@ -7,3 +7,4 @@ pub mod Along
 pub mod Colours
 pub mod Toggled
 pub mod Stages
+pub mod Restored

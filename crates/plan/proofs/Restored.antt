@@ -1,0 +1,114 @@
+-- Demand 3: from every sound start, each record of the plan is accepted and the run ends in the wanted file.
+-- Assumes nothing.
+use Prim.Native.Nat.{ℕ, zero, suc, _+_, _*_, _≤_, _<_}
+use mathlib.Core.Path.{_≡_, refl, sym, ap, ap₂, _∙_, subst}
+use mathlib.Core.Bool.{Bool, true, false, cond, not, _&&_, _||_}
+use mathlib.Core.List.{List, [], _∷_, _++_}
+use native.Mathlib.Omega.{arith}
+use borrow.Author.Tests.{eqb-true, eqb-false}
+use lib.Dec.{T, eqb, lit<, lit≤, eqb→eq, lt→ltb}
+use lib.ListN.{getD, set, length, length-set, length-append}
+use lib.Seq.{ext-getD}
+use Rattle.bits.proofs.Test.{left, right, both, by-test, passes}
+use Rattle.file.specs.declared.palette.Colour.{Colour}
+use Rattle.file.specs.declared.palette.Pointer.{Pointer}
+use Rattle.file.specs.declared.registers.File.{File}
+use Rattle.file.specs.File.{register, withRegisters, withPointer, withToggle}
+use Rattle.file.specs.Names.{MISC, ARX, PCI04, CR11, B0}
+use Rattle.file.specs.Registers.{sequencer, crtc, graphics, attribute, pipeline}
+use Rattle.file.specs.Sound.{sound}
+use Rattle.access.specs.declared.record.Record.{Record}
+use Rattle.access.specs.Checks.{isOneOf}
+use Rattle.plan.specs.Roads.{Road, toPCI04, toCR11, toB0, toARX, eachRoad, but, registerRoads, indexRoads}
+use Rattle.plan.specs.Plan.{selecting, along, opening, pixels, entries, colours, indices, closing, planRecords}
+use Rattle.plan.specs.Restores.{Runs, IsFile}
+use Rattle.plan.proofs.Along.{afterSelecting, afterRoads, brought, Brings, moves, settles, settled, after-length, after-append}
+use Rattle.plan.proofs.Composed.{then}
+use Rattle.plan.proofs.Ready.{Ready, count}
+use Rattle.plan.proofs.Stages.{opened, opening-runs, opened-ready, opened-up, coloured, colours-run, coloured-ready, registers-bring, indexed, indices-run, indexed-ready, closed, closing-runs}
+use Rattle.plan.proofs.Stored.{withRegister}
+
+-- ---- every register is named
+
+-- the roads of the last two stages
+unfoldable pub lastRoads : File → List Road
+lastRoads w = indexRoads w ++ toARX ∷ toB0 ∷ toCR11 ∷ toPCI04 ∷ []
+
+-- the roads after the colours, in the plan's order
+unfoldable pub planRoads : File → List Road
+planRoads w = registerRoads ++ lastRoads w
+
+-- a test passes at every number below another
+unfoldable pub everyBelow : (ℕ → Bool) → ℕ → Bool
+everyBelow test zero = true
+everyBelow test (suc k) = test k && everyBelow test k
+
+below : (test : ℕ → Bool) (k : ℕ) → T (everyBelow test k) → (n : ℕ) → n < k → T (test n)
+unfolding everyBelow
+below test zero t n h = absurd (omega arith)
+below test (suc k) t n h =
+    by-test (eqb n k)
+    (λ e. rw (eqb-true n k e) (left (test k) (everyBelow test k) t))
+    (λ e. below test k (right (test k) (everyBelow test k) t) n (omega (arith, eqb-false n k e)))
+
+-- after them every register holds its wanted value, if MISC did before
+all-settle : (w : File) → T (everyBelow (λ (n : ℕ). settles (planRoads w) n (eqb n MISC)) 100)
+unfolding everyBelow settles planRoads lastRoads moves registerRoads indexRoads eachRoad but isOneOf sequencer crtc graphics attribute pipeline
+all-settle w = tt
+
+-- the registers that the stages after the colours leave are the wanted ones
+registers-as-wanted : (w : File) (xs : List ℕ) → T (sound w) → length xs ≡ 100 → getD xs MISC 0 ≡ register w MISC
+    → afterRoads w (planRoads w) xs ≡ w .registers
+unfolding register
+registers-as-wanted w xs s many misc =
+    ext-getD 0 (afterRoads w (planRoads w) xs) (w .registers) (after-length w (planRoads w) xs ∙ many ∙ sym (count w s))
+    (λ n h.
+    let small : n < 100 = omega (arith, after-length w (planRoads w) xs) in
+    settled w (planRoads w) xs n (eqb n MISC) (omega arith)
+    (λ t. subst (λ (m : ℕ). getD xs m 0 ≡ getD (w .registers) m 0) (sym (eqb→eq n MISC t)) misc)
+    (below (λ (m : ℕ). settles (planRoads w) m (eqb m MISC)) 100 (all-settle w) n small))
+
+-- ---- demand 3
+
+module _ (w f : File) (ws : T (sound w)) (fs : T (sound f)) (wf : IsFile w) (red : w .pointer .next ≡ 0)
+    (many : length (f .palette) ≡ 256) (few : length (f .bank) ≡ 16) where
+  -- the file between the stages
+  abbrev first′ : File
+  first′ = opened w f
+
+  abbrev second′ : File
+  second′ = coloured w first′
+
+  abbrev third′ : File
+  third′ = brought w registerRoads second′
+
+  abbrev fourth′ : File
+  fourth′ = indexed w third′
+
+  second-ready : Ready w second′
+  unfolding opened withToggle withRegister withRegisters
+  second-ready = coloured-ready w first′ wf (opened-ready w f ws fs) (opened-up w f ws fs) many few
+
+  third-brings : Brings w second′ registerRoads
+  unfolding coloured opened withToggle
+  third-brings = registers-bring w second′ ws second-ready refl
+
+  ends-in : closed w fourth′ ≡ w
+  unfolding closed indexed brought coloured withRegister withRegisters withToggle withPointer planRoads lastRoads indexRoads afterRoads afterSelecting register
+  ends-in =
+      ap (λ (rs : List ℕ). withRegisters rs w)
+      (sym (after-append w registerRoads (lastRoads w) (second′ .registers))
+      ∙ registers-as-wanted w (second′ .registers) ws (count second′ (second-ready .isSound)) (second-ready .misc))
+
+  pub plan-restores : Runs f (planRecords w) w
+  unfolding planRecords brought withRegisters coloured opened withToggle withRegister
+  plan-restores =
+      subst (λ (g : File). Runs f (planRecords w) g) ends-in
+      (then (opening w ++ colours w ++ along w registerRoads ++ indices w) (closing w) f fourth′ (closed w fourth′)
+      (then (opening w ++ colours w ++ along w registerRoads) (indices w) f third′ fourth′
+      (then (opening w ++ colours w) (along w registerRoads) f second′ third′
+      (then (opening w) (colours w) f first′ second′ (opening-runs w f ws fs)
+      (colours-run w first′ wf (opened-ready w f ws fs) (opened-up w f ws fs) many few))
+      (third-brings .runs))
+      (indices-run w third′ ws (third-brings .ready) refl))
+      (closing-runs w fourth′ ws red (wf .address) (indexed-ready w third′ ws (third-brings .ready) refl)))
