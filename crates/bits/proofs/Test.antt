@@ -1,6 +1,6 @@
 -- Tests: joined by `&&`, chosen by, and as equations. Assumes nothing.
 use mathlib.Core.Path.{_≡_, refl, sym, subst}
-use mathlib.Core.Bool.{Bool, true, false, cond, _&&_, _||_}
+use mathlib.Core.Bool.{Bool, true, false, cond, not, _&&_, _||_}
 use lib.Dec.{T}
 
 pub left : (a b : Bool) → T (a && b) → T a
@@ -46,3 +46,12 @@ either false b t n = t
 pub second : (a b : Bool) → T b → T (a || b)
 second true b t = tt
 second false b t = t
+
+-- where two tests joined by `||` do not pass, neither does
+pub neither : (a b : Bool) → T (not (a || b)) → T (not a) × T (not b)
+neither true b t = absurd t
+neither false b t = (tt, t)
+
+pub twice : (b : Bool) → T (not (not b)) → T b
+twice true t = tt
+twice false t = absurd t

@@ -8,3 +8,5 @@ pub mod Colours
 pub mod Toggled
 pub mod Stages
 pub mod Restored
+pub mod Counted
+pub mod Fitting

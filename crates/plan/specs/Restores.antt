@@ -1,9 +1,9 @@
 -- What demand 3 says of a plan: 'accepted means code 0', and the run ends in the wanted file.
 -- Assumes nothing.
-use Prim.Native.Nat.{ℕ, _<_}
+use Prim.Native.Nat.{ℕ, _<_, _^_}
 use mathlib.Core.Path.{_≡_}
 use mathlib.Core.Bool.{Bool, true, _&&_}
-use mathlib.Core.List.{List, [], _∷_, map}
+use mathlib.Core.List.{List, [], _∷_, _++_, map}
 use lib.Dec.{T, eqb, ltb}
 use lib.ListN.{length}
 use Rattle.file.specs.declared.answer.Answer.{Answer}
@@ -14,6 +14,7 @@ use Rattle.file.specs.Answers.{codeOf}
 use Rattle.access.specs.declared.record.Item.{Item}
 use Rattle.access.specs.declared.record.Item.the-variants.{Whole}
 use Rattle.access.specs.declared.record.Record.{Record}
+use Rattle.access.specs.Records.{bytesOf}
 use Rattle.access.specs.Run.{fileAfter, answers}
 
 -- 'accepted means code 0'
@@ -28,6 +29,19 @@ allAccepted (a ∷ as′) = accepted a && allAccepted as′
 pub record Runs (f : File) (records : List Record) (g : File) : Type 0 where
   pub allDone : T (allAccepted (answers f (map Whole records)))
   pub ends : fileAfter f (map Whole records) ≡ g
+
+-- 'byte 0 kind .., byte 1 width in bytes .., bytes 2-3 address, bytes 4-7 value': each field fits its bytes
+unfoldable pub inBytes : Record → Bool
+inBytes r = ltb (r .kind) 256 && ltb (r .width) 256 && ltb (r .address) 65536 && ltb (r .value) (2 ^ 32)
+
+unfoldable pub allInBytes : List Record → Bool
+allInBytes [] = true
+allInBytes (r ∷ rs) = inBytes r && allInBytes rs
+
+-- 'A trace is records of 8 bytes, no header'
+unfoldable pub traceOf : List Record → List ℕ
+traceOf [] = []
+traceOf (r ∷ rs) = bytesOf r ++ traceOf rs
 
 -- 'a bank of 16 cursor and border colours, else one of 256; three whole bytes each'
 unfoldable pub bytes : List Colour → Bool

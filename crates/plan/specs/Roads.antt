@@ -44,7 +44,7 @@ eachRoad rule number (r ∷ rs) = rule r number ∷ eachRoad rule (suc number) r
 -- the roads of a list, but those to some registers
 unfoldable pub but : List ℕ → List Road → List Road
 but numbers [] = []
-but numbers (r ∷ rs) = cond (isOneOf numbers (r .register)) (but numbers rs) (r ∷ but numbers rs)
+but numbers (r ∷ rs) = cond (isOneOf numbers (r .register)) [] (r ∷ []) ++ but numbers rs
 
 -- what has to stand open while a plan runs: written first, and the first three of them once more at the end
 abbrev pub toPCI04 : Road
