@@ -10,3 +10,4 @@ pub mod Stages
 pub mod Restored
 pub mod Counted
 pub mod Fitting
+pub mod Typed
