@@ -1,3 +1,4 @@
 pub mod Roads
 pub mod Plan
 pub mod Restores
+pub mod Refusals

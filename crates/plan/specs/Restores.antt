@@ -1,16 +1,17 @@
 -- What demand 3 says of a plan: 'accepted means code 0', and the run ends in the wanted file.
 -- Assumes nothing.
-use Prim.Native.Nat.{ℕ, _<_, _^_}
+use Prim.Native.Nat.{ℕ, _*_, _^_, _≤_, _<_}
 use mathlib.Core.Path.{_≡_}
 use mathlib.Core.Bool.{Bool, true, _&&_}
 use mathlib.Core.List.{List, [], _∷_, _++_, map}
 use lib.Dec.{T, eqb, ltb}
-use lib.ListN.{length}
+use lib.ListN.{length, drop}
 use Rattle.file.specs.declared.answer.Answer.{Answer}
 use Rattle.file.specs.declared.palette.Colour.{Colour}
 use Rattle.file.specs.declared.palette.Pointer.{Pointer}
 use Rattle.file.specs.declared.registers.File.{File}
 use Rattle.file.specs.Answers.{codeOf}
+use Rattle.file.specs.Sound.{sound}
 use Rattle.access.specs.declared.record.Item.{Item}
 use Rattle.access.specs.declared.record.Item.the-variants.{Whole}
 use Rattle.access.specs.declared.record.Record.{Record}
@@ -55,3 +56,16 @@ pub record IsFile (f : File) : Type 0 where
   pub paletteBytes : T (bytes (f .palette))
   pub bankBytes : T (bytes (f .bank))
   pub address : f .pointer .address < 256
+
+-- demand 3: records that are a plan of a wanted file. Several are; `planRecords` is one
+pub record Plans (w : File) (records : List Record) : Type 0 where
+  pub room : length records ≤ 1024
+  pub whole : T (allInBytes records)
+  pub restores : (f : File) → IsFile f → T (sound f) → Runs f records w
+
+-- 'the plan fills the buffer's first 8 bytes times the count, and the rest stays': what a buffer holds before and after
+pub record Planned (w : File) (before after : List ℕ) (count : ℕ) : Type 0 where
+  pub records : List Record
+  pub plans : Plans w records
+  pub counted : count ≡ length records
+  pub filled : after ≡ traceOf records ++ drop (8 * count) before
