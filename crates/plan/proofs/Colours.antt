@@ -1,16 +1,16 @@
--- The stage of colours, over any run of entries of the palette or of the bank: every record is accepted, the entries hold the colours, and
--- all else but the pointer is as before. Assumes nothing.
+-- A run of entries of the palette or of the bank, from any entry on: every record is accepted, the entries hold the colours, and all else but
+-- the pointer is as before. Assumes nothing.
 use Prim.Native.Nat.{ℕ, suc, _+_, _%_, _^_, _≤_, _<_}
-use mathlib.Core.Path.{_≡_, refl, sym, ap, _∙_, subst}
+use mathlib.Core.Path.{_≡_, refl, sym, ap, ap₂, _∙_, subst}
 use mathlib.Core.Bool.{Bool, true, false, cond, not, _&&_, _||_}
-use mathlib.Core.List.{List, [], _∷_, _++_, append-nil}
+use mathlib.Core.List.{List, [], _∷_}
 use mathlib.Core.Option.{Option, some}
 use native.Mathlib.Nat.{add-zero, mod-eq-of-lt}
 use native.Mathlib.Omega.{arith}
 use borrow.Author.Tests.{lt-leb}
-use lib.Dec.{T, eqb, ltb, ltb→lt}
-use lib.ListN.{getD, length, drop-of-length-le}
-use lib.Seq.{sets, sets-eq}
+use lib.Dec.{T, eqb, leb, ltb, leb→le, ltb→lt}
+use lib.ListN.{getD, length}
+use lib.Seq.{sets}
 use Rattle.bits.specs.Store.{bit}
 use Rattle.bits.proofs.Test.{left, right, both}
 use Rattle.file.specs.declared.answer.Answer.{Answer}
@@ -134,56 +134,78 @@ entry-runs f bank entry c up h r g b =
 
 -- ---- a run of entries
 
--- the file with colours from an entry on
+-- the palette or the bank, and the file with another
+abbrev pub entriesIn : Bool → File → List Colour
+entriesIn bank f = cond bank (f .bank) (f .palette)
+
+abbrev pub withEntries : Bool → List Colour → File → File
+withEntries bank cs f = cond bank (withBank cs f) (withPalette cs f)
+
+-- the file with colours from an entry on: all else is as before
 unfoldable pub painted : Bool → ℕ → List Colour → File → File
-painted bank first [] f = f
-painted bank first (c ∷ cs) f = painted bank (suc first) cs (paintIn bank first c f)
+painted bank first cs f = withEntries bank (sets (entriesIn bank f) first cs) f
+
+painted-none : (bank : Bool) (first : ℕ) (f : File) → f ≡ painted bank first [] f
+unfolding painted withBank withPalette
+painted-none true first f = refl
+painted-none false first f = refl
+
+painted-next : (bank : Bool) (first : ℕ) (c : Colour) (cs : List Colour) (f : File)
+    → painted bank (suc first) cs (paintIn bank first c f) ≡ painted bank first (c ∷ cs) f
+unfolding painted paintIn withBank withPalette
+painted-next true first c cs f = refl
+painted-next false first c cs f = refl
+
+pub painted-registers : (bank : Bool) (first : ℕ) (cs : List Colour) (f : File) → painted bank first cs f .registers ≡ f .registers
+unfolding painted withBank withPalette
+painted-registers true first cs f = refl
+painted-registers false first cs f = refl
 
 pixels-run : (cs : List Colour) (f : File) (bank : Bool) (first : ℕ) → Up (f .registers) bank → first + length cs ≤ size bank → T (bytes cs)
     → Runs (withPointer (addressed false (first % 256)) f) (pixels cs)
     (withPointer (addressed false ((first + length cs) % 256)) (painted bank first cs f))
-unfolding pixels painted bytes
+unfolding pixels bytes
 pixels-run [] f bank first up h t =
-    subst (λ (n : ℕ). Runs (withPointer (addressed false (first % 256)) f) [] (withPointer (addressed false (n % 256)) f)) (sym (add-zero first))
+    subst (λ (g : File). Runs (withPointer (addressed false (first % 256)) f) [] g)
+    (ap₂ (λ (n : ℕ) (g : File). withPointer (addressed false (n % 256)) g) (sym (add-zero first)) (painted-none bank first f))
     (none (withPointer (addressed false (first % 256)) f))
 pixels-run (c ∷ cs) f bank first up h t =
     then (mmioWrite 0xAC (c .red) ∷ mmioWrite 0xAC (c .green) ∷ mmioWrite 0xAC (c .blue) ∷ []) (pixels cs)
     (withPointer (addressed false (first % 256)) f) (withPointer (addressed false (suc first % 256)) (paintIn bank first c f))
-    (withPointer (addressed false ((first + suc (length cs)) % 256)) (painted bank (suc first) cs (paintIn bank first c f)))
+    (withPointer (addressed false ((first + suc (length cs)) % 256)) (painted bank first (c ∷ cs) f))
     (entry-runs f bank first c up (omega arith) (ltb→lt (c .red) 256 (search (left, right))) (ltb→lt (c .green) 256 (search (left, right)))
     (ltb→lt (c .blue) 256 (search (left, right))))
-    (subst (λ (n : ℕ). Runs (withPointer (addressed false (suc first % 256)) (paintIn bank first c f)) (pixels cs)
-    (withPointer (addressed false (n % 256)) (painted bank (suc first) cs (paintIn bank first c f)))) along′
+    (subst (λ (g : File). Runs (withPointer (addressed false (suc first % 256)) (paintIn bank first c f)) (pixels cs) g)
+    (ap₂ (λ (n : ℕ) (g : File). withPointer (addressed false (n % 256)) g) onward (painted-next bank first c cs f))
     (pixels-run cs (paintIn bank first c f) bank (suc first) (subst (λ (rs : List ℕ). Up rs bank) (sym (paint-keeps f bank first c)) up)
     (omega arith) (search (left, right))))
   where
-    along′ : suc first + length cs ≡ first + suc (length cs)
-    along′ = omega arith
+    onward : suc first + length cs ≡ first + suc (length cs)
+    onward = omega arith
 
--- any run of entries: every record is accepted, and the entries hold the colours
-pub entries-run : (cs : List Colour) (f : File) (bank : Bool) (first : ℕ) → T (sound f) → Up (f .registers) bank → first < 256
-    → first + length cs ≤ size bank → T (bytes cs)
-    → Runs f (entries first cs) (withPointer (addressed false ((first + length cs) % 256)) (painted bank first cs f))
-unfolding entries On register
-entries-run cs f bank first s up small h t =
-    then (mmioWrite 0xA8 first ∷ []) (pixels cs) f (withPointer (addressed false (first % 256)) f)
-    (withPointer (addressed false ((first + length cs) % 256)) (painted bank first cs f))
-    (rw (mod-eq-of-lt small) (address-runs f false first s (up .on) small)) (pixels-run cs f bank first up h t)
+-- a run of entries from one on
+pub record Run : Type 0 where
+  pub first : ℕ
+  pub colours : List Colour
 
--- all else is as before: the entries in front of the run and behind it, and the other list
-pub painted-palette : (cs : List Colour) (f : File) (first : ℕ) → painted false first cs f ≡ withPalette (sets (f .palette) first cs) f
-unfolding painted paintIn withPalette
-painted-palette [] f first = refl
-painted-palette (c ∷ cs) f first = painted-palette cs (paintIn false first c f) (suc first)
+-- it lies within the palette or the bank
+unfoldable pub inRange : Bool → Run → Bool
+inRange bank run = ltb (run .first) 256 && leb (run .first + length (run .colours)) (size bank) && bytes (run .colours)
 
-pub painted-bank : (cs : List Colour) (f : File) (first : ℕ) → painted true first cs f ≡ withBank (sets (f .bank) first cs) f
-unfolding painted paintIn withBank
-painted-bank [] f first = refl
-painted-bank (c ∷ cs) f first = painted-bank cs (paintIn true first c f) (suc first)
+-- the file after it
+unfoldable pub afterRun : Bool → Run → File → File
+afterRun bank run f =
+    withPointer (addressed false ((run .first + length (run .colours)) % 256)) (painted bank (run .first) (run .colours) f)
 
--- a run of all entries leaves none of the old ones
-pub sets-all : (old new : List Colour) → length old ≡ length new → sets old 0 new ≡ new
-sets-all old new e =
-    sets-eq new old 0 (omega arith)
-    ∙ ap (λ (l : List Colour). new ++ l) (drop-of-length-le old {i = 0 + length new} (omega arith))
-    ∙ append-nil new
+-- every record of a run is accepted, and its entries hold its colours
+pub run-runs : (run : Run) (f : File) (bank : Bool) → T (sound f) → Up (f .registers) bank → T (inRange bank run)
+    → Runs f (entries (run .first) (run .colours)) (afterRun bank run f)
+unfolding entries inRange afterRun On register
+run-runs run f bank s up t =
+    then (mmioWrite 0xA8 (run .first) ∷ []) (pixels (run .colours)) f (withPointer (addressed false (run .first % 256)) f) (afterRun bank run f)
+    (rw (mod-eq-of-lt small) (address-runs f false (run .first) s (up .on) small))
+    (pixels-run (run .colours) f bank (run .first) up (leb→le (run .first + length (run .colours)) (size bank) (search (left, right)))
+    (search (left, right)))
+  where
+    small : run .first < 256
+    small = ltb→lt (run .first) 256 (search (left, right))

@@ -5,6 +5,7 @@ pub mod Stored
 pub mod Ready
 pub mod Along
 pub mod Colours
+pub mod Entries
 pub mod Toggled
 pub mod Stages
 pub mod Restored

@@ -5,7 +5,7 @@ use mathlib.Core.Path.{_≡_, refl, sym, ap, ap₂, _∙_, subst}
 use mathlib.Core.Bool.{Bool, true, false, cond, not, _&&_, _||_}
 use mathlib.Core.List.{List, [], _∷_, _++_}
 use native.Mathlib.Omega.{arith}
-use lib.Dec.{T, eqb, leb, lit<, eqb→eq}
+use lib.Dec.{T, eqb, leb, le→leb, lit<, eqb→eq}
 use lib.ListN.{getD, set, length}
 use Rattle.bits.specs.Store.{bit, store, within}
 use Rattle.bits.proofs.Bit.{bit-lt}
@@ -22,11 +22,12 @@ use Rattle.file.proofs.Soundness.{registers-sound, pointer-sound}
 use Rattle.access.specs.Checks.{isPort, isMmio, isOneOf, spaceOff}
 use Rattle.plan.specs.Roads.{Road, toPCI04, toCR11, toB0, toMISC, toSRX, toGRX, toARX, toCRX, registerRoads, indexRoads, eachRoad, but, byHalf}
 use Rattle.plan.specs.Plan.{write, mmioWrite, portRead, selecting, toIndex, along, opening, entries, colours, indices, closing}
-use Rattle.plan.specs.Restores.{Runs, IsFile}
+use Rattle.plan.specs.Restores.{Runs, IsFile, bytes}
 use Rattle.plan.proofs.Along.{brought, open′, selectable, Lead, Brings, roads-bring, arx-leads}
 use Rattle.plan.proofs.Asked.{View, viewOf}
-use Rattle.plan.proofs.Colours.{Up, entries-run, painted, painted-palette, painted-bank, sets-all, address-runs}
+use Rattle.plan.proofs.Colours.{Up, size, entriesIn, withEntries, painted, Run, inRange, afterRun, run-runs, address-runs}
 use Rattle.plan.proofs.Composed.{one, then}
+use Rattle.plan.proofs.Entries.{sets-all}
 use Rattle.plan.proofs.Leads.{flips, seen, leads, everyRoad, leading, singles-lead, registers-lead, crx-leads}
 use Rattle.plan.proofs.Ready.{On, Ready, at-any, with-sound, wanted-within, beyond-lock, unlocked-free, on-runs, ready-runs, ready-with, ready-flipped, loose}
 use Rattle.plan.proofs.Stored.{withRegister, flipped, road-stores}
@@ -152,40 +153,30 @@ ready-as w f g e p ready =
       misc = ap (λ (rs : List ℕ). getD rs MISC 0) e ∙ ready .misc;
     }
 
-module _ (w f : File) (wf : IsFile w) (ready : Ready w f) where
-  -- the palette
-  palette-runs : register f B0 ≡ 0x00 → length (f .palette) ≡ 256
-      → Runs f (entries 0 (w .palette)) (withPointer (addressed false 0) (withPalette (w .palette) f))
-  unfolding On register bit
-  palette-runs b0 many =
-      subst (λ (g : File). Runs f (entries 0 (w .palette)) g)
-      (ap₂ (λ (a : ℕ) (g : File). withPointer (addressed false a) g) around
-      (painted-palette (w .palette) f 0 ∙ ap (λ (cs : List Colour). withPalette cs f) (sets-all (f .palette) (w .palette) (many ∙ sym (wf .palette)))))
-      (entries-run (w .palette) f false 0 (ready .isSound)
-      (record { sound′ = registers-sound f (ready .isSound); on = ready .on; up = rw b0; chosen = rw b0 }) (lit< tt) room (wf .paletteBytes))
-    where
-      around : (0 + length (w .palette)) % 256 ≡ 0
-      around = omega (arith, wf .palette)
+-- B0 with the palette up, and the palette or the bank chosen
+abbrev choosing : Bool → ℕ
+choosing bank = cond bank 0x08 0x00
 
-      room : 0 + length (w .palette) ≤ 256
-      room = omega (arith, wf .palette)
+chosen-up : (bank : Bool) (registers : List ℕ) → T (allWithin storedTable registers) → getD registers PCI04 0 ≡ 0x0003
+    → getD registers B0 0 ≡ choosing bank → Up registers bank
+unfolding bit
+chosen-up true registers s on b0 = record { sound′ = s; on = on; up = rw b0; chosen = rw b0 }
+chosen-up false registers s on b0 = record { sound′ = s; on = on; up = rw b0; chosen = rw b0 }
 
-  -- the bank
-  bank-runs : register f B0 ≡ 0x08 → length (f .bank) ≡ 16
-      → Runs f (entries 0 (w .bank)) (withPointer (addressed false 16) (withBank (w .bank) f))
-  unfolding On register bit
-  bank-runs b0 many =
-      subst (λ (g : File). Runs f (entries 0 (w .bank)) g)
-      (ap₂ (λ (a : ℕ) (g : File). withPointer (addressed false a) g) around
-      (painted-bank (w .bank) f 0 ∙ ap (λ (cs : List Colour). withBank cs f) (sets-all (f .bank) (w .bank) (many ∙ sym (wf .bank)))))
-      (entries-run (w .bank) f true 0 (ready .isSound)
-      (record { sound′ = registers-sound f (ready .isSound); on = ready .on; up = rw b0; chosen = rw b0 }) (lit< tt) room (wf .bankBytes))
-    where
-      around : (0 + length (w .bank)) % 256 ≡ 16
-      around = omega (arith, wf .bank)
-
-      room : 0 + length (w .bank) ≤ 16
-      room = omega (arith, wf .bank)
+-- all entries, from the first on
+all-run : (w f : File) (bank : Bool) (new : List Colour) → Ready w f → register f B0 ≡ choosing bank
+    → length (entriesIn bank f) ≡ size bank → length new ≡ size bank → T (bytes new)
+    → Runs f (entries 0 new) (withPointer (addressed false (size bank % 256)) (withEntries bank new f))
+unfolding On register afterRun painted inRange
+all-run w f bank new ready b0 old many t =
+    subst (λ (g : File). Runs f (entries 0 new) g)
+    (ap₂ (λ (a : ℕ) (l : List Colour). withPointer (addressed false (a % 256)) (withEntries bank l f)) total (sets-all (entriesIn bank f) new (old ∙ sym many)))
+    (run-runs (record { first = 0; colours = new }) f bank (ready .isSound)
+    (chosen-up bank (f .registers) (registers-sound f (ready .isSound)) (ready .on) b0)
+    (both (leb (0 + length new) (size bank)) (bytes new) (le→leb (0 + length new) (size bank) (omega (arith, many))) t))
+  where
+    total : 0 + length new ≡ size bank
+    total = omega (arith, many)
 
 module _ (w f : File) (wf : IsFile w) (ready : Ready w f) (b0 : register f B0 ≡ 0x00) (many : length (f .palette) ≡ 256) (few : length (f .bank) ≡ 16) where
   -- between the two
@@ -203,10 +194,11 @@ module _ (w f : File) (wf : IsFile w) (ready : Ready w f) (b0 : register f B0 �
   pub colours-run : Runs f (colours w) (coloured w f)
   unfolding colours coloured flips flipped storedBits storedTable registers singles sequencer crtc graphics attribute pipeline within store withRegister withRegisters withPointer withPalette withBank
   colours-run =
-      then (entries 0 (w .palette)) (write toB0 0x08 ∷ entries 0 (w .bank)) f half (coloured w f) (palette-runs w f wf ready b0 many)
+      then (entries 0 (w .palette)) (write toB0 0x08 ∷ entries 0 (w .bank)) f half (coloured w f) (all-run w f false (w .palette) ready b0 many (wf .palette) (wf .paletteBytes))
       (then (write toB0 0x08 ∷ []) (entries 0 (w .bank)) half (withRegister B0 0x08 half) (coloured w f)
       (ready-runs w half toB0 0x08 half-ready (singles-lead (viewOf half) .b0) tt)
-      (bank-runs w (withRegister B0 0x08 half) wf switched-ready (at-any half B0 0x08 B0 (half-ready .isSound) (lit< tt)) few))
+      (all-run w (withRegister B0 0x08 half) true (w .bank) switched-ready (at-any half B0 0x08 B0 (half-ready .isSound) (lit< tt)) few
+      (wf .bank) (wf .bankBytes)))
 
   pub coloured-ready : Ready w (coloured w f)
   unfolding coloured withRegister withRegisters withPointer withPalette addressed pointerSound
