@@ -2,11 +2,10 @@
 -- before, but for the index registers that the roads move. Assumes nothing.
 use Prim.Native.Nat.{ℕ, _<_}
 use mathlib.Core.Path.{_≡_, refl, sym, ap, _∙_, subst}
-use mathlib.Core.Bool.{Bool, true, false, cond, not, _&&_, _||_}
+use mathlib.Core.Bool.{Bool, true, false, not, _&&_, _||_}
 use mathlib.Core.List.{List, [], _∷_, _++_, append-assoc}
-use native.Mathlib.Omega.{arith}
 use borrow.Author.Tests.{eqb-true, eqb-false}
-use lib.Dec.{T, eqb, leb, T-not, eqb→eq, eqb-refl, lit<}
+use lib.Dec.{T, eqb, T-not, eqb-refl, lit<}
 use lib.ListN.{getD, set, length, length-set}
 use lib.Seq.{getD-set-same, getD-set-other}
 use Rattle.bits.specs.Store.{within}
@@ -25,7 +24,7 @@ use Rattle.plan.specs.Restores.{Runs}
 use Rattle.plan.proofs.Asked.{View, viewOf}
 use Rattle.plan.proofs.Composed.{none, then}
 use Rattle.plan.proofs.Leads.{flips, seen, leads, everyRoad, leading, singles-lead}
-use Rattle.plan.proofs.Ready.{Ready, at-same, at-other, view-with, wanted-within, ready-runs, loose, ready-with, ready-flipped}
+use Rattle.plan.proofs.Ready.{Ready, view-with, wanted-within, ready-runs, loose, ready-with, ready-flipped}
 use Rattle.plan.proofs.Stored.{withRegister, flipped}
 
 -- ---- selecting an index
@@ -68,8 +67,8 @@ pub record Selected (w f : File) (i : Index) : Type 0 where
 -- by the index register's own road
 select-by : (w f : File) (to : Road) (n : ℕ) → Ready w f → T (leads (viewOf f) to) → T (loose (to .register)) → T (within (storedBits (to .register)) n)
     → Runs f (write to n ∷ []) (flipped (flips (to .index)) (withRegister (to .register) n f)) × Ready w (flipped (flips (to .index)) (withRegister (to .register) n f))
-select-by w f to n ready l free within′ =
-    (ready-runs w f to n ready l within′, ready-flipped w (withRegister (to .register) n f) (flips (to .index)) (ready-with w f (to .register) n ready free within′))
+select-by w f to n ready l free fit =
+    (ready-runs w f to n ready l fit, ready-flipped w (withRegister (to .register) n f) (flips (to .index)) (ready-with w f (to .register) n ready free fit))
 
 select : (w f : File) (i : Index) → Ready w f → f .toggle ≡ false → T (selectable i) → Selected w f i
 unfolding selecting selected afterSelecting selectable flips flipped loose isOneOf withRegister withRegisters withToggle register seen viewOf
@@ -103,8 +102,8 @@ unfoldable pub brought : File → List Road → File → File
 brought w roads f = withRegisters (afterRoads w roads (f .registers)) f
 
 -- a road that a ready file may go
-unfoldable pub open′ : Road → Bool
-open′ road = selectable (road .index) && loose (road .register)
+unfoldable pub passable : Road → Bool
+passable road = selectable (road .index) && loose (road .register)
 
 -- its index selected, the register stored: the toggle is back where it was
 road-ends : (w f : File) (i : Index) (number value : ℕ) → f .toggle ≡ false → T (selectable i)
@@ -129,9 +128,9 @@ pub record Brings (w f : File) (roads : List Road) : Type 0 where
 
 module _ (w : File) (s : T (sound w)) where
   -- one road
-  road-brings : (f : File) (road : Road) → Ready w f → f .toggle ≡ false → T (open′ road) → T (leads (seen (road .index) (viewOf f)) road)
+  road-brings : (f : File) (road : Road) → Ready w f → f .toggle ≡ false → T (passable road) → T (leads (seen (road .index) (viewOf f)) road)
       → Brings w f (road ∷ [])
-  unfolding along brought afterRoads open′
+  unfolding along brought afterRoads passable
   road-brings f road ready t o l =
       record {
         runs =
@@ -164,13 +163,13 @@ module _ (w : File) (s : T (sound w)) where
           (ready-with w (selected (road .index) f) (road .register) (register w (road .register)) (sel .ready) (search (left, right)) fit)
 
   -- any list of roads
-  pub roads-bring : (roads : List Road) (f : File) → Ready w f → f .toggle ≡ false → T (everyRoad open′ roads) → Lead w roads → Brings w f roads
+  pub roads-bring : (roads : List Road) (f : File) → Ready w f → f .toggle ≡ false → T (everyRoad passable roads) → Lead w roads → Brings w f roads
   unfolding along brought afterRoads everyRoad leading viewOf withRegisters
   roads-bring [] f ready t o lead = record { runs = none f; ready = ready }
   roads-bring (road ∷ roads) f ready t o lead =
-      let first = road-brings f road ready t (left (open′ road) (everyRoad open′ roads) o)
+      let first = road-brings f road ready t (left (passable road) (everyRoad passable roads) o)
       (left (leads (seen (road .index) (viewOf f)) road) _ (lead (viewOf f) (ready .misc))) in
-      let rest = roads-bring roads (brought w (road ∷ []) f) (first .ready) t (right (open′ road) (everyRoad open′ roads) o)
+      let rest = roads-bring roads (brought w (road ∷ []) f) (first .ready) t (right (passable road) (everyRoad passable roads) o)
       (λ v e. right (leads (seen (road .index) v) road) _ (lead v e)) in
       record {
         runs =

@@ -1,13 +1,12 @@
 -- A record that passes the checks is answered by its place; and a lookup goes by the index registers, MISC and the toggle alone.
 -- Assumes nothing.
 use Prim.Native.Nat.{ℕ}
-use mathlib.Core.Path.{_≡_, refl, sym, ap, _∙_}
-use mathlib.Core.Bool.{Bool, true, false, cond, not, _&&_}
+use mathlib.Core.Path.{_≡_, refl}
+use mathlib.Core.Bool.{Bool, true, false}
 use mathlib.Core.List.{List, [], _∷_}
-use mathlib.Core.Option.{Option, none, some}
+use mathlib.Core.Option.{some}
 use lib.Dec.{T, eqb}
 use Rattle.bits.proofs.Test.{is-true}
-use Rattle.file.specs.declared.answer.Answer.{Answer}
 use Rattle.file.specs.declared.answer.Answer.the-variants.{Done}
 use Rattle.file.specs.declared.registers.File.{File}
 use Rattle.file.specs.Answers.{codeOf, refused}
@@ -16,7 +15,6 @@ use Rattle.file.specs.File.{register}
 use Rattle.file.specs.Names.{MISC, SRX, CRX, GRX, ARX}
 use Rattle.file.specs.Palette.{addressed}
 use Rattle.file.specs.Sound.{sound}
-use Rattle.access.specs.declared.access.Accessed.{Accessed}
 use Rattle.access.specs.declared.record.Record.{Record}
 use Rattle.access.specs.Access.{answerAt, effectAt, answer, effect, access}
 use Rattle.access.specs.Checks.{isWrite, checks, firstRefusal, notSound, malformed, spaceOff, noRow, notHeld, otherHalf, otherWidth, wrongWidth}

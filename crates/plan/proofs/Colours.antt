@@ -1,10 +1,10 @@
 -- A run of entries of the palette or of the bank, from any entry on: every record is accepted, the entries hold the colours, and all else but
 -- the pointer is as before. Assumes nothing.
-use Prim.Native.Nat.{ℕ, suc, _+_, _%_, _^_, _≤_, _<_}
+use Prim.Native.Nat.{ℕ, suc, _+_, _%_, _≤_, _<_}
 use mathlib.Core.Path.{_≡_, refl, sym, ap, ap₂, _∙_, subst}
-use mathlib.Core.Bool.{Bool, true, false, cond, not, _&&_, _||_}
+use mathlib.Core.Bool.{Bool, true, false, cond, _&&_}
 use mathlib.Core.List.{List, [], _∷_}
-use mathlib.Core.Option.{Option, some}
+use mathlib.Core.Option.{some}
 use native.Mathlib.Nat.{add-zero, mod-eq-of-lt}
 use native.Mathlib.Omega.{arith}
 use borrow.Author.Tests.{lt-leb}
@@ -13,7 +13,6 @@ use lib.ListN.{getD, length}
 use lib.Seq.{sets}
 use Rattle.bits.specs.Store.{bit}
 use Rattle.bits.proofs.Test.{left, right, both}
-use Rattle.file.specs.declared.answer.Answer.{Answer}
 use Rattle.file.specs.declared.answer.Answer.the-variants.{Done}
 use Rattle.file.specs.declared.palette.Colour.{Colour}
 use Rattle.file.specs.declared.palette.Pointer.{Pointer}
@@ -28,14 +27,13 @@ use Rattle.file.specs.Sound.{allWithin, sound}
 use Rattle.file.proofs.Soundness.{paint-keeps}
 use Rattle.access.specs.declared.place.Place.{Place}
 use Rattle.access.specs.declared.place.Place.the-variants.{ReadAddress, WriteAddress, PixelData}
-use Rattle.access.specs.declared.record.Record.{Record}
-use Rattle.access.specs.Access.{paletteUp, inBank, entryNumber, answerAt, pixelWrite, writeAt, effectAt, answer, access}
+use Rattle.access.specs.Access.{paletteUp, inBank, entryNumber, answerAt, pixelWrite, writeAt, effectAt, answer}
 use Rattle.access.specs.Checks.{isWrite, isPort, malformed, otherHalf}
 use Rattle.access.specs.Lookup.{selects, fits, first, rowOf}
 use Rattle.access.specs.Places.{Row, any, places, each, attributePorts, generalPorts, crtcPorts, pipelinePlace, mmioPlaces, pciPlaces}
 use Rattle.plan.specs.Plan.{mmioWrite, pixels, entries}
 use Rattle.plan.specs.Restores.{accepted, Runs, bytes}
-use Rattle.plan.proofs.Asked.{Passes, asked, does}
+use Rattle.plan.proofs.Asked.{asked, does}
 use Rattle.plan.proofs.Composed.{none, one, then}
 use Rattle.plan.proofs.Ready.{On, spaces-on}
 
@@ -69,7 +67,7 @@ address-runs f false value s on h = byte-runs f 0xA8 value WriteAddress s on h r
 
 -- registers that let colours through: both spaces on, the palette up, the palette or the bank chosen
 pub record Up (registers : List ℕ) (bank : Bool) : Type 0 where
-  pub sound′ : T (allWithin storedTable registers)
+  pub registersSound : T (allWithin storedTable registers)
   pub on : getD registers PCI04 0 ≡ 0x0003
   pub up : eqb (bit 7 (getD registers B0 0)) 0 ≡ true
   pub chosen : eqb (bit 3 (getD registers B0 0)) 1 ≡ bank
@@ -78,12 +76,12 @@ pixel-runs : (f : File) (bank : Bool) (p : Pointer) (value : ℕ) → Up (f .reg
     → Runs (withPointer p f) (mmioWrite 0xAC value ∷ []) (apply (pixelWrite (withPointer p f) value) (withPointer p f))
 unfolding rowOf first fits selects places each attributePorts generalPorts crtcPorts pipelinePlace mmioPlaces pciPlaces sequencer crtc graphics attribute pipeline answerAt writeAt sound withPointer paletteUp register On
 pixel-runs f bank p value up t h =
-    byte-runs (withPointer p f) 0xAC value PixelData (both (allWithin storedTable (f .registers)) (pointerSound p) (up .sound′) t) (up .on) h refl
+    byte-runs (withPointer p f) 0xAC value PixelData (both (allWithin storedTable (f .registers)) (pointerSound p) (up .registersSound) t) (up .on) h refl
     (rw (up .up))
 
 -- where the pointer stands among the three
-abbrev within′ : ℕ → ℕ → ℕ → ℕ → Pointer
-within′ address next red green = record { address = address; reading = false; next = next; red = red; green = green }
+abbrev between : ℕ → ℕ → ℕ → ℕ → Pointer
+between address next red green = record { address = address; reading = false; next = next; red = red; green = green }
 
 -- how many entries there are
 abbrev pub size : Bool → ℕ
@@ -103,12 +101,12 @@ repainted false entry c p q f = refl
 
 -- what the third byte leaves
 third-leaves : (f : File) (bank : Bool) (entry : ℕ) (c : Colour) → Up (f .registers) bank → entry < size bank
-    → apply (pixelWrite (withPointer (within′ (entry % 256) 2 (c .red) (c .green)) f) (c .blue)) (withPointer (within′ (entry % 256) 2 (c .red) (c .green)) f)
+    → apply (pixelWrite (withPointer (between (entry % 256) 2 (c .red) (c .green)) f) (c .blue)) (withPointer (between (entry % 256) 2 (c .red) (c .green)) f)
     ≡ withPointer (addressed false (suc entry % 256)) (paintIn bank entry c f)
 unfolding pixelWrite stores afterWrite moved mixed apply withPointer addressed inBank entryNumber register
 third-leaves f bank entry c up h =
-    rw (up .chosen, entry-at bank entry h) (ap (λ (a : ℕ). withPointer (addressed false a) (paintIn bank entry c (withPointer (within′ (entry % 256) 2 (c .red) (c .green)) f))) next
-    ∙ repainted bank entry c (within′ (entry % 256) 2 (c .red) (c .green)) (addressed false (suc entry % 256)) f)
+    rw (up .chosen, entry-at bank entry h) (ap (λ (a : ℕ). withPointer (addressed false a) (paintIn bank entry c (withPointer (between (entry % 256) 2 (c .red) (c .green)) f))) next
+    ∙ repainted bank entry c (between (entry % 256) 2 (c .red) (c .green)) (addressed false (suc entry % 256)) f)
   where
     next : (entry % 256 + 1) % 256 ≡ suc entry % 256
     next = omega arith
@@ -121,16 +119,16 @@ entry-runs : (f : File) (bank : Bool) (entry : ℕ) (c : Colour) → Up (f .regi
 unfolding pixelWrite stores afterWrite moved apply withPointer addressed pointerSound
 entry-runs f bank entry c up h r g b =
     then (mmioWrite 0xAC (c .red) ∷ []) (mmioWrite 0xAC (c .green) ∷ mmioWrite 0xAC (c .blue) ∷ [])
-    (withPointer (addressed false (entry % 256)) f) (withPointer (within′ (entry % 256) 1 (c .red) 0) f)
+    (withPointer (addressed false (entry % 256)) f) (withPointer (between (entry % 256) 1 (c .red) 0) f)
     (withPointer (addressed false (suc entry % 256)) (paintIn bank entry c f))
     (pixel-runs f bank (addressed false (entry % 256)) (c .red) up tt r)
     (then (mmioWrite 0xAC (c .green) ∷ []) (mmioWrite 0xAC (c .blue) ∷ [])
-    (withPointer (within′ (entry % 256) 1 (c .red) 0) f) (withPointer (within′ (entry % 256) 2 (c .red) (c .green)) f)
+    (withPointer (between (entry % 256) 1 (c .red) 0) f) (withPointer (between (entry % 256) 2 (c .red) (c .green)) f)
     (withPointer (addressed false (suc entry % 256)) (paintIn bank entry c f))
-    (pixel-runs f bank (within′ (entry % 256) 1 (c .red) 0) (c .green) up tt g)
-    (subst (λ (x : File). Runs (withPointer (within′ (entry % 256) 2 (c .red) (c .green)) f) (mmioWrite 0xAC (c .blue) ∷ []) x)
+    (pixel-runs f bank (between (entry % 256) 1 (c .red) 0) (c .green) up tt g)
+    (subst (λ (x : File). Runs (withPointer (between (entry % 256) 2 (c .red) (c .green)) f) (mmioWrite 0xAC (c .blue) ∷ []) x)
     (third-leaves f bank entry c up h)
-    (pixel-runs f bank (within′ (entry % 256) 2 (c .red) (c .green)) (c .blue) up tt b)))
+    (pixel-runs f bank (between (entry % 256) 2 (c .red) (c .green)) (c .blue) up tt b)))
 
 -- ---- a run of entries
 

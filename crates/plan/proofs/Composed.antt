@@ -1,14 +1,10 @@
 -- 'Accepted, and ends in' of one record, and of lists one behind the other.
 -- Assumes nothing.
-use mathlib.Core.Path.{_≡_, refl, sym, ap, _∙_, subst}
-use mathlib.Core.Bool.{_&&_}
+use mathlib.Core.Path.{_≡_, refl, sym, subst}
 use mathlib.Core.List.{List, [], _∷_, _++_, map}
 use lib.Dec.{T}
 use Rattle.bits.proofs.Test.{left, right, both}
-use Rattle.file.specs.declared.answer.Answer.{Answer}
 use Rattle.file.specs.declared.registers.File.{File}
-use Rattle.access.specs.declared.access.Accessed.{Accessed}
-use Rattle.access.specs.declared.record.Item.{Item}
 use Rattle.access.specs.declared.record.Item.the-variants.{Whole}
 use Rattle.access.specs.declared.record.Record.{Record}
 use Rattle.access.specs.Access.{answer, access, accessItem}

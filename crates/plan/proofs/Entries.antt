@@ -1,6 +1,6 @@
 -- The stage of colours, over any list of runs of entries: every record is accepted, what the runs name holds the wanted colours, and all else but
 -- the pointer is as before. Assumes nothing.
-use Prim.Native.Nat.{ℕ, zero, suc, _+_, _-_, _%_, _≤_, _<_}
+use Prim.Native.Nat.{ℕ, zero, suc, _+_, _-_, _≤_, _<_}
 use mathlib.Core.Path.{_≡_, refl, sym, ap, _∙_, subst}
 use mathlib.Core.Bool.{Bool, true, false, not, _&&_, _||_}
 use mathlib.Core.List.{List, [], _∷_, _++_, append-nil}
@@ -19,7 +19,7 @@ use Rattle.file.specs.Sound.{allWithin, sound}
 use Rattle.file.proofs.Soundness.{registers-sound}
 use Rattle.access.specs.declared.record.Record.{Record}
 use Rattle.plan.specs.Plan.{entries}
-use Rattle.plan.specs.Restores.{Runs, bytes}
+use Rattle.plan.specs.Restores.{Runs}
 use Rattle.plan.proofs.Colours.{Up, size, entriesIn, withEntries, painted, painted-registers, Run, inRange, afterRun, run-runs}
 use Rattle.plan.proofs.Composed.{none, then}
 
@@ -138,7 +138,7 @@ run-holds wanted run l n h agrees t =
     (sets-same (run .colours) l (run .first) (n - run .first) black h (omega (arith, low, high)) ∙ agrees (n - run .first) (omega (arith, low, high)))
   where
     low : run .first ≤ n
-    low = leb→le (run .first) n (search (left, right))
+    low = leb→le (run .first) n (search left)
 
     high : n < run .first + length (run .colours)
     high = ltb→lt n (run .first + length (run .colours)) (search (left, right))

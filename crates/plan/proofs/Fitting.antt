@@ -1,26 +1,25 @@
 -- An accepted record's fields fit their bytes, so that a plan's bytes are a trace of its records.
 -- Assumes nothing.
 use Prim.Native.Nat.{ℕ, zero, suc, _+_, _*_, _/_, _%_, _^_, _≤_, _<_}
-use mathlib.Core.Path.{_≡_, refl, sym, ap, ap₂, _∙_, subst}
+use mathlib.Core.Path.{_≡_, refl, sym, ap₂, subst}
 use mathlib.Core.Bool.{Bool, true, false, cond, not, _&&_, _||_}
 use mathlib.Core.List.{List, [], _∷_, _++_, map}
 use mathlib.Core.Option.{Option, none, some}
 use native.Mathlib.Omega.{arith}
-use borrow.Author.Tests.{ltb-false, leb-false, lt-ltb, eqb-true, eqb-false}
+use borrow.Author.Tests.{eqb-true, eqb-false}
 use lib.Dec.{T, eqb, leb, ltb, T-not, lt→ltb, ltb→lt, eqb→eq, nltb→le, nleb→lt}
-use lib.ListN.{length, take, drop}
-use Rattle.bits.proofs.Test.{left, right, both, by-test, is-true, passes, either, neither, twice}
+use lib.ListN.{length}
+use Rattle.bits.proofs.Test.{left, right, both, by-test, either, neither, twice}
 use Rattle.file.specs.declared.answer.Answer.{Answer}
 use Rattle.file.specs.declared.registers.File.{File}
 use Rattle.file.specs.Answers.{codeOf}
 use Rattle.file.specs.Registers.{sequencer, crtc, graphics, attribute, pipeline}
-use Rattle.access.specs.declared.access.Accessed.{Accessed}
 use Rattle.access.specs.declared.record.Item.{Item}
 use Rattle.access.specs.declared.record.Item.the-variants.{Whole}
 use Rattle.access.specs.declared.record.Record.{Record}
 use Rattle.access.specs.Access.{answerAt, answer, access, accessItem}
-use Rattle.access.specs.Checks.{Check, isWrite, checks, firstRefusal, notSound, malformed, spaceOff, noRow, notHeld, otherHalf, wrongWidth}
-use Rattle.access.specs.Lookup.{selects, fits, rowOf, placeOf}
+use Rattle.access.specs.Checks.{Check, isWrite, checks, firstRefusal, notSound, malformed, noRow, notHeld}
+use Rattle.access.specs.Lookup.{fits, rowOf, placeOf}
 use Rattle.access.specs.Places.{Row, places, each, attributePorts, generalPorts, crtcPorts, pipelinePlace, mmioPlaces, pciPlaces}
 use Rattle.access.specs.Records.{two, four, recordOf, bytesOf, itemOf, items}
 use Rattle.access.specs.Run.{answers}
@@ -61,7 +60,7 @@ short-address f r t = at-row (rowOf f r) t (row-passes (λ (row : Row). ltb (row
     at-row none n p = absurd n
     at-row (some row) n p =
         subst (λ (a : ℕ). a < 65536) (sym (eqb→eq (r .address) (row .address) (search (left, right))))
-        (ltb→lt (row .address) 65536 (search (left, right)))
+        (ltb→lt (row .address) 65536 (search left))
 
 -- nor a value of more than two
 short-value : (write : Bool) (width value : ℕ) → width ≤ 2 → T (not (cond write (leb (256 ^ width) value) (not (eqb value 0)))) → value < 65536

@@ -1,16 +1,15 @@
 -- The file in which a plan's stages run: sound, both spaces on, unlocked, MISC as wanted; and what one record by a road does there.
 -- Assumes nothing.
 use Prim.Native.Nat.{ℕ, _<_}
-use mathlib.Core.Path.{_≡_, refl, sym, ap, _∙_, subst}
-use mathlib.Core.Bool.{Bool, true, false, cond, not, _&&_, _||_}
-use mathlib.Core.List.{List, [], _∷_}
-use native.Mathlib.Omega.{arith}
+use mathlib.Core.Path.{_≡_, refl, _∙_, subst}
+use mathlib.Core.Bool.{Bool, true, false, cond, not, _&&_}
+use mathlib.Core.List.{[], _∷_}
 use borrow.Author.Tests.{eqb-true, eqb-false}
-use lib.Dec.{T, eqb, leb, T-not, eqb-refl}
-use lib.ListN.{getD, set, length}
+use lib.Dec.{T, eqb, leb, T-not}
+use lib.ListN.{set, length}
 use lib.Seq.{getD-set-same, getD-set-other}
 use Rattle.bits.specs.Store.{bit, within}
-use Rattle.bits.proofs.Test.{left, right, both, by-test}
+use Rattle.bits.proofs.Test.{both, by-test}
 use Rattle.file.specs.declared.registers.File.{File}
 use Rattle.file.specs.File.{register, crtcLocked, withRegisters, withToggle}
 use Rattle.file.specs.Names.{MISC, SRX, CRX, GRX, ARX, PCI04, CR11}
@@ -97,14 +96,14 @@ spaces-on f r on = rw on (by-test (isPort r) (λ e. rw e (none (isMmio r))) (λ 
 
 pub unlocked-free : (f : File) (number : ℕ) → register f CR11 ≡ 0x00 → Free f number
 unfolding lockedOut reachIn crtcLocked bit
-unlocked-free f number e = record { open′ = rw e; whole = rw e }
+unlocked-free f number e = record { unlocked = rw e; whole = rw e }
 
 -- PCI04 and CR11 are none of CR0 to CR7
 pub beyond-lock : (f : File) (number : ℕ) → eqb number 32 ≡ false → (leb 25 number && leb number 31) ≡ false → Free f number
 unfolding lockedOut reachIn
 beyond-lock f number e h =
     record {
-      open′ = rw h (by-test (crtcLocked f) (λ l. rw l) (λ l. rw l));
+      unlocked = rw h (by-test (crtcLocked f) (λ l. rw l) (λ l. rw l));
       whole = rw e (by-test (crtcLocked f) (λ l. rw l) (λ l. rw l));
     }
 

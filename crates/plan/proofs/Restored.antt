@@ -1,33 +1,30 @@
 -- Demand 3: from every sound start, each record of the plan is accepted and the run ends in the wanted file.
 -- Assumes nothing.
-use Prim.Native.Nat.{ℕ, zero, suc, _+_, _*_, _≤_, _<_}
+use Prim.Native.Nat.{ℕ, zero, suc, _*_, _<_}
 use mathlib.Core.Path.{_≡_, refl, sym, ap, ap₂, _∙_, subst}
-use mathlib.Core.Bool.{Bool, true, false, cond, not, true≢false, _&&_, _||_}
+use mathlib.Core.Bool.{Bool, true, false, cond, not, true≢false, _&&_}
 use mathlib.Core.List.{List, [], _∷_, _++_, map}
 use native.Mathlib.Omega.{arith}
 use borrow.Author.Tests.{eqb-true, eqb-false}
 use lib.Dec.{T, eqb, leb, T-not, eqb→eq}
-use lib.ListN.{getD, set, length, drop}
+use lib.ListN.{getD, length, drop}
 use lib.Seq.{ext-getD}
-use Rattle.bits.proofs.Test.{left, right, both, by-test, passes, is-true, chosen}
+use Rattle.bits.proofs.Test.{left, right, by-test, passes, is-true, chosen}
 use Rattle.file.specs.declared.answer.Answer.{Answer}
 use Rattle.file.specs.declared.answer.Answer.the-variants.{Done, ShortBuffer, NotSound, NotBeforeRed}
-use Rattle.file.specs.declared.palette.Colour.{Colour}
-use Rattle.file.specs.declared.palette.Pointer.{Pointer}
 use Rattle.file.specs.declared.registers.File.{File}
 use Rattle.file.specs.File.{register, withRegisters, withPointer, withToggle}
-use Rattle.file.specs.Names.{MISC, ARX, PCI04, CR11, B0}
+use Rattle.file.specs.Names.{MISC}
 use Rattle.file.specs.Registers.{sequencer, crtc, graphics, attribute, pipeline}
 use Rattle.file.specs.Answers.{codeOf, refused}
 use Rattle.file.specs.Sound.{sound}
-use Rattle.access.specs.declared.record.Record.{Record}
 use Rattle.access.specs.declared.record.Item.{Item}
 use Rattle.access.specs.declared.record.Item.the-variants.{Whole}
 use Rattle.access.specs.Checks.{isOneOf}
 use Rattle.access.specs.Records.{items}
 use Rattle.access.specs.Run.{fileAfter, answers}
 use Rattle.plan.specs.Roads.{Road, toPCI04, toCR11, toB0, toARX, eachRoad, but, registerRoads, indexRoads}
-use Rattle.plan.specs.Plan.{selecting, along, opening, pixels, entries, colours, indices, closing, planRecords}
+use Rattle.plan.specs.Plan.{along, opening, colours, indices, closing, planRecords}
 use Rattle.plan.specs.Refusals.{planAnswer, restoreAnswer}
 use Rattle.plan.specs.Restores.{allAccepted, Runs, IsFile, Plans, Planned}
 use Rattle.plan.proofs.Along.{afterSelecting, afterRoads, brought, Brings, moves, settles, settled, after-length, after-append}
@@ -83,45 +80,45 @@ registers-as-wanted w xs s many misc =
 module _ (w f : File) (ws : T (sound w)) (fs : T (sound f)) (wf : IsFile w) (red : w .pointer .next ≡ 0)
     (many : length (f .palette) ≡ 256) (few : length (f .bank) ≡ 16) where
   -- the file between the stages
-  abbrev first′ : File
-  first′ = opened w f
+  abbrev afterOpening : File
+  afterOpening = opened w f
 
-  abbrev second′ : File
-  second′ = coloured w first′
+  abbrev afterColours : File
+  afterColours = coloured w afterOpening
 
-  abbrev third′ : File
-  third′ = brought w registerRoads second′
+  abbrev afterRegisters : File
+  afterRegisters = brought w registerRoads afterColours
 
-  abbrev fourth′ : File
-  fourth′ = indexed w third′
+  abbrev afterIndices : File
+  afterIndices = indexed w afterRegisters
 
-  second-ready : Ready w second′
+  colours-ready : Ready w afterColours
   unfolding opened withToggle withRegister withRegisters
-  second-ready = coloured-ready w first′ wf (opened-ready w f ws fs) (opened-up w f ws fs) many few
+  colours-ready = coloured-ready w afterOpening wf (opened-ready w f ws fs) (opened-up w f ws fs) many few
 
-  third-brings : Brings w second′ registerRoads
+  third-brings : Brings w afterColours registerRoads
   unfolding coloured opened withToggle
-  third-brings = registers-bring w second′ ws second-ready refl
+  third-brings = registers-bring w afterColours ws colours-ready refl
 
-  ends-in : closed w fourth′ ≡ w
+  ends-in : closed w afterIndices ≡ w
   unfolding closed indexed brought coloured withRegister withRegisters withToggle withPointer planRoads lastRoads indexRoads afterRoads afterSelecting register
   ends-in =
       ap (λ (rs : List ℕ). withRegisters rs w)
-      (sym (after-append w registerRoads (lastRoads w) (second′ .registers))
-      ∙ registers-as-wanted w (second′ .registers) ws (count second′ (second-ready .isSound)) (second-ready .misc))
+      (sym (after-append w registerRoads (lastRoads w) (afterColours .registers))
+      ∙ registers-as-wanted w (afterColours .registers) ws (count afterColours (colours-ready .isSound)) (colours-ready .misc))
 
   pub plan-restores : Runs f (planRecords w) w
   unfolding planRecords brought withRegisters coloured opened withToggle withRegister
   plan-restores =
       subst (λ (g : File). Runs f (planRecords w) g) ends-in
-      (then (opening w ++ colours w ++ along w registerRoads ++ indices w) (closing w) f fourth′ (closed w fourth′)
-      (then (opening w ++ colours w ++ along w registerRoads) (indices w) f third′ fourth′
-      (then (opening w ++ colours w) (along w registerRoads) f second′ third′
-      (then (opening w) (colours w) f first′ second′ (opening-runs w f ws fs)
-      (colours-run w first′ wf (opened-ready w f ws fs) (opened-up w f ws fs) many few))
+      (then (opening w ++ colours w ++ along w registerRoads ++ indices w) (closing w) f afterIndices (closed w afterIndices)
+      (then (opening w ++ colours w ++ along w registerRoads) (indices w) f afterRegisters afterIndices
+      (then (opening w ++ colours w) (along w registerRoads) f afterColours afterRegisters
+      (then (opening w) (colours w) f afterOpening afterColours (opening-runs w f ws fs)
+      (colours-run w afterOpening wf (opened-ready w f ws fs) (opened-up w f ws fs) many few))
       (third-brings .runs))
-      (indices-run w third′ ws (third-brings .ready) refl))
-      (closing-runs w fourth′ ws red (wf .address) (indexed-ready w third′ ws (third-brings .ready) refl)))
+      (indices-run w afterRegisters ws (third-brings .ready) refl))
+      (closing-runs w afterIndices ws red (wf .address) (indexed-ready w afterRegisters ws (third-brings .ready) refl)))
 
 -- demand 3, as a plan's definition says it
 pub plan-serves : (w : File) → IsFile w → T (sound w) → w .pointer .next ≡ 0 → Plans w (planRecords w)

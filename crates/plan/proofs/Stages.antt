@@ -1,9 +1,9 @@
 -- The plan's stages, each from any file that it may meet: opening, colours, registers, indices, closing.
 -- Assumes nothing.
-use Prim.Native.Nat.{ℕ, _+_, _%_, _≤_, _<_}
+use Prim.Native.Nat.{ℕ, _+_, _%_, _<_}
 use mathlib.Core.Path.{_≡_, refl, sym, ap, ap₂, _∙_, subst}
-use mathlib.Core.Bool.{Bool, true, false, cond, not, _&&_, _||_}
-use mathlib.Core.List.{List, [], _∷_, _++_}
+use mathlib.Core.Bool.{Bool, true, false, cond, not, _&&_}
+use mathlib.Core.List.{List, [], _∷_}
 use native.Mathlib.Omega.{arith}
 use lib.Dec.{T, eqb, leb, le→leb, lit<, eqb→eq}
 use lib.ListN.{getD, set, length}
@@ -20,12 +20,12 @@ use Rattle.file.specs.Registers.{storedBits, storedTable, registers, singles, s
 use Rattle.file.specs.Sound.{allWithin, sound}
 use Rattle.file.proofs.Soundness.{registers-sound, pointer-sound}
 use Rattle.access.specs.Checks.{isPort, isMmio, isOneOf, spaceOff}
-use Rattle.plan.specs.Roads.{Road, toPCI04, toCR11, toB0, toMISC, toSRX, toGRX, toARX, toCRX, registerRoads, indexRoads, eachRoad, but, byHalf}
+use Rattle.plan.specs.Roads.{toPCI04, toCR11, toB0, toMISC, toSRX, toGRX, toARX, toCRX, registerRoads, indexRoads, eachRoad, but, byHalf}
 use Rattle.plan.specs.Plan.{write, mmioWrite, portRead, selecting, toIndex, along, opening, entries, colours, indices, closing}
 use Rattle.plan.specs.Restores.{Runs, IsFile, bytes}
-use Rattle.plan.proofs.Along.{brought, open′, selectable, Lead, Brings, roads-bring, arx-leads}
-use Rattle.plan.proofs.Asked.{View, viewOf}
-use Rattle.plan.proofs.Colours.{Up, size, entriesIn, withEntries, painted, Run, inRange, afterRun, run-runs, address-runs}
+use Rattle.plan.proofs.Along.{brought, passable, selectable, Lead, Brings, roads-bring, arx-leads}
+use Rattle.plan.proofs.Asked.{viewOf}
+use Rattle.plan.proofs.Colours.{Up, size, entriesIn, withEntries, painted, inRange, afterRun, run-runs, address-runs}
 use Rattle.plan.proofs.Composed.{one, then}
 use Rattle.plan.proofs.Entries.{sets-all}
 use Rattle.plan.proofs.Leads.{flips, seen, leads, everyRoad, leading, singles-lead, registers-lead, crx-leads}
@@ -160,8 +160,8 @@ choosing bank = cond bank 0x08 0x00
 chosen-up : (bank : Bool) (registers : List ℕ) → T (allWithin storedTable registers) → getD registers PCI04 0 ≡ 0x0003
     → getD registers B0 0 ≡ choosing bank → Up registers bank
 unfolding bit
-chosen-up true registers s on b0 = record { sound′ = s; on = on; up = rw b0; chosen = rw b0 }
-chosen-up false registers s on b0 = record { sound′ = s; on = on; up = rw b0; chosen = rw b0 }
+chosen-up true registers s on b0 = record { registersSound = s; on = on; up = rw b0; chosen = rw b0 }
+chosen-up false registers s on b0 = record { registersSound = s; on = on; up = rw b0; chosen = rw b0 }
 
 -- all entries, from the first on
 all-run : (w f : File) (bank : Bool) (new : List Colour) → Ready w f → register f B0 ≡ choosing bank
@@ -206,8 +206,8 @@ module _ (w f : File) (wf : IsFile w) (ready : Ready w f) (b0 : register f B0 �
 
 -- ---- registers
 
-registers-open : T (everyRoad open′ registerRoads)
-unfolding everyRoad open′ selectable loose isOneOf registerRoads eachRoad but storedBits storedTable registers singles sequencer crtc graphics attribute pipeline within store
+registers-open : T (everyRoad passable registerRoads)
+unfolding everyRoad passable selectable loose isOneOf registerRoads eachRoad but storedBits storedTable registers singles sequencer crtc graphics attribute pipeline within store
 registers-open = tt
 
 pub registers-bring : (w f : File) → T (sound w) → Ready w f → f .toggle ≡ false → Brings w f registerRoads
@@ -215,8 +215,8 @@ registers-bring w f s ready t = roads-bring w s registerRoads f ready t register
 
 -- ---- indices
 
-indices-open : (w : File) → T (everyRoad open′ (indexRoads w))
-unfolding everyRoad open′ selectable loose isOneOf indexRoads
+indices-open : (w : File) → T (everyRoad passable (indexRoads w))
+unfolding everyRoad passable selectable loose isOneOf indexRoads
 indices-open w = tt
 
 indices-lead : (w : File) → Lead w (indexRoads w)

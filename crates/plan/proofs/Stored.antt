@@ -1,42 +1,38 @@
 -- A record that goes by a road stores a value within the register's bits exactly, and does nothing else but flip the toggle at 3C0h.
 -- Assumes nothing.
-use Prim.Native.Nat.{ℕ, _≤_, _<_, _^_, _%_}
+use Prim.Native.Nat.{ℕ, _<_, _^_, _%_}
 use mathlib.Core.Path.{_≡_, refl, sym, ap, ap₂, _∙_, subst}
-use mathlib.Core.Bool.{Bool, true, false, cond, not, _&&_, _||_}
-use mathlib.Core.List.{List, [], _∷_}
+use mathlib.Core.Bool.{Bool, true, false, cond, not, _||_}
 use mathlib.Core.Option.{Option, none, some}
 use native.Mathlib.Nat.{lt-of-le-of-lt}
 use native.Mathlib.Omega.{arith}
 use borrow.Author.Tests.{not-true, le-ltb, lt-leb}
-use lib.Dec.{T, eqb, leb, ltb, eqb→eq, leb→le, ltb→lt}
+use lib.Dec.{T, eqb, eqb→eq, leb→le, ltb→lt}
 use lib.ListN.{set}
-use Rattle.bits.specs.Store.{store, within}
+use Rattle.bits.specs.Store.{within}
 use Rattle.bits.proofs.Stored.{store-exact, within-le}
 use Rattle.bits.proofs.Test.{left, right, is-true}
-use Rattle.file.specs.declared.answer.Answer.{Answer}
 use Rattle.file.specs.declared.answer.Answer.the-variants.{Done}
 use Rattle.file.specs.declared.registers.File.{File}
 use Rattle.file.specs.Answers.{codeOf}
 use Rattle.file.specs.Effects.{apply, storeIn}
-use Rattle.file.specs.File.{register, crtcLocked, withRegisters, withToggle}
+use Rattle.file.specs.File.{register, withRegisters, withToggle}
 use Rattle.file.specs.Names.{B0}
 use Rattle.file.specs.Registers.{storedBits, storedTable}
 use Rattle.file.specs.Sound.{sound}
 use Rattle.file.proofs.Soundness.{at, registers-sound}
-use Rattle.access.specs.declared.access.Accessed.{Accessed}
 use Rattle.access.specs.declared.place.Place.{Place}
 use Rattle.access.specs.declared.place.Place.the-variants.{Register, Attribute, Fixed, ToggleState, AttributeIndex, PaletteState, ReadAddress, WriteAddress, PixelData, ToggleReset, NoRegister, NoAttribute}
-use Rattle.access.specs.declared.record.Record.{Record}
 use Rattle.access.specs.Access.{lockedOut, reachIn, answerAt, writeAt, effectAt, answer, access}
 use Rattle.access.specs.Checks.{isWrite, isPort, malformed, spaceOff, otherHalf}
 use Rattle.access.specs.Lookup.{fits, rowOf}
-use Rattle.access.specs.Places.{Index, any, sr, cr, gr, ar, indexDue, dataDue, Row}
+use Rattle.access.specs.Places.{Row}
 use Rattle.access.proofs.Targets.{storesInto, movesToggle}
 use Rattle.plan.specs.Roads.{Road}
 use Rattle.plan.specs.Plan.{write}
 use Rattle.plan.specs.Restores.{accepted}
 use Rattle.plan.proofs.Leads.{flips, same, finds, leads}
-use Rattle.plan.proofs.Asked.{Passes, asked, does, View, viewOf, shown, row-by, half-by}
+use Rattle.plan.proofs.Asked.{asked, does, viewOf, shown, row-by, half-by}
 
 -- a file with one register anew
 unfoldable pub withRegister : ℕ → ℕ → File → File
@@ -48,7 +44,7 @@ flipped flip f = cond flip (withToggle (not (f .toggle)) f) f
 
 -- the lock does not bear on a register
 pub record Free (f : File) (number : ℕ) : Type 0 where
-  pub open′ : lockedOut f number ≡ false
+  pub unlocked : lockedOut f number ≡ false
   pub whole : reachIn f number ≡ storedBits number
 
 -- what holds of the three places that store into a register holds of each that does
@@ -73,7 +69,7 @@ place-done : (f : File) (number : ℕ) → Free f number → (place : Place) →
     → answerAt true f place ≡ Done 0
 unfolding answerAt
 place-done f number free =
-    by-store (λ (p : Place). answerAt true f p ≡ Done 0) number (rw (free .open′)) refl (λ e. refl)
+    by-store (λ (p : Place). answerAt true f p ≡ Done 0) number (rw (free .unlocked)) refl (λ e. refl)
 
 -- and stores the register by its stored bits
 place-stores : (f : File) (number value : ℕ) → Free f number → (place : Place) → storesInto place ≡ number → number < 100

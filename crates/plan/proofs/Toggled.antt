@@ -3,12 +3,11 @@
 use Prim.Native.Nat.{ℕ, _<_}
 use mathlib.Core.Path.{_≡_, refl, ap, _∙_, subst}
 use mathlib.Core.Bool.{Bool, true, false, cond}
-use mathlib.Core.List.{List, [], _∷_}
-use mathlib.Core.Option.{Option, some}
+use mathlib.Core.List.{[], _∷_}
+use mathlib.Core.Option.{some}
 use lib.Dec.{T, eqb}
 use Rattle.bits.specs.Store.{bit}
 use Rattle.bits.proofs.Bit.{by-bit, bit-lt}
-use Rattle.file.specs.declared.answer.Answer.{Answer}
 use Rattle.file.specs.declared.answer.Answer.the-variants.{Done}
 use Rattle.file.specs.declared.registers.File.{File}
 use Rattle.file.specs.Answers.{codeOf}
@@ -19,8 +18,7 @@ use Rattle.file.specs.Registers.{sequencer, crtc, graphics, attribute, pipeline
 use Rattle.file.specs.Sound.{sound}
 use Rattle.access.specs.declared.place.Place.{Place}
 use Rattle.access.specs.declared.place.Place.the-variants.{Register, ToggleReset}
-use Rattle.access.specs.declared.record.Record.{Record}
-use Rattle.access.specs.Access.{answerAt, readAt, effectAt, answer, access}
+use Rattle.access.specs.Access.{answerAt, readAt, effectAt, answer}
 use Rattle.access.specs.Checks.{isWrite, isPort, isOneOf, malformed, otherHalf}
 use Rattle.access.specs.Lookup.{selects, fits, first, rowOf}
 use Rattle.access.specs.Places.{Row, any, places, each, attributePorts, generalPorts, crtcPorts, pipelinePlace, mmioPlaces, pciPlaces}
