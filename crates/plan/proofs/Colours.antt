@@ -31,7 +31,7 @@ use Rattle.access.specs.Access.{paletteUp, inBank, entryNumber, answerAt, pixel
 use Rattle.access.specs.Checks.{isWrite, isPort, malformed, otherHalf}
 use Rattle.access.specs.Lookup.{selects, fits, first, rowOf}
 use Rattle.access.specs.Places.{Row, any, places, each, attributePorts, generalPorts, crtcPorts, pipelinePlace, mmioPlaces, pciPlaces}
-use Rattle.plan.specs.Plan.{mmioWrite, pixels, entries}
+use Rattle.plan.specs.Plan.{mmioWrite, openSpaces, pixels, entries}
 use Rattle.plan.specs.Restores.{accepted, Runs, bytes}
 use Rattle.plan.proofs.Asked.{asked, does}
 use Rattle.plan.proofs.Composed.{none, one, then}
@@ -68,7 +68,7 @@ address-runs f false value s on h = byte-runs f 0xA8 value WriteAddress s on h r
 -- registers that let colours through: both spaces on, the palette up, the palette or the bank chosen
 pub record Up (registers : List ℕ) (bank : Bool) : Type 0 where
   pub registersSound : T (allWithin storedTable registers)
-  pub on : getD registers PCI04 0 ≡ 0x0003
+  pub on : getD registers PCI04 0 ≡ openSpaces
   pub up : eqb (bit 7 (getD registers B0 0)) 0 ≡ true
   pub chosen : eqb (bit 3 (getD registers B0 0)) 1 ≡ bank
 

@@ -21,7 +21,7 @@ use Rattle.access.specs.declared.record.Record.{Record}
 use Rattle.access.specs.Access.{lockedOut, reachIn}
 use Rattle.access.specs.Checks.{isPort, isMmio, isOneOf, spaceOff}
 use Rattle.plan.specs.Roads.{Road}
-use Rattle.plan.specs.Plan.{write}
+use Rattle.plan.specs.Plan.{write, openSpaces, openLock}
 use Rattle.plan.specs.Restores.{Runs}
 use Rattle.plan.proofs.Asked.{viewOf}
 use Rattle.plan.proofs.Composed.{one}
@@ -78,24 +78,24 @@ wanted-within w number s = at storedTable (w .registers) number (registers-sound
 
 -- PCI04 as a plan opens it
 unfoldable pub On : File → Type 0
-On f = register f PCI04 ≡ 0x0003
+On f = register f PCI04 ≡ openSpaces
 
 pub record Ready (w f : File) : Type 0 where
   pub isSound : T (sound f)
   pub on : On f
-  pub unlocked : register f CR11 ≡ 0x00
+  pub unlocked : register f CR11 ≡ openLock
   pub misc : register f MISC ≡ register w MISC
 
 pub spaces-on : (f : File) (r : Record) → On f → spaceOff f r ≡ false
-unfolding On spaceOff bit
+unfolding On openSpaces spaceOff bit
 spaces-on f r on = rw on (by-test (isPort r) (λ e. rw e (none (isMmio r))) (λ e. rw e (none (isMmio r))))
   where
     none : (b : Bool) → (b && false) ≡ false
     none true = refl
     none false = refl
 
-pub unlocked-free : (f : File) (number : ℕ) → register f CR11 ≡ 0x00 → Free f number
-unfolding lockedOut reachIn crtcLocked bit
+pub unlocked-free : (f : File) (number : ℕ) → register f CR11 ≡ openLock → Free f number
+unfolding openLock lockedOut reachIn crtcLocked bit
 unlocked-free f number e = record { unlocked = rw e; whole = rw e }
 
 -- PCI04 and CR11 are none of CR0 to CR7

@@ -21,7 +21,7 @@ use Rattle.file.specs.Sound.{allWithin, sound}
 use Rattle.file.proofs.Soundness.{registers-sound, pointer-sound}
 use Rattle.access.specs.Checks.{isPort, isMmio, isOneOf, spaceOff}
 use Rattle.plan.specs.Roads.{toPCI04, toCR11, toB0, toMISC, toSRX, toGRX, toARX, toCRX, registerRoads, indexRoads, eachRoad, but, byHalf}
-use Rattle.plan.specs.Plan.{write, mmioWrite, portRead, selecting, toIndex, along, opening, entries, colours, indices, closing}
+use Rattle.plan.specs.Plan.{write, mmioWrite, portRead, selecting, toIndex, along, openSpaces, openLock, openPalette, openBank, opening, entries, colours, indices, closing}
 use Rattle.plan.specs.Restores.{Runs, IsFile, bytes}
 use Rattle.plan.proofs.Along.{brought, passable, selectable, Lead, Brings, roads-bring, arx-leads}
 use Rattle.plan.proofs.Asked.{viewOf}
@@ -44,13 +44,13 @@ config-runs f value s w =
 
 -- what the opening leaves, record by record
 abbrev spacesOn : File → File
-spacesOn f = withRegister PCI04 0x0003 f
+spacesOn f = withRegister PCI04 openSpaces f
 
 abbrev unlocked : File → File
-unlocked f = withRegister CR11 0x00 (spacesOn f)
+unlocked f = withRegister CR11 openLock (spacesOn f)
 
 abbrev paletteOn : File → File
-paletteOn f = withRegister B0 0x00 (unlocked f)
+paletteOn f = withRegister B0 openPalette (unlocked f)
 
 abbrev miscSet : File → File → File
 miscSet w f = withRegister MISC (register w MISC) (paletteOn f)
@@ -58,39 +58,47 @@ miscSet w f = withRegister MISC (register w MISC) (paletteOn f)
 unfoldable pub opened : File → File → File
 opened w f = withToggle false (miscSet w f)
 
+-- what is opened fits its registers
+record OpenFits : Type 0 where
+  spaces : T (within (storedBits PCI04) openSpaces)
+  lock : T (within (storedBits CR11) openLock)
+  palette : T (within (storedBits B0) openPalette)
+  bank : T (within (storedBits B0) openBank)
+
+open-fits : OpenFits
+unfolding openSpaces openLock openPalette openBank storedBits storedTable registers singles sequencer crtc graphics attribute pipeline within store
+open-fits = record { spaces = tt; lock = tt; palette = tt; bank = tt }
+
 module _ (w f : File) (ws : T (sound w)) (fs : T (sound f)) where
   s1 : T (sound (spacesOn f))
-  unfolding storedBits storedTable registers singles sequencer crtc graphics attribute pipeline within store
-  s1 = with-sound f PCI04 0x0003 fs tt
+  s1 = with-sound f PCI04 openSpaces fs (open-fits .spaces)
 
   s2 : T (sound (unlocked f))
-  unfolding storedBits storedTable registers singles sequencer crtc graphics attribute pipeline within store
-  s2 = with-sound (spacesOn f) CR11 0x00 s1 tt
+  s2 = with-sound (spacesOn f) CR11 openLock s1 (open-fits .lock)
 
   s3 : T (sound (paletteOn f))
-  unfolding storedBits storedTable registers singles sequencer crtc graphics attribute pipeline within store
-  s3 = with-sound (unlocked f) B0 0x00 s2 tt
+  s3 = with-sound (unlocked f) B0 openPalette s2 (open-fits .palette)
 
   s4 : T (sound (miscSet w f))
   s4 = with-sound (paletteOn f) MISC (register w MISC) s3 (wanted-within w MISC ws)
 
   on1 : On (spacesOn f)
   unfolding On
-  on1 = at-any f PCI04 0x0003 PCI04 fs (lit< tt)
+  on1 = at-any f PCI04 openSpaces PCI04 fs (lit< tt)
 
   on2 : On (unlocked f)
   unfolding On
-  on2 = at-any (spacesOn f) CR11 0x00 PCI04 s1 (lit< tt) ∙ on1
+  on2 = at-any (spacesOn f) CR11 openLock PCI04 s1 (lit< tt) ∙ on1
 
   on3 : On (paletteOn f)
   unfolding On
-  on3 = at-any (unlocked f) B0 0x00 PCI04 s2 (lit< tt) ∙ on2
+  on3 = at-any (unlocked f) B0 openPalette PCI04 s2 (lit< tt) ∙ on2
 
-  free2 : register (unlocked f) CR11 ≡ 0x00
-  free2 = at-any (spacesOn f) CR11 0x00 CR11 s1 (lit< tt)
+  free2 : register (unlocked f) CR11 ≡ openLock
+  free2 = at-any (spacesOn f) CR11 openLock CR11 s1 (lit< tt)
 
-  free3 : register (paletteOn f) CR11 ≡ 0x00
-  free3 = at-any (unlocked f) B0 0x00 CR11 s2 (lit< tt) ∙ free2
+  free3 : register (paletteOn f) CR11 ≡ openLock
+  free3 = at-any (unlocked f) B0 openPalette CR11 s2 (lit< tt) ∙ free2
 
   misc-ready : Ready w (miscSet w f)
   unfolding On
@@ -103,16 +111,16 @@ module _ (w f : File) (ws : T (sound w)) (fs : T (sound f)) where
       }
 
   pub opening-runs : Runs f (opening w) (opened w f)
-  unfolding opening opened flips flipped storedBits storedTable registers singles sequencer crtc graphics attribute pipeline within store
+  unfolding opening opened flips flipped
   opening-runs =
-      then (write toPCI04 0x0003 ∷ []) (write toCR11 0x00 ∷ write toB0 0x00 ∷ write toMISC (register w MISC) ∷ toIndex w ∷ [])
-      f (spacesOn f) (opened w f) (config-runs f 0x0003 fs tt)
-      (then (write toCR11 0x00 ∷ []) (write toB0 0x00 ∷ write toMISC (register w MISC) ∷ toIndex w ∷ [])
+      then (write toPCI04 openSpaces ∷ []) (write toCR11 openLock ∷ write toB0 openPalette ∷ write toMISC (register w MISC) ∷ toIndex w ∷ [])
+      f (spacesOn f) (opened w f) (config-runs f openSpaces fs (open-fits .spaces))
+      (then (write toCR11 openLock ∷ []) (write toB0 openPalette ∷ write toMISC (register w MISC) ∷ toIndex w ∷ [])
       (spacesOn f) (unlocked f) (opened w f)
-      (on-runs (spacesOn f) toCR11 0x00 s1 on1 (beyond-lock (spacesOn f) CR11 refl refl) (singles-lead (viewOf (spacesOn f)) .cr11) tt)
-      (then (write toB0 0x00 ∷ []) (write toMISC (register w MISC) ∷ toIndex w ∷ [])
+      (on-runs (spacesOn f) toCR11 openLock s1 on1 (beyond-lock (spacesOn f) CR11 refl refl) (singles-lead (viewOf (spacesOn f)) .cr11) (open-fits .lock))
+      (then (write toB0 openPalette ∷ []) (write toMISC (register w MISC) ∷ toIndex w ∷ [])
       (unlocked f) (paletteOn f) (opened w f)
-      (on-runs (unlocked f) toB0 0x00 s2 on2 (unlocked-free (unlocked f) B0 free2) (singles-lead (viewOf (unlocked f)) .b0) tt)
+      (on-runs (unlocked f) toB0 openPalette s2 on2 (unlocked-free (unlocked f) B0 free2) (singles-lead (viewOf (unlocked f)) .b0) (open-fits .palette))
       (then (write toMISC (register w MISC) ∷ []) (toIndex w ∷ [])
       (paletteOn f) (miscSet w f) (opened w f)
       (on-runs (paletteOn f) toMISC (register w MISC) s3 on3 (unlocked-free (paletteOn f) MISC free3) (singles-lead (viewOf (paletteOn f)) .misc)
@@ -123,9 +131,9 @@ module _ (w f : File) (ws : T (sound w)) (fs : T (sound f)) where
   unfolding opened withToggle On sound register
   opened-ready = record { isSound = s4; on = misc-ready .on; unlocked = misc-ready .unlocked; misc = misc-ready .misc }
 
-  pub opened-up : register (opened w f) B0 ≡ 0x00
+  pub opened-up : register (opened w f) B0 ≡ openPalette
   unfolding opened withToggle register
-  opened-up = at-any (paletteOn f) MISC (register w MISC) B0 s3 (lit< tt) ∙ at-any (unlocked f) B0 0x00 B0 s2 (lit< tt)
+  opened-up = at-any (paletteOn f) MISC (register w MISC) B0 s3 (lit< tt) ∙ at-any (unlocked f) B0 openPalette B0 s2 (lit< tt)
 
 -- ---- colours
 
@@ -133,7 +141,7 @@ module _ (w f : File) (ws : T (sound w)) (fs : T (sound f)) where
 unfoldable pub coloured : File → File → File
 coloured w f =
     record {
-      registers = set (f .registers) B0 0x08;
+      registers = set (f .registers) B0 openBank;
       palette = w .palette;
       bank = w .bank;
       pointer = addressed false 16;
@@ -155,11 +163,11 @@ ready-as w f g e p ready =
 
 -- B0 with the palette up, and the palette or the bank chosen
 abbrev choosing : Bool → ℕ
-choosing bank = cond bank 0x08 0x00
+choosing bank = cond bank openBank openPalette
 
-chosen-up : (bank : Bool) (registers : List ℕ) → T (allWithin storedTable registers) → getD registers PCI04 0 ≡ 0x0003
+chosen-up : (bank : Bool) (registers : List ℕ) → T (allWithin storedTable registers) → getD registers PCI04 0 ≡ openSpaces
     → getD registers B0 0 ≡ choosing bank → Up registers bank
-unfolding bit
+unfolding openPalette openBank bit
 chosen-up true registers s on b0 = record { registersSound = s; on = on; up = rw b0; chosen = rw b0 }
 chosen-up false registers s on b0 = record { registersSound = s; on = on; up = rw b0; chosen = rw b0 }
 
@@ -178,7 +186,7 @@ all-run w f bank new ready b0 old many t =
     total : 0 + length new ≡ size bank
     total = omega (arith, many)
 
-module _ (w f : File) (wf : IsFile w) (ready : Ready w f) (b0 : register f B0 ≡ 0x00) (many : length (f .palette) ≡ 256) (few : length (f .bank) ≡ 16) where
+module _ (w f : File) (wf : IsFile w) (ready : Ready w f) (b0 : register f B0 ≡ openPalette) (many : length (f .palette) ≡ 256) (few : length (f .bank) ≡ 16) where
   -- between the two
   abbrev half : File
   half = withPointer (addressed false 0) (withPalette (w .palette) f)
@@ -187,22 +195,22 @@ module _ (w f : File) (wf : IsFile w) (ready : Ready w f) (b0 : register f B0 �
   unfolding withPointer withPalette addressed pointerSound
   half-ready = ready-as w f half refl tt ready
 
-  switched-ready : Ready w (withRegister B0 0x08 half)
-  unfolding loose isOneOf storedBits storedTable registers singles sequencer crtc graphics attribute pipeline within store
-  switched-ready = ready-with w half B0 0x08 half-ready tt tt
+  switched-ready : Ready w (withRegister B0 openBank half)
+  unfolding loose isOneOf
+  switched-ready = ready-with w half B0 openBank half-ready tt (open-fits .bank)
 
   pub colours-run : Runs f (colours w) (coloured w f)
-  unfolding colours coloured flips flipped storedBits storedTable registers singles sequencer crtc graphics attribute pipeline within store withRegister withRegisters withPointer withPalette withBank
+  unfolding colours coloured flips flipped withRegister withRegisters withPointer withPalette withBank
   colours-run =
-      then (entries 0 (w .palette)) (write toB0 0x08 ∷ entries 0 (w .bank)) f half (coloured w f) (all-run w f false (w .palette) ready b0 many (wf .palette) (wf .paletteBytes))
-      (then (write toB0 0x08 ∷ []) (entries 0 (w .bank)) half (withRegister B0 0x08 half) (coloured w f)
-      (ready-runs w half toB0 0x08 half-ready (singles-lead (viewOf half) .b0) tt)
-      (all-run w (withRegister B0 0x08 half) true (w .bank) switched-ready (at-any half B0 0x08 B0 (half-ready .isSound) (lit< tt)) few
+      then (entries 0 (w .palette)) (write toB0 openBank ∷ entries 0 (w .bank)) f half (coloured w f) (all-run w f false (w .palette) ready b0 many (wf .palette) (wf .paletteBytes))
+      (then (write toB0 openBank ∷ []) (entries 0 (w .bank)) half (withRegister B0 openBank half) (coloured w f)
+      (ready-runs w half toB0 openBank half-ready (singles-lead (viewOf half) .b0) (open-fits .bank))
+      (all-run w (withRegister B0 openBank half) true (w .bank) switched-ready (at-any half B0 openBank B0 (half-ready .isSound) (lit< tt)) few
       (wf .bank) (wf .bankBytes)))
 
   pub coloured-ready : Ready w (coloured w f)
   unfolding coloured withRegister withRegisters withPointer withPalette addressed pointerSound
-  coloured-ready = ready-as w (withRegister B0 0x08 half) (coloured w f) refl tt switched-ready
+  coloured-ready = ready-as w (withRegister B0 openBank half) (coloured w f) refl tt switched-ready
 
 -- ---- registers
 
@@ -243,9 +251,9 @@ module _ (w f : File) (s : T (sound w)) (ready : Ready w f) (t : f .toggle ≡ f
   pub indices-run : Runs f (indices w) (indexed w f)
   unfolding indices indexed flips flipped brought withRegister withRegisters withToggle
   indices-run =
-      then (along w (indexRoads w)) (write toARX (register w ARX) ∷ portRead (cond (w .toggle) 0x3C0 (byHalf w 0x3BA 0x3DA)) ∷ [])
+      then (along w (indexRoads w)) (write toARX (register w ARX) ∷ cond (w .toggle) (portRead 0x3C0) (toIndex w) ∷ [])
       f (brought w (indexRoads w) f) (indexed w f) (three .runs)
-      (then (write toARX (register w ARX) ∷ []) (portRead (cond (w .toggle) 0x3C0 (byHalf w 0x3BA 0x3DA)) ∷ [])
+      (then (write toARX (register w ARX) ∷ []) (cond (w .toggle) (portRead 0x3C0) (toIndex w) ∷ [])
       (brought w (indexRoads w) f) (flipped true (withRegister ARX (register w ARX) (brought w (indexRoads w) f))) (indexed w f)
       (ready-runs w (brought w (indexRoads w) f) toARX (register w ARX) (three .ready) (arx-leads (brought w (indexRoads w) f) t) (wanted-within w ARX s))
       (toggle-runs w (flipped true (withRegister ARX (register w ARX) (brought w (indexRoads w) f))) (w .toggle) four-ready (ap not t)))

@@ -23,7 +23,7 @@ use Rattle.access.specs.Checks.{isWrite, isPort, isOneOf, malformed, otherHalf}
 use Rattle.access.specs.Lookup.{selects, fits, first, rowOf}
 use Rattle.access.specs.Places.{Row, any, places, each, attributePorts, generalPorts, crtcPorts, pipelinePlace, mmioPlaces, pciPlaces}
 use Rattle.plan.specs.Roads.{byHalf}
-use Rattle.plan.specs.Plan.{portRead}
+use Rattle.plan.specs.Plan.{portRead, toIndex}
 use Rattle.plan.specs.Restores.{accepted, Runs}
 use Rattle.plan.proofs.Asked.{asked, does}
 use Rattle.plan.proofs.Composed.{one}
@@ -53,14 +53,14 @@ reset-by f s on =
     (λ e. read-runs f 0x3BA 0 ToggleReset s on refl (rw e) refl) (λ e. read-runs f 0x3DA 0 ToggleReset s on refl (rw e) refl)
 
 -- the toggle to index
-pub reset-runs : (w f : File) → Ready w f → Runs f (portRead (byHalf w 0x3BA 0x3DA) ∷ []) (withToggle false f)
+pub reset-runs : (w f : File) → Ready w f → Runs f (toIndex w ∷ []) (withToggle false f)
 unfolding byHalf
 reset-runs w f ready =
     reset-by f (ready .isSound) (ready .on) (bit 0 (register w MISC)) (bit-lt 0 (register w MISC)) (ap (bit 0) (ready .misc))
 
 -- from data, to a wanted state
 pub toggle-runs : (w f : File) (state : Bool) → Ready w f → f .toggle ≡ true
-    → Runs f (portRead (cond state 0x3C0 (byHalf w 0x3BA 0x3DA)) ∷ []) (withToggle state f)
+    → Runs f (cond state (portRead 0x3C0) (toIndex w) ∷ []) (withToggle state f)
 unfolding otherHalf isPort isOneOf answerAt readAt apply rowOf first fits selects places each attributePorts generalPorts crtcPorts pipelinePlace mmioPlaces pciPlaces sequencer crtc graphics attribute pipeline withToggle
 toggle-runs w f true ready t = subst (λ (b : Bool). Runs f (portRead 0x3C0 ∷ []) (withToggle b f)) t (read-runs f 0x3C0 (register f ARX) (Register ARX) (ready .isSound) (ready .on) refl refl refl)
 toggle-runs w f false ready t = reset-runs w f ready

@@ -40,10 +40,23 @@ along w (road ∷ roads) = selecting (road .index) ++ write road (register w (ro
 abbrev pub toIndex : File → Record
 toIndex w = portRead (byHalf w 0x3BA 0x3DA)
 
+-- what the opened registers hold while a plan runs: PCI04[1:0]=3; CR11[7]=0; B0[7]=0, and B0[3] chooses the palette or the bank
+unfoldable pub openSpaces : ℕ
+openSpaces = 0x0003
+
+unfoldable pub openLock : ℕ
+openLock = 0x00
+
+unfoldable pub openPalette : ℕ
+openPalette = 0x00
+
+unfoldable pub openBank : ℕ
+openBank = 0x08
+
 -- both spaces on, CR0 to CR7 unlocked, the palette up and its 256 entries chosen, MISC as wanted, the toggle at index
 unfoldable pub opening : File → List Record
 opening w =
-    write toPCI04 0x0003 ∷ write toCR11 0x00 ∷ write toB0 0x00 ∷ write toMISC (register w MISC) ∷ toIndex w ∷ []
+    write toPCI04 openSpaces ∷ write toCR11 openLock ∷ write toB0 openPalette ∷ write toMISC (register w MISC) ∷ toIndex w ∷ []
 
 -- three 3C9h writes for each entry
 unfoldable pub pixels : List Colour → List Record
@@ -56,12 +69,12 @@ entries first cs = mmioWrite 0xA8 first ∷ pixels cs
 
 -- the palette, and with B0[3]=1 the bank
 unfoldable pub colours : File → List Record
-colours w = entries 0 (w .palette) ++ write toB0 0x08 ∷ entries 0 (w .bank)
+colours w = entries 0 (w .palette) ++ write toB0 openBank ∷ entries 0 (w .bank)
 
 -- SRX, GRX, CRX and ARX, which leaves the toggle at data; then the toggle: a 3?Ah read, or a 3C0h read, which moves nothing
 unfoldable pub indices : File → List Record
 indices w =
-    along w (indexRoads w) ++ write toARX (register w ARX) ∷ portRead (cond (w .toggle) 0x3C0 (byHalf w 0x3BA 0x3DA)) ∷ []
+    along w (indexRoads w) ++ write toARX (register w ARX) ∷ cond (w .toggle) (portRead 0x3C0) (toIndex w) ∷ []
 
 -- the pointer, '3C7h's pair A4h, 3C8h A8h'; then what was open, PCI04 last
 unfoldable pub closing : File → List Record
