@@ -84,10 +84,14 @@ select w f (ar n) ready t s = absurd s
 select w f indexDue ready t s = absurd s
 select w f (dataDue n) ready t s =
     let by = select-by w f toARX n ready (arx-leads f t) tt s in
-    record { runs = by .0; ready = by .1; view =
-        rw t
-        (ap (λ (v : View). record { misc = v .misc; srx = v .srx; crx = v .crx; grx = v .grx; arx = v .arx; toggle = true })
-        (view-with f ARX n (ready .isSound) (lit< tt))) }
+    record {
+      runs = by .0;
+      ready = by .1;
+      view =
+          rw t
+          (ap (λ (v : View). record { misc = v .misc; srx = v .srx; crx = v .crx; grx = v .grx; arx = v .arx; toggle = true })
+          (view-with f ARX n (ready .isSound) (lit< tt)));
+    }
 
 -- ---- a road, and a list of roads
 
@@ -134,8 +138,8 @@ module _ (w : File) (s : T (sound w)) where
   road-brings f road ready t o l =
       record {
         runs =
-          then (selecting (road .index)) (write road (register w (road .register)) ∷ []) f (selected (road .index) f) (brought w (road ∷ []) f)
-          (sel .runs) (subst (λ (g : File). Runs (selected (road .index) f) (write road (register w (road .register)) ∷ []) g) ends stores);
+            then (selecting (road .index)) (write road (register w (road .register)) ∷ []) f (selected (road .index) f) (brought w (road ∷ []) f)
+            (sel .runs) (subst (λ (g : File). Runs (selected (road .index) f) (write road (register w (road .register)) ∷ []) g) ends stores);
         ready = subst (λ (g : File). Ready w g) ends after;
       }
     where
@@ -173,9 +177,9 @@ module _ (w : File) (s : T (sound w)) where
       (λ v e. right (leads (seen (road .index) v) road) _ (lead v e)) in
       record {
         runs =
-          subst (λ (rs : List Record). Runs f rs (brought w (road ∷ roads) f))
-          (append-assoc (selecting (road .index)) (write road (register w (road .register)) ∷ []) (along w roads))
-          (then (along w (road ∷ [])) (along w roads) f (brought w (road ∷ []) f) (brought w (road ∷ roads) f) (first .runs) (rest .runs));
+            subst (λ (rs : List Record). Runs f rs (brought w (road ∷ roads) f))
+            (append-assoc (selecting (road .index)) (write road (register w (road .register)) ∷ []) (along w roads))
+            (then (along w (road ∷ [])) (along w roads) f (brought w (road ∷ []) f) (brought w (road ∷ roads) f) (first .runs) (rest .runs));
         ready = rest .ready;
       }
 

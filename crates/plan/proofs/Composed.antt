@@ -30,7 +30,7 @@ then (a ∷ rs) ss f g h r s =
     (record { allDone = right (accepted (answer f a)) (allAccepted (answers (access f a .file) (map Whole rs))) (r .allDone); ends = r .ends }) s in
     record {
       allDone =
-        both (accepted (answer f a)) (allAccepted (answers (access f a .file) (map Whole (rs ++ ss))))
-        (left (accepted (answer f a)) (allAccepted (answers (access f a .file) (map Whole rs))) (r .allDone)) (rest .allDone);
+          both (accepted (answer f a)) (allAccepted (answers (access f a .file) (map Whole (rs ++ ss))))
+          (left (accepted (answer f a)) (allAccepted (answers (access f a .file) (map Whole rs))) (r .allDone)) (rest .allDone);
       ends = rest .ends;
     }

@@ -83,7 +83,7 @@ pub runs-leave : (bank : Bool) (runs : List Run) (f : File)
     → afterRuns bank runs f ≡ withPointer (afterRuns bank runs f .pointer) (withEntries bank (entriesAfter runs (entriesIn bank f)) f)
 unfolding afterRuns entriesAfter
 runs-leave bank [] f = none-leaves bank f
-runs-leave bank (run ∷ runs) f = 
+runs-leave bank (run ∷ runs) f =
     runs-leave bank runs (afterRun bank run f)
     ∙ one-leaves bank run f (afterRuns bank runs (afterRun bank run f) .pointer) (entriesAfter runs (entriesIn bank (afterRun bank run f)))
     ∙ ap (λ (l : List Colour). withPointer (afterRuns bank runs (afterRun bank run f) .pointer) (withEntries bank (entriesAfter runs l) f)) (one-entries bank run f)

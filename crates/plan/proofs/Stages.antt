@@ -154,8 +154,8 @@ unfolding On sound register
 ready-as w f g e p ready =
     record {
       isSound =
-        both (allWithin storedTable (g .registers)) (pointerSound (g .pointer))
-        (subst (λ (rs : List ℕ). T (allWithin storedTable rs)) (sym e) (registers-sound f (ready .isSound))) p;
+          both (allWithin storedTable (g .registers)) (pointerSound (g .pointer))
+          (subst (λ (rs : List ℕ). T (allWithin storedTable rs)) (sym e) (registers-sound f (ready .isSound))) p;
       on = ap (λ (rs : List ℕ). getD rs PCI04 0) e ∙ ready .on;
       unlocked = ap (λ (rs : List ℕ). getD rs CR11 0) e ∙ ready .unlocked;
       misc = ap (λ (rs : List ℕ). getD rs MISC 0) e ∙ ready .misc;

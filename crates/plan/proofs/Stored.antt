@@ -110,11 +110,14 @@ module _ (f : File) (road : Road) (value : ℕ) (l : T (leads (viewOf f) road)) 
   well-formed : malformed f (write road value) ≡ false
   unfolding malformed leads
   well-formed =
-      simp (le-ltb 5 (road .kind) (leb→le (road .kind) 5 (search (left, right) depth 8)),
-      is-true (eqb (road .width) 1 || eqb (road .width) 2) (search (left, right) depth 8), is-write,
-      lt-leb (256 ^ road .width) value
-      (lt-of-le-of-lt (within-le (storedBits (road .register)) value w)
-      (ltb→lt (storedBits (road .register)) (256 ^ road .width) (search (left, right) depth 8))))
+      simp (
+        le-ltb 5 (road .kind) (leb→le (road .kind) 5 (search (left, right) depth 8)),
+        is-true (eqb (road .width) 1 || eqb (road .width) 2) (search (left, right) depth 8),
+        is-write,
+        lt-leb (256 ^ road .width) value
+            (lt-of-le-of-lt (within-le (storedBits (road .register)) value w)
+            (ltb→lt (storedBits (road .register)) (256 ^ road .width) (search (left, right) depth 8))),
+      )
 
   -- it finds what the test found
   found-as : rowOf f (write road value) ≡ rowOf (shown (viewOf f)) (write road 0)
@@ -135,9 +138,9 @@ module _ (f : File) (road : Road) (value : ℕ) (l : T (leads (viewOf f) road)) 
       record {
         done = rw done tt;
         file =
-          (rw is-write at (does f (write road value) row 0 e done))
-          ∙ place-stores f (road .register) value free (row .place) into small
-          ∙ ap₂ flipped moves (exactly f (road .register) value s w);
+            (rw is-write at (does f (write road value) row 0 e done))
+            ∙ place-stores f (road .register) value free (row .place) into small
+            ∙ ap₂ flipped moves (exactly f (road .register) value s w);
       }
     where
       into : storesInto (row .place) ≡ road .register
