@@ -3,7 +3,7 @@
 use Prim.Native.Nat.{ℕ, _<_}
 use mathlib.Core.Path.{_≡_, refl, sym, ap, _∙_, subst}
 use mathlib.Core.Bool.{Bool, true, false, not, _&&_, _||_}
-use mathlib.Core.List.{List, [], _∷_, _++_, append-assoc}
+use mathlib.Core.List.{List, [], _∷_, _++_, append-assoc, map, map-append}
 use borrow.Author.Tests.{eqb-true, eqb-false}
 use lib.Dec.{T, eqb, T-not, eqb-refl, lit<}
 use lib.ListN.{getD, set, length, length-set}
@@ -19,7 +19,7 @@ use Rattle.access.specs.declared.record.Record.{Record}
 use Rattle.access.specs.Checks.{isOneOf}
 use Rattle.access.specs.Places.{Index, any, sr, cr, gr, ar, indexDue, dataDue}
 use Rattle.plan.specs.Roads.{Road, toSRX, toGRX, toARX}
-use Rattle.plan.specs.Plan.{write, selecting, along}
+use Rattle.plan.specs.Steps.{write, valueFrom, wanted, step, stepRecord, selecting, stepsOf, along}
 use Rattle.plan.specs.Restores.{Runs}
 use Rattle.plan.proofs.Asked.{View, viewOf}
 use Rattle.plan.proofs.Composed.{none, then}
@@ -60,7 +60,7 @@ arx-leads f t = subst (λ (b : Bool). T (leads (record { misc = register f MISC;
 
 -- what selecting leaves
 pub record Selected (w f : File) (i : Index) : Type 0 where
-  pub runs : Runs f (selecting i) (selected i f)
+  pub runs : Runs f (map (stepRecord w) (selecting i)) (selected i f)
   pub ready : Ready w (selected i f)
   pub view : viewOf (selected i f) ≡ seen i (viewOf f)
 
@@ -71,7 +71,7 @@ select-by w f to n ready l free fit =
     (ready-runs w f to n ready l fit, ready-flipped w (withRegister (to .register) n f) (flips (to .index)) (ready-with w f (to .register) n ready free fit))
 
 select : (w f : File) (i : Index) → Ready w f → f .toggle ≡ false → T (selectable i) → Selected w f i
-unfolding selecting selected afterSelecting selectable flips flipped loose isOneOf withRegister withRegisters withToggle register seen viewOf
+unfolding selecting stepRecord valueFrom selected afterSelecting selectable flips flipped loose isOneOf withRegister withRegisters withToggle register seen viewOf
 select w f any ready t s = record { runs = none f; ready = ready; view = refl }
 select w f (sr n) ready t s =
     let by = select-by w f toSRX n ready (singles-lead (viewOf f) .srx) tt s in
@@ -121,6 +121,19 @@ road-ends w f (ar n) number value t s = absurd s
 road-ends w f indexDue number value t s = absurd s
 road-ends w f (dataDue n) number value t s = rw t
 
+-- the records of a road, and of those behind it
+along-road : (w : File) (road : Road) (roads : List Road)
+    → map (stepRecord w) (selecting (road .index)) ++ write road (register w (road .register)) ∷ along w roads ≡ along w (road ∷ roads)
+unfolding along stepsOf stepRecord valueFrom
+along-road w road roads = sym (map-append (stepRecord w) (selecting (road .index)) (step road (wanted (road .register)) ∷ stepsOf roads))
+
+along-behind : (w : File) (road : Road) (roads : List Road) → along w (road ∷ []) ++ along w roads ≡ along w (road ∷ roads)
+unfolding along stepsOf
+along-behind w road roads =
+    ap (λ (rs : List Record). rs ++ along w roads) (sym (along-road w road []))
+    ∙ append-assoc (map (stepRecord w) (selecting (road .index))) (write road (register w (road .register)) ∷ []) (along w roads)
+    ∙ along-road w road roads
+
 -- every road leads to its register, with its index selected, in a file that shows the wanted MISC
 abbrev pub Lead : File → List Road → Type 0
 Lead w roads = (v : View) → v .misc ≡ register w MISC → T (leading v roads)
@@ -134,12 +147,14 @@ module _ (w : File) (s : T (sound w)) where
   -- one road
   road-brings : (f : File) (road : Road) → Ready w f → f .toggle ≡ false → T (passable road) → T (leads (seen (road .index) (viewOf f)) road)
       → Brings w f (road ∷ [])
-  unfolding along brought afterRoads passable
+  unfolding along stepsOf brought afterRoads passable
   road-brings f road ready t o l =
       record {
         runs =
-            then (selecting (road .index)) (write road (register w (road .register)) ∷ []) f (selected (road .index) f) (brought w (road ∷ []) f)
-            (sel .runs) (subst (λ (g : File). Runs (selected (road .index) f) (write road (register w (road .register)) ∷ []) g) ends stores);
+            subst (λ (rs : List Record). Runs f rs (brought w (road ∷ []) f)) (along-road w road [])
+            (then (map (stepRecord w) (selecting (road .index))) (write road (register w (road .register)) ∷ []) f (selected (road .index) f)
+            (brought w (road ∷ []) f) (sel .runs)
+            (subst (λ (g : File). Runs (selected (road .index) f) (write road (register w (road .register)) ∷ []) g) ends stores));
         ready = subst (λ (g : File). Ready w g) ends after;
       }
     where
@@ -168,7 +183,7 @@ module _ (w : File) (s : T (sound w)) where
 
   -- any list of roads
   pub roads-bring : (roads : List Road) (f : File) → Ready w f → f .toggle ≡ false → T (everyRoad passable roads) → Lead w roads → Brings w f roads
-  unfolding along brought afterRoads everyRoad leading viewOf withRegisters
+  unfolding along stepsOf brought afterRoads everyRoad leading viewOf withRegisters
   roads-bring [] f ready t o lead = record { runs = none f; ready = ready }
   roads-bring (road ∷ roads) f ready t o lead =
       let first = road-brings f road ready t (left (passable road) (everyRoad passable roads) o)
@@ -178,7 +193,7 @@ module _ (w : File) (s : T (sound w)) where
       record {
         runs =
             subst (λ (rs : List Record). Runs f rs (brought w (road ∷ roads) f))
-            (append-assoc (selecting (road .index)) (write road (register w (road .register)) ∷ []) (along w roads))
+            (along-behind w road roads)
             (then (along w (road ∷ [])) (along w roads) f (brought w (road ∷ []) f) (brought w (road ∷ roads) f) (first .runs) (rest .runs));
         ready = rest .ready;
       }

@@ -21,7 +21,8 @@ use Rattle.access.specs.declared.record.Record.{Record}
 use Rattle.access.specs.Access.{lockedOut, reachIn}
 use Rattle.access.specs.Checks.{isPort, isMmio, isOneOf, spaceOff}
 use Rattle.plan.specs.Roads.{Road}
-use Rattle.plan.specs.Plan.{write, openSpaces, openLock}
+use Rattle.plan.specs.Plan.{openSpaces, openLock}
+use Rattle.plan.specs.Steps.{write}
 use Rattle.plan.specs.Restores.{Runs}
 use Rattle.plan.proofs.Asked.{viewOf}
 use Rattle.plan.proofs.Composed.{one}

@@ -24,7 +24,8 @@ use Rattle.access.specs.Checks.{isOneOf}
 use Rattle.access.specs.Records.{items}
 use Rattle.access.specs.Run.{fileAfter, answers}
 use Rattle.plan.specs.Roads.{Road, toPCI04, toCR11, toB0, toARX, eachRoad, but, registerRoads, indexRoads}
-use Rattle.plan.specs.Plan.{along, opening, colours, indices, closing, planRecords}
+use Rattle.plan.specs.Plan.{opening, colours, indices, closing, planRecords}
+use Rattle.plan.specs.Steps.{along}
 use Rattle.plan.specs.Refusals.{planAnswer, restoreAnswer}
 use Rattle.plan.specs.Restores.{allAccepted, Runs, IsFile, Plans, Planned}
 use Rattle.plan.proofs.Along.{afterSelecting, afterRoads, brought, Brings, moves, settles, settled, after-length, after-append}

@@ -21,7 +21,8 @@ use Rattle.file.specs.Sound.{allWithin, sound}
 use Rattle.file.proofs.Soundness.{registers-sound, pointer-sound}
 use Rattle.access.specs.Checks.{isPort, isMmio, isOneOf, spaceOff}
 use Rattle.plan.specs.Roads.{toPCI04, toCR11, toB0, toMISC, toSRX, toGRX, toARX, toCRX, registerRoads, indexRoads, eachRoad, but, byHalf}
-use Rattle.plan.specs.Plan.{write, mmioWrite, portRead, selecting, toIndex, along, openSpaces, openLock, openPalette, openBank, opening, entries, colours, indices, closing}
+use Rattle.plan.specs.Plan.{mmioWrite, portRead, toIndex, openSpaces, openLock, openPalette, openBank, opening, entries, colours, indices, closing}
+use Rattle.plan.specs.Steps.{write, valueFrom, stepRecord, selecting, stepsOf, along}
 use Rattle.plan.specs.Restores.{Runs, IsFile, bytes}
 use Rattle.plan.proofs.Along.{brought, passable, selectable, Lead, Brings, roads-bring, arx-leads}
 use Rattle.plan.proofs.Asked.{viewOf}
@@ -290,7 +291,7 @@ module _ (w f : File) (s : T (sound w)) (red : w .pointer .next ≡ 0) (small : 
   b0-ready = ready-with w pointed B0 (register w B0) pointed-ready tt (wanted-within w B0 s)
 
   pub closing-runs : Runs f (closing w) (closed w f)
-  unfolding closing closed along selecting flips flipped
+  unfolding closing closed along stepsOf selecting stepRecord valueFrom flips flipped
   closing-runs =
       then (mmioWrite (cond (w .pointer .reading) 0xA4 0xA8) (w .pointer .address) ∷ []) (along w (toB0 ∷ toCR11 ∷ toPCI04 ∷ []))
       f pointed (closed w f)

@@ -8,33 +8,15 @@ use Rattle.file.specs.declared.registers.File.{File}
 use Rattle.file.specs.File.{register}
 use Rattle.file.specs.Names.{MISC, ARX}
 use Rattle.access.specs.declared.record.Record.{Record}
-use Rattle.access.specs.Places.{Index, any, sr, cr, gr, ar, indexDue, dataDue}
-use Rattle.plan.specs.Roads.{Road, toPCI04, toCR11, toB0, toMISC, toSRX, toGRX, toARX, byHalf, registerRoads, indexRoads}
+use Rattle.plan.specs.Roads.{toPCI04, toCR11, toB0, toMISC, toARX, byHalf, registerRoads, indexRoads}
+use Rattle.plan.specs.Steps.{write, along}
 
--- the record that writes a value by a road
-abbrev pub write : Road → ℕ → Record
-write road value = record { kind = road .kind; width = road .width; address = road .address; value = value }
-
+-- a byte to MMIO, and a port's byte
 abbrev pub mmioWrite : ℕ → ℕ → Record
 mmioWrite address value = record { kind = 5; width = 1; address = address; value = value }
 
 abbrev pub portRead : ℕ → Record
 portRead address = record { kind = 2; width = 1; address = address; value = 0 }
-
--- the records that select an index, the toggle being index
-unfoldable pub selecting : Index → List Record
-selecting any = []
-selecting (sr n) = write toSRX n ∷ []
-selecting (cr n) = []
-selecting (gr n) = write toGRX n ∷ []
-selecting (ar n) = []
-selecting indexDue = []
-selecting (dataDue n) = write toARX n ∷ []
-
--- the wanted values of some registers, each by its road
-unfoldable pub along : File → List Road → List Record
-along w [] = []
-along w (road ∷ roads) = selecting (road .index) ++ write road (register w (road .register)) ∷ along w roads
 
 -- '3?Ah read (gives 0, sets the toggle to index)'
 abbrev pub toIndex : File → Record
