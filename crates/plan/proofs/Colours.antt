@@ -8,10 +8,9 @@ use mathlib.Core.Option.{some}
 use native.Mathlib.Nat.{add-zero, mod-eq-of-lt}
 use native.Mathlib.Omega.{arith}
 use borrow.Author.Tests.{lt-leb}
-use lib.Dec.{T, eqb, leb, ltb, leb→le, ltb→lt}
-use lib.ListN.{getD, length}
+use lib.Dec.{T, leb, ltb, leb→le, ltb→lt}
+use lib.ListN.{length}
 use lib.Seq.{sets}
-use Rattle.bits.specs.Store.{bit}
 use Rattle.bits.proofs.Test.{left, right, both}
 use Rattle.file.specs.declared.answer.Answer.the-variants.{Done}
 use Rattle.file.specs.declared.palette.Colour.{Colour}
@@ -19,8 +18,7 @@ use Rattle.file.specs.declared.palette.Pointer.{Pointer}
 use Rattle.file.specs.declared.registers.File.{File}
 use Rattle.file.specs.Answers.{codeOf}
 use Rattle.file.specs.Effects.{apply, paintIn}
-use Rattle.file.specs.File.{register, withPalette, withBank, withPointer}
-use Rattle.file.specs.Names.{PCI04, B0}
+use Rattle.file.specs.File.{register, withRegisters, withPalette, withBank, withPointer}
 use Rattle.file.specs.Palette.{addressed, moved, afterWrite, stores, mixed, pointerSound}
 use Rattle.file.specs.Registers.{storedTable, sequencer, crtc, graphics, attribute, pipeline}
 use Rattle.file.specs.Sound.{allWithin, sound}
@@ -31,7 +29,7 @@ use Rattle.access.specs.Access.{paletteUp, inBank, entryNumber, answerAt, pixel
 use Rattle.access.specs.Checks.{isWrite, isPort, malformed, otherHalf}
 use Rattle.access.specs.Lookup.{selects, fits, first, rowOf}
 use Rattle.access.specs.Places.{Row, any, places, each, attributePorts, generalPorts, crtcPorts, pipelinePlace, mmioPlaces, pciPlaces}
-use Rattle.plan.specs.Plan.{mmioWrite, openSpaces, pixels, entries}
+use Rattle.plan.specs.Plan.{mmioWrite, pixels, entries}
 use Rattle.plan.specs.Restores.{accepted, Runs, bytes}
 use Rattle.plan.proofs.Asked.{asked, does}
 use Rattle.plan.proofs.Composed.{none, one, then}
@@ -65,14 +63,25 @@ address-runs f false value s on h = byte-runs f 0xA8 value WriteAddress s on h r
 
 -- ---- three bytes of an entry
 
--- registers that let colours through: both spaces on, the palette up, the palette or the bank chosen
-pub record Up (registers : List ℕ) (bank : Bool) : Type 0 where
-  pub registersSound : T (allWithin storedTable registers)
-  pub on : getD registers PCI04 0 ≡ openSpaces
-  pub up : eqb (bit 7 (getD registers B0 0)) 0 ≡ true
-  pub chosen : eqb (bit 3 (getD registers B0 0)) 1 ≡ bank
+-- a file that lets colours through: both spaces on, the palette up, the palette or the bank chosen
+pub record Up (f : File) (bank : Bool) : Type 0 where
+  pub registersSound : T (allWithin storedTable (f .registers))
+  pub on : On f
+  pub up : paletteUp f ≡ true
+  pub chosen : inBank f ≡ bank
 
-pixel-runs : (f : File) (bank : Bool) (p : Pointer) (value : ℕ) → Up (f .registers) bank → T (pointerSound p) → value < 256
+-- its registers say so
+pub up-as : (f g : File) (bank : Bool) → g .registers ≡ f .registers → Up f bank → Up g bank
+unfolding On paletteUp inBank register withRegisters
+up-as f g bank e up =
+    record {
+      registersSound = subst (λ (rs : List ℕ). T (allWithin storedTable rs)) (sym e) (up .registersSound);
+      on = subst (λ (rs : List ℕ). On (withRegisters rs f)) (sym e) (up .on);
+      up = subst (λ (rs : List ℕ). paletteUp (withRegisters rs f) ≡ true) (sym e) (up .up);
+      chosen = subst (λ (rs : List ℕ). inBank (withRegisters rs f) ≡ bank) (sym e) (up .chosen);
+    }
+
+pixel-runs : (f : File) (bank : Bool) (p : Pointer) (value : ℕ) → Up f bank → T (pointerSound p) → value < 256
     → Runs (withPointer p f) (mmioWrite 0xAC value ∷ []) (apply (pixelWrite (withPointer p f) value) (withPointer p f))
 unfolding rowOf first fits selects places each attributePorts generalPorts crtcPorts pipelinePlace mmioPlaces pciPlaces sequencer crtc graphics attribute pipeline answerAt writeAt sound withPointer paletteUp register On
 pixel-runs f bank p value up t h =
@@ -100,7 +109,7 @@ repainted true entry c p q f = refl
 repainted false entry c p q f = refl
 
 -- what the third byte leaves
-third-leaves : (f : File) (bank : Bool) (entry : ℕ) (c : Colour) → Up (f .registers) bank → entry < size bank
+third-leaves : (f : File) (bank : Bool) (entry : ℕ) (c : Colour) → Up f bank → entry < size bank
     → apply (pixelWrite (withPointer (between (entry % 256) 2 (c .red) (c .green)) f) (c .blue)) (withPointer (between (entry % 256) 2 (c .red) (c .green)) f)
     ≡ withPointer (addressed false (suc entry % 256)) (paintIn bank entry c f)
 unfolding pixelWrite stores afterWrite moved mixed apply withPointer addressed inBank entryNumber register
@@ -112,7 +121,7 @@ third-leaves f bank entry c up h =
     next = omega arith
 
 -- the three writes of an entry
-entry-runs : (f : File) (bank : Bool) (entry : ℕ) (c : Colour) → Up (f .registers) bank → entry < size bank
+entry-runs : (f : File) (bank : Bool) (entry : ℕ) (c : Colour) → Up f bank → entry < size bank
     → c .red < 256 → c .green < 256 → c .blue < 256
     → Runs (withPointer (addressed false (entry % 256)) f) (mmioWrite 0xAC (c .red) ∷ mmioWrite 0xAC (c .green) ∷ mmioWrite 0xAC (c .blue) ∷ [])
     (withPointer (addressed false (suc entry % 256)) (paintIn bank entry c f))
@@ -159,7 +168,7 @@ unfolding painted withBank withPalette
 painted-registers true first cs f = refl
 painted-registers false first cs f = refl
 
-pixels-run : (cs : List Colour) (f : File) (bank : Bool) (first : ℕ) → Up (f .registers) bank → first + length cs ≤ size bank → T (bytes cs)
+pixels-run : (cs : List Colour) (f : File) (bank : Bool) (first : ℕ) → Up f bank → first + length cs ≤ size bank → T (bytes cs)
     → Runs (withPointer (addressed false (first % 256)) f) (pixels cs)
     (withPointer (addressed false ((first + length cs) % 256)) (painted bank first cs f))
 unfolding pixels bytes
@@ -175,7 +184,7 @@ pixels-run (c ∷ cs) f bank first up h t =
     (ltb→lt (c .blue) 256 (search (left, right))))
     (subst (λ (g : File). Runs (withPointer (addressed false (suc first % 256)) (paintIn bank first c f)) (pixels cs) g)
     (ap₂ (λ (n : ℕ) (g : File). withPointer (addressed false (n % 256)) g) onward (painted-next bank first c cs f))
-    (pixels-run cs (paintIn bank first c f) bank (suc first) (subst (λ (rs : List ℕ). Up rs bank) (sym (paint-keeps f bank first c)) up)
+    (pixels-run cs (paintIn bank first c f) bank (suc first) (up-as f (paintIn bank first c f) bank (paint-keeps f bank first c) up)
     (omega arith) (search (left, right))))
   where
     onward : suc first + length cs ≡ first + suc (length cs)
@@ -196,7 +205,7 @@ afterRun bank run f =
     withPointer (addressed false ((run .first + length (run .colours)) % 256)) (painted bank (run .first) (run .colours) f)
 
 -- every record of a run is accepted, and its entries hold its colours
-pub run-runs : (run : Run) (f : File) (bank : Bool) → T (sound f) → Up (f .registers) bank → T (inRange bank run)
+pub run-runs : (run : Run) (f : File) (bank : Bool) → T (sound f) → Up f bank → T (inRange bank run)
     → Runs f (entries (run .first) (run .colours)) (afterRun bank run f)
 unfolding entries inRange afterRun On register
 run-runs run f bank s up t =

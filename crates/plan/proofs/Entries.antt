@@ -1,7 +1,7 @@
 -- The stage of colours, over any list of runs of entries: every record is accepted, what the runs name holds the wanted colours, and all else but
 -- the pointer is as before. Assumes nothing.
 use Prim.Native.Nat.{ℕ, zero, suc, _+_, _-_, _≤_, _<_}
-use mathlib.Core.Path.{_≡_, refl, sym, ap, _∙_, subst}
+use mathlib.Core.Path.{_≡_, refl, ap, _∙_, subst}
 use mathlib.Core.Bool.{Bool, true, false, not, _&&_, _||_}
 use mathlib.Core.List.{List, [], _∷_, _++_, append-nil}
 use native.Mathlib.Omega.{arith}
@@ -20,7 +20,7 @@ use Rattle.file.proofs.Soundness.{registers-sound}
 use Rattle.access.specs.declared.record.Record.{Record}
 use Rattle.plan.specs.Plan.{entries}
 use Rattle.plan.specs.Restores.{Runs}
-use Rattle.plan.proofs.Colours.{Up, size, entriesIn, withEntries, painted, painted-registers, Run, inRange, afterRun, run-runs}
+use Rattle.plan.proofs.Colours.{Up, up-as, size, entriesIn, withEntries, painted, painted-registers, Run, inRange, afterRun, run-runs}
 use Rattle.plan.proofs.Composed.{none, then}
 
 unfoldable pub runRecords : List Run → List Record
@@ -46,7 +46,7 @@ unfolding afterRun withPointer
 after-registers bank run f = painted-registers bank (run .first) (run .colours) f
 
 -- every record of any list of runs is accepted
-pub runs-run : (runs : List Run) (f : File) (bank : Bool) → T (sound f) → Up (f .registers) bank → T (everyRun (inRange bank) runs)
+pub runs-run : (runs : List Run) (f : File) (bank : Bool) → T (sound f) → Up f bank → T (everyRun (inRange bank) runs)
     → Runs f (runRecords runs) (afterRuns bank runs f)
 unfolding runRecords everyRun afterRuns
 runs-run [] f bank s up t = none f
@@ -54,7 +54,7 @@ runs-run (run ∷ runs) f bank s up t =
     then (entries (run .first) (run .colours)) (runRecords runs) f (afterRun bank run f) (afterRuns bank runs (afterRun bank run f))
     (run-runs run f bank s up (left (inRange bank run) (everyRun (inRange bank) runs) t))
     (runs-run runs (afterRun bank run f) bank (after-sound bank run f s)
-    (subst (λ (rs : List ℕ). Up rs bank) (sym (after-registers bank run f)) up) (right (inRange bank run) (everyRun (inRange bank) runs) t))
+    (up-as f (afterRun bank run f) bank (after-registers bank run f) up) (right (inRange bank run) (everyRun (inRange bank) runs) t))
 
 -- ---- what they leave among the entries
 

@@ -7,6 +7,7 @@ pub mod Along
 pub mod Colours
 pub mod Entries
 pub mod Toggled
+pub mod Opening
 pub mod Stages
 pub mod Restored
 pub mod Counted

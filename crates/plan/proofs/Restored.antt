@@ -33,7 +33,8 @@ use Rattle.plan.proofs.Composed.{then}
 use Rattle.plan.proofs.Counted.{plan-room}
 use Rattle.plan.proofs.Fitting.{run-fits, trace-items}
 use Rattle.plan.proofs.Ready.{Ready, count}
-use Rattle.plan.proofs.Stages.{opened, opening-runs, opened-ready, opened-up, coloured, colours-run, coloured-ready, registers-bring, indexed, indices-run, indexed-ready, closed, closing-runs}
+use Rattle.plan.proofs.Opening.{opened, opening-runs, opened-ready, opened-up}
+use Rattle.plan.proofs.Stages.{coloured, colours-run, coloured-ready, registers-bring, indexed, indices-run, indexed-ready, closed, closing-runs}
 use Rattle.plan.proofs.Stored.{withRegister}
 
 -- ---- every register is named

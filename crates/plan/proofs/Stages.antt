@@ -1,4 +1,4 @@
--- The plan's stages, each from any file that it may meet: opening, colours, registers, indices, closing.
+-- The plan's other stages, each from any file that is ready: colours, registers, indices, closing.
 -- Assumes nothing.
 use Prim.Native.Nat.{ℕ, _+_, _%_, _<_}
 use mathlib.Core.Path.{_≡_, refl, sym, ap, ap₂, _∙_, subst}
@@ -19,122 +19,22 @@ use Rattle.file.specs.Palette.{addressed, pointerSound}
 use Rattle.file.specs.Registers.{storedBits, storedTable, registers, singles, sequencer, crtc, graphics, attribute, pipeline}
 use Rattle.file.specs.Sound.{allWithin, sound}
 use Rattle.file.proofs.Soundness.{registers-sound, pointer-sound}
-use Rattle.access.specs.Checks.{isPort, isMmio, isOneOf, spaceOff}
-use Rattle.plan.specs.Roads.{toPCI04, toCR11, toB0, toMISC, toSRX, toGRX, toARX, toCRX, registerRoads, indexRoads, eachRoad, but, byHalf}
-use Rattle.plan.specs.Plan.{mmioWrite, portRead, toIndex, openSpaces, openLock, openPalette, openBank, opening, entries, colours, indices, closing}
+use Rattle.access.specs.Access.{paletteUp, inBank}
+use Rattle.access.specs.Checks.{isOneOf}
+use Rattle.plan.specs.Roads.{toPCI04, toCR11, toB0, toSRX, toGRX, toARX, toCRX, registerRoads, indexRoads, eachRoad, but, byHalf}
+use Rattle.plan.specs.Plan.{mmioWrite, portRead, toIndex, openPalette, openBank, entries, colours, indices, closing}
 use Rattle.plan.specs.Steps.{write, valueFrom, stepRecord, selecting, stepsOf, along}
 use Rattle.plan.specs.Restores.{Runs, IsFile, bytes}
 use Rattle.plan.proofs.Along.{brought, passable, selectable, Lead, Brings, roads-bring, arx-leads}
 use Rattle.plan.proofs.Asked.{viewOf}
 use Rattle.plan.proofs.Colours.{Up, size, entriesIn, withEntries, painted, inRange, afterRun, run-runs, address-runs}
-use Rattle.plan.proofs.Composed.{one, then}
+use Rattle.plan.proofs.Composed.{then}
 use Rattle.plan.proofs.Entries.{sets-all}
 use Rattle.plan.proofs.Leads.{flips, seen, leads, everyRoad, leading, singles-lead, registers-lead, crx-leads}
-use Rattle.plan.proofs.Ready.{On, Ready, at-any, with-sound, wanted-within, beyond-lock, unlocked-free, on-runs, ready-runs, ready-with, ready-flipped, loose}
-use Rattle.plan.proofs.Stored.{withRegister, flipped, road-stores}
-use Rattle.plan.proofs.Toggled.{reset-runs, toggle-runs}
-
--- ---- opening
-
--- PCI04 by config, which is open in every file
-config-runs : (f : File) (value : ℕ) → T (sound f) → T (within (storedBits PCI04) value) → Runs f (write toPCI04 value ∷ []) (withRegister PCI04 value f)
-unfolding spaceOff isPort isMmio flips flipped
-config-runs f value s w =
-    let stores = road-stores f toPCI04 value (singles-lead (viewOf f) .pci04) s refl (beyond-lock f PCI04 refl refl) w in
-    one f (write toPCI04 value) (withRegister PCI04 value f) (stores .done) (stores .file)
-
--- what the opening leaves, record by record
-abbrev spacesOn : File → File
-spacesOn f = withRegister PCI04 openSpaces f
-
-abbrev unlocked : File → File
-unlocked f = withRegister CR11 openLock (spacesOn f)
-
-abbrev paletteOn : File → File
-paletteOn f = withRegister B0 openPalette (unlocked f)
-
-abbrev miscSet : File → File → File
-miscSet w f = withRegister MISC (register w MISC) (paletteOn f)
-
-unfoldable pub opened : File → File → File
-opened w f = withToggle false (miscSet w f)
-
--- what is opened fits its registers
-record OpenFits : Type 0 where
-  spaces : T (within (storedBits PCI04) openSpaces)
-  lock : T (within (storedBits CR11) openLock)
-  palette : T (within (storedBits B0) openPalette)
-  bank : T (within (storedBits B0) openBank)
-
-open-fits : OpenFits
-unfolding openSpaces openLock openPalette openBank storedBits storedTable registers singles sequencer crtc graphics attribute pipeline within store
-open-fits = record { spaces = tt; lock = tt; palette = tt; bank = tt }
-
-module _ (w f : File) (ws : T (sound w)) (fs : T (sound f)) where
-  s1 : T (sound (spacesOn f))
-  s1 = with-sound f PCI04 openSpaces fs (open-fits .spaces)
-
-  s2 : T (sound (unlocked f))
-  s2 = with-sound (spacesOn f) CR11 openLock s1 (open-fits .lock)
-
-  s3 : T (sound (paletteOn f))
-  s3 = with-sound (unlocked f) B0 openPalette s2 (open-fits .palette)
-
-  s4 : T (sound (miscSet w f))
-  s4 = with-sound (paletteOn f) MISC (register w MISC) s3 (wanted-within w MISC ws)
-
-  on1 : On (spacesOn f)
-  unfolding On
-  on1 = at-any f PCI04 openSpaces PCI04 fs (lit< tt)
-
-  on2 : On (unlocked f)
-  unfolding On
-  on2 = at-any (spacesOn f) CR11 openLock PCI04 s1 (lit< tt) ∙ on1
-
-  on3 : On (paletteOn f)
-  unfolding On
-  on3 = at-any (unlocked f) B0 openPalette PCI04 s2 (lit< tt) ∙ on2
-
-  free2 : register (unlocked f) CR11 ≡ openLock
-  free2 = at-any (spacesOn f) CR11 openLock CR11 s1 (lit< tt)
-
-  free3 : register (paletteOn f) CR11 ≡ openLock
-  free3 = at-any (unlocked f) B0 openPalette CR11 s2 (lit< tt) ∙ free2
-
-  misc-ready : Ready w (miscSet w f)
-  unfolding On
-  misc-ready =
-      record {
-        isSound = s4;
-        on = at-any (paletteOn f) MISC (register w MISC) PCI04 s3 (lit< tt) ∙ on3;
-        unlocked = at-any (paletteOn f) MISC (register w MISC) CR11 s3 (lit< tt) ∙ free3;
-        misc = at-any (paletteOn f) MISC (register w MISC) MISC s3 (lit< tt);
-      }
-
-  pub opening-runs : Runs f (opening w) (opened w f)
-  unfolding opening opened flips flipped
-  opening-runs =
-      then (write toPCI04 openSpaces ∷ []) (write toCR11 openLock ∷ write toB0 openPalette ∷ write toMISC (register w MISC) ∷ toIndex w ∷ [])
-      f (spacesOn f) (opened w f) (config-runs f openSpaces fs (open-fits .spaces))
-      (then (write toCR11 openLock ∷ []) (write toB0 openPalette ∷ write toMISC (register w MISC) ∷ toIndex w ∷ [])
-      (spacesOn f) (unlocked f) (opened w f)
-      (on-runs (spacesOn f) toCR11 openLock s1 on1 (beyond-lock (spacesOn f) CR11 refl refl) (singles-lead (viewOf (spacesOn f)) .cr11) (open-fits .lock))
-      (then (write toB0 openPalette ∷ []) (write toMISC (register w MISC) ∷ toIndex w ∷ [])
-      (unlocked f) (paletteOn f) (opened w f)
-      (on-runs (unlocked f) toB0 openPalette s2 on2 (unlocked-free (unlocked f) B0 free2) (singles-lead (viewOf (unlocked f)) .b0) (open-fits .palette))
-      (then (write toMISC (register w MISC) ∷ []) (toIndex w ∷ [])
-      (paletteOn f) (miscSet w f) (opened w f)
-      (on-runs (paletteOn f) toMISC (register w MISC) s3 on3 (unlocked-free (paletteOn f) MISC free3) (singles-lead (viewOf (paletteOn f)) .misc)
-      (wanted-within w MISC ws))
-      (reset-runs w (miscSet w f) misc-ready))))
-
-  pub opened-ready : Ready w (opened w f)
-  unfolding opened withToggle On sound register
-  opened-ready = record { isSound = s4; on = misc-ready .on; unlocked = misc-ready .unlocked; misc = misc-ready .misc }
-
-  pub opened-up : register (opened w f) B0 ≡ openPalette
-  unfolding opened withToggle register
-  opened-up = at-any (paletteOn f) MISC (register w MISC) B0 s3 (lit< tt) ∙ at-any (unlocked f) B0 openPalette B0 s2 (lit< tt)
+use Rattle.plan.proofs.Opening.{config-runs, open-fits}
+use Rattle.plan.proofs.Ready.{On, Ready, at-any, with-sound, wanted-within, ready-runs, ready-with, ready-flipped, loose}
+use Rattle.plan.proofs.Stored.{withRegister, flipped}
+use Rattle.plan.proofs.Toggled.{toggle-runs}
 
 -- ---- colours
 
@@ -166,22 +66,20 @@ ready-as w f g e p ready =
 abbrev choosing : Bool → ℕ
 choosing bank = cond bank openBank openPalette
 
-chosen-up : (bank : Bool) (registers : List ℕ) → T (allWithin storedTable registers) → getD registers PCI04 0 ≡ openSpaces
-    → getD registers B0 0 ≡ choosing bank → Up registers bank
-unfolding openPalette openBank bit
-chosen-up true registers s on b0 = record { registersSound = s; on = on; up = rw b0; chosen = rw b0 }
-chosen-up false registers s on b0 = record { registersSound = s; on = on; up = rw b0; chosen = rw b0 }
+chosen-up : (w f : File) (bank : Bool) → Ready w f → register f B0 ≡ choosing bank → Up f bank
+unfolding openPalette openBank paletteUp inBank bit
+chosen-up w f true ready b0 = record { registersSound = registers-sound f (ready .isSound); on = ready .on; up = rw b0; chosen = rw b0 }
+chosen-up w f false ready b0 = record { registersSound = registers-sound f (ready .isSound); on = ready .on; up = rw b0; chosen = rw b0 }
 
 -- all entries, from the first on
 all-run : (w f : File) (bank : Bool) (new : List Colour) → Ready w f → register f B0 ≡ choosing bank
     → length (entriesIn bank f) ≡ size bank → length new ≡ size bank → T (bytes new)
     → Runs f (entries 0 new) (withPointer (addressed false (size bank % 256)) (withEntries bank new f))
-unfolding On register afterRun painted inRange
+unfolding afterRun painted inRange
 all-run w f bank new ready b0 old many t =
     subst (λ (g : File). Runs f (entries 0 new) g)
     (ap₂ (λ (a : ℕ) (l : List Colour). withPointer (addressed false (a % 256)) (withEntries bank l f)) total (sets-all (entriesIn bank f) new (old ∙ sym many)))
-    (run-runs (record { first = 0; colours = new }) f bank (ready .isSound)
-    (chosen-up bank (f .registers) (registers-sound f (ready .isSound)) (ready .on) b0)
+    (run-runs (record { first = 0; colours = new }) f bank (ready .isSound) (chosen-up w f bank ready b0)
     (both (leb (0 + length new) (size bank)) (bytes new) (le→leb (0 + length new) (size bank) (omega (arith, many))) t))
   where
     total : 0 + length new ≡ size bank
@@ -203,7 +101,8 @@ module _ (w f : File) (wf : IsFile w) (ready : Ready w f) (b0 : register f B0 �
   pub colours-run : Runs f (colours w) (coloured w f)
   unfolding colours coloured flips flipped withRegister withRegisters withPointer withPalette withBank
   colours-run =
-      then (entries 0 (w .palette)) (write toB0 openBank ∷ entries 0 (w .bank)) f half (coloured w f) (all-run w f false (w .palette) ready b0 many (wf .palette) (wf .paletteBytes))
+      then (entries 0 (w .palette)) (write toB0 openBank ∷ entries 0 (w .bank)) f half (coloured w f)
+      (all-run w f false (w .palette) ready b0 many (wf .palette) (wf .paletteBytes))
       (then (write toB0 openBank ∷ []) (entries 0 (w .bank)) half (withRegister B0 openBank half) (coloured w f)
       (ready-runs w half toB0 openBank half-ready (singles-lead (viewOf half) .b0) (open-fits .bank))
       (all-run w (withRegister B0 openBank half) true (w .bank) switched-ready (at-any half B0 openBank B0 (half-ready .isSound) (lit< tt)) few
