@@ -56,7 +56,11 @@ selected i f = flipped (flips i) (withRegisters (afterSelecting i (f .registers)
 -- 3C0h, with the toggle at index
 pub arx-leads : (f : File) → f .toggle ≡ false → T (leads (viewOf f) toARX)
 unfolding seen viewOf
-arx-leads f t = subst (λ (b : Bool). T (leads (record { misc = register f MISC; srx = register f SRX; crx = register f CRX; grx = register f GRX; arx = register f ARX; toggle = b }) toARX)) (sym t) (singles-lead (viewOf f) .arx)
+arx-leads f t = subst (λ (b : Bool). T (leads (shows b) toARX)) (sym t) (singles-lead (viewOf f) .arx)
+  where
+    shows : Bool → View
+    shows b =
+        record { misc = register f MISC; srx = register f SRX; crx = register f CRX; grx = register f GRX; arx = register f ARX; toggle = b }
 
 -- what selecting leaves
 pub record Selected (w f : File) (i : Index) : Type 0 where
@@ -65,10 +69,14 @@ pub record Selected (w f : File) (i : Index) : Type 0 where
   pub view : viewOf (selected i f) ≡ seen i (viewOf f)
 
 -- by the index register's own road
-select-by : (w f : File) (to : Road) (n : ℕ) → Ready w f → T (leads (viewOf f) to) → T (loose (to .register)) → T (within (storedBits (to .register)) n)
-    → Runs f (write to n ∷ []) (flipped (flips (to .index)) (withRegister (to .register) n f)) × Ready w (flipped (flips (to .index)) (withRegister (to .register) n f))
-select-by w f to n ready l free fit =
-    (ready-runs w f to n ready l fit, ready-flipped w (withRegister (to .register) n f) (flips (to .index)) (ready-with w f (to .register) n ready free fit))
+select-by : (w f : File) (to : Road) (n : ℕ) → Ready w f → T (leads (viewOf f) to) → T (loose (to .register))
+    → T (within (storedBits (to .register)) n)
+    → Runs f (write to n ∷ []) (flipped (flips (to .index)) (withRegister (to .register) n f))
+    × Ready w (flipped (flips (to .index)) (withRegister (to .register) n f))
+select-by w f to n ready l free fit = (
+  ready-runs w f to n ready l fit,
+  ready-flipped w (withRegister (to .register) n f) (flips (to .index)) (ready-with w f (to .register) n ready free fit),
+)
 
 select : (w f : File) (i : Index) → Ready w f → f .toggle ≡ false → T (selectable i) → Selected w f i
 unfolding selecting stepRecord valueFrom selected afterSelecting selectable flips flipped loose isOneOf withRegister withRegisters withToggle register seen viewOf

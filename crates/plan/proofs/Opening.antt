@@ -24,7 +24,8 @@ use Rattle.plan.proofs.Stored.{withRegister, flipped, road-stores}
 use Rattle.plan.proofs.Toggled.{reset-runs}
 
 -- PCI04 by config, which is open in every file
-pub config-runs : (f : File) (value : ℕ) → T (sound f) → T (within (storedBits PCI04) value) → Runs f (write toPCI04 value ∷ []) (withRegister PCI04 value f)
+pub config-runs : (f : File) (value : ℕ) → T (sound f) → T (within (storedBits PCI04) value)
+    → Runs f (write toPCI04 value ∷ []) (withRegister PCI04 value f)
 unfolding spaceOff isPort isMmio flips flipped
 config-runs f value s w =
     let stores = road-stores f toPCI04 value (singles-lead (viewOf f) .pci04) s refl (beyond-lock f PCI04 refl refl) w in
@@ -58,6 +59,7 @@ unfolding openSpaces openLock openPalette openBank storedBits storedTable regist
 open-fits = record { spaces = tt; lock = tt; palette = tt; bank = tt }
 
 module _ (w f : File) (ws : T (sound w)) (fs : T (sound f)) where
+  -- sound after the first, second, third and fourth record
   s1 : T (sound (spacesOn f))
   s1 = with-sound f PCI04 openSpaces fs (open-fits .spaces)
 
@@ -70,6 +72,7 @@ module _ (w f : File) (ws : T (sound w)) (fs : T (sound f)) where
   s4 : T (sound (miscSet w f))
   s4 = with-sound (paletteOn f) MISC (register w MISC) s3 (wanted-within w MISC ws)
 
+  -- both spaces on after the first three
   on1 : On (spacesOn f)
   unfolding On
   on1 = at-any f PCI04 openSpaces PCI04 fs (lit< tt)
@@ -82,12 +85,14 @@ module _ (w f : File) (ws : T (sound w)) (fs : T (sound f)) where
   unfolding On
   on3 = at-any (unlocked f) B0 openPalette PCI04 s2 (lit< tt) ∙ on2
 
+  -- unlocked after the second and third
   free2 : register (unlocked f) CR11 ≡ openLock
   free2 = at-any (spacesOn f) CR11 openLock CR11 s1 (lit< tt)
 
   free3 : register (paletteOn f) CR11 ≡ openLock
   free3 = at-any (unlocked f) B0 openPalette CR11 s2 (lit< tt) ∙ free2
 
+  -- ready after the fourth
   misc-ready : Ready w (miscSet w f)
   unfolding On
   misc-ready =
@@ -98,6 +103,7 @@ module _ (w f : File) (ws : T (sound w)) (fs : T (sound f)) where
         misc = at-any (paletteOn f) MISC (register w MISC) MISC s3 (lit< tt);
       }
 
+  -- the stage
   pub opening-runs : Runs f (opening w) (opened w f)
   unfolding opening opened flips flipped
   opening-runs =

@@ -78,14 +78,16 @@ all-run : (w f : File) (bank : Bool) (new : List Colour) → Ready w f → regis
 unfolding afterRun painted inRange
 all-run w f bank new ready b0 old many t =
     subst (λ (g : File). Runs f (entries 0 new) g)
-    (ap₂ (λ (a : ℕ) (l : List Colour). withPointer (addressed false (a % 256)) (withEntries bank l f)) total (sets-all (entriesIn bank f) new (old ∙ sym many)))
+    (ap₂ (λ (a : ℕ) (l : List Colour). withPointer (addressed false (a % 256)) (withEntries bank l f)) total
+    (sets-all (entriesIn bank f) new (old ∙ sym many)))
     (run-runs (record { first = 0; colours = new }) f bank (ready .isSound) (chosen-up w f bank ready b0)
     (both (leb (0 + length new) (size bank)) (bytes new) (le→leb (0 + length new) (size bank) (omega (arith, many))) t))
   where
     total : 0 + length new ≡ size bank
     total = omega (arith, many)
 
-module _ (w f : File) (wf : IsFile w) (ready : Ready w f) (b0 : register f B0 ≡ openPalette) (many : length (f .palette) ≡ 256) (few : length (f .bank) ≡ 16) where
+module _ (w f : File) (wf : IsFile w) (ready : Ready w f) (b0 : register f B0 ≡ openPalette)
+    (many : length (f .palette) ≡ 256) (few : length (f .bank) ≡ 16) where
   -- between the two
   abbrev half : File
   half = withPointer (addressed false 0) (withPalette (w .palette) f)
@@ -98,6 +100,7 @@ module _ (w f : File) (wf : IsFile w) (ready : Ready w f) (b0 : register f B0 �
   unfolding loose isOneOf
   switched-ready = ready-with w half B0 openBank half-ready tt (open-fits .bank)
 
+  -- the stage
   pub colours-run : Runs f (colours w) (coloured w f)
   unfolding colours coloured flips flipped withRegister withRegisters withPointer withPalette withBank
   colours-run =
@@ -114,10 +117,12 @@ module _ (w f : File) (wf : IsFile w) (ready : Ready w f) (b0 : register f B0 �
 
 -- ---- registers
 
+-- a ready file may go every road, by one computed test
 registers-open : T (everyRoad passable registerRoads)
 unfolding everyRoad passable selectable loose isOneOf registerRoads eachRoad but storedBits storedTable registers singles sequencer crtc graphics attribute pipeline within store
 registers-open = tt
 
+-- the stage
 pub registers-bring : (w f : File) → T (sound w) → Ready w f → f .toggle ≡ false → Brings w f registerRoads
 registers-bring w f s ready t = roads-bring w s registerRoads f ready t registers-open (λ v e. registers-lead v)
 
@@ -134,10 +139,12 @@ indices-lead w v e =
     (both (leads v toGRX) (leads v (toCRX w) && true) (singles-lead v .grx)
     (both (leads v (toCRX w)) true (crx-leads v (bit 0 (register w MISC)) (bit-lt 0 (register w MISC)) (ap (bit 0) e)) tt))
 
+-- the file with the index registers and the toggle as wanted
 unfoldable pub indexed : File → File → File
 indexed w f = withToggle (w .toggle) (withRegister ARX (register w ARX) (brought w (indexRoads w) f))
 
 module _ (w f : File) (s : T (sound w)) (ready : Ready w f) (t : f .toggle ≡ false) where
+  -- SRX, GRX and CRX
   three : Brings w f (indexRoads w)
   three = roads-bring w s (indexRoads w) f ready t (indices-open w) (indices-lead w)
 
@@ -148,6 +155,7 @@ module _ (w f : File) (s : T (sound w)) (ready : Ready w f) (t : f .toggle ≡ f
       ready-flipped w (withRegister ARX (register w ARX) (brought w (indexRoads w) f)) true
       (ready-with w (brought w (indexRoads w) f) ARX (register w ARX) (three .ready) tt (wanted-within w ARX s))
 
+  -- the stage
   pub indices-run : Runs f (indices w) (indexed w f)
   unfolding indices indexed flips flipped brought withRegister withRegisters withToggle
   indices-run =
@@ -160,10 +168,13 @@ module _ (w f : File) (s : T (sound w)) (ready : Ready w f) (t : f .toggle ≡ f
 
   pub indexed-ready : Ready w (indexed w f)
   unfolding indexed flipped withToggle
-  indexed-ready = ready-as w (flipped true (withRegister ARX (register w ARX) (brought w (indexRoads w) f))) (indexed w f) refl (pointer-sound _ (four-ready .isSound)) four-ready
+  indexed-ready =
+      ready-as w (flipped true (withRegister ARX (register w ARX) (brought w (indexRoads w) f))) (indexed w f) refl
+      (pointer-sound _ (four-ready .isSound)) four-ready
 
 -- ---- closing
 
+-- the file with the pointer and what was open as wanted
 unfoldable pub closed : File → File → File
 closed w f =
     withRegister PCI04 (register w PCI04) (withRegister CR11 (register w CR11) (withRegister B0 (register w B0) (withPointer (w .pointer) f)))
@@ -189,6 +200,7 @@ module _ (w f : File) (s : T (sound w)) (red : w .pointer .next ≡ 0) (small : 
   unfolding loose isOneOf
   b0-ready = ready-with w pointed B0 (register w B0) pointed-ready tt (wanted-within w B0 s)
 
+  -- the stage
   pub closing-runs : Runs f (closing w) (closed w f)
   unfolding closing closed along stepsOf selecting stepRecord valueFrom flips flipped
   closing-runs =

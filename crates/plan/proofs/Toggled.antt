@@ -62,5 +62,7 @@ reset-runs w f ready =
 pub toggle-runs : (w f : File) (state : Bool) → Ready w f → f .toggle ≡ true
     → Runs f (cond state (portRead 0x3C0) (toIndex w) ∷ []) (withToggle state f)
 unfolding otherHalf isPort isOneOf answerAt readAt apply rowOf first fits selects places each attributePorts generalPorts crtcPorts pipelinePlace mmioPlaces pciPlaces sequencer crtc graphics attribute pipeline withToggle
-toggle-runs w f true ready t = subst (λ (b : Bool). Runs f (portRead 0x3C0 ∷ []) (withToggle b f)) t (read-runs f 0x3C0 (register f ARX) (Register ARX) (ready .isSound) (ready .on) refl refl refl)
+toggle-runs w f true ready t =
+    subst (λ (b : Bool). Runs f (portRead 0x3C0 ∷ []) (withToggle b f)) t
+    (read-runs f 0x3C0 (register f ARX) (Register ARX) (ready .isSound) (ready .on) refl refl refl)
 toggle-runs w f false ready t = reset-runs w f ready

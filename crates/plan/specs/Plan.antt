@@ -40,7 +40,7 @@ unfoldable pub opening : File → List Record
 opening w =
     write toPCI04 openSpaces ∷ write toCR11 openLock ∷ write toB0 openPalette ∷ write toMISC (register w MISC) ∷ toIndex w ∷ []
 
--- three 3C9h writes for each entry
+-- 01, 'The palette pointer': three 3C9h writes for each entry
 unfoldable pub pixels : List Colour → List Record
 pixels [] = []
 pixels (c ∷ cs) = mmioWrite 0xAC (c .red) ∷ mmioWrite 0xAC (c .green) ∷ mmioWrite 0xAC (c .blue) ∷ pixels cs
@@ -64,5 +64,6 @@ closing w =
     mmioWrite (cond (w .pointer .reading) 0xA4 0xA8) (w .pointer .address)
     ∷ along w (toB0 ∷ toCR11 ∷ toPCI04 ∷ [])
 
+-- 'A plan is made from the wanted file alone': 5 records, 819, 140, 5 and 4, in all 973
 unfoldable pub planRecords : File → List Record
 planRecords w = opening w ++ colours w ++ along w registerRoads ++ indices w ++ closing w

@@ -1,4 +1,4 @@
--- The records by which a plan writes registers, as one flat list of rows.
+-- 01, 'Places': the records by which a plan writes registers, as one flat list of rows.
 -- Assumes nothing.
 use Prim.Native.Nat.{ℕ}
 use mathlib.Core.List.{List, [], _∷_, _++_, map}
