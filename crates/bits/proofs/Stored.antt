@@ -46,19 +46,24 @@ unfolding within
 within-bit i stored value t e =
     ap (bit i) (sym (eqb→eq (store stored 0 value) value t)) ∙ outside i stored 0 value e ∙ bit-of-zero i
 
+-- what a store leaves, told by the old bits outside the reach and the value's inside it
+store-is : (reach old value new : ℕ) → ((i : ℕ) → bit i reach ≡ 0 → bit i old ≡ bit i new)
+    → ((i : ℕ) → bit i reach ≡ 1 → bit i value ≡ bit i new) → store reach old value ≡ new
+store-is reach old value new out into =
+    by-bits (store reach old value) new (λ i. at i (bit i reach) (bit-lt i reach) refl)
+  where
+    at : (i x : ℕ) → x < 2 → bit i reach ≡ x → bit i (store reach old value) ≡ bit i new
+    at i x hx =
+        by-bit (λ (x : ℕ). bit i reach ≡ x → bit i (store reach old value) ≡ bit i new)
+        (λ e. outside i reach old value e ∙ out i e) (λ e. inside i reach old value e ∙ into i e) x hx
+
 -- and what has none set outside them is within
 pub within-by-bits : (stored value : ℕ) → ((i : ℕ) → bit i stored ≡ 0 → bit i value ≡ 0) → T (within stored value)
 unfolding within
 within-by-bits stored value h = subst (λ (x : ℕ). T (eqb x value)) (sym same) (eqb-refl value)
   where
-    at : (i x : ℕ) → x < 2 → bit i stored ≡ x → bit i (store stored 0 value) ≡ bit i value
-    at i x hx =
-        by-bit (λ (x : ℕ). bit i stored ≡ x → bit i (store stored 0 value) ≡ bit i value)
-        (λ e. outside i stored 0 value e ∙ bit-of-zero i ∙ sym (h i e))
-        (λ e. inside i stored 0 value e) x hx
-
     same : store stored 0 value ≡ value
-    same = by-bits (store stored 0 value) value (λ i. at i (bit i stored) (bit-lt i stored) refl)
+    same = store-is stored 0 value value (λ i e. bit-of-zero i ∙ sym (h i e)) (λ i e. refl)
 
 -- a store whose reach is within the stored bits leaves a register within them
 pub store-within : (stored reach old value : ℕ)
@@ -70,6 +75,11 @@ store-within stored reach old value r o =
 -- every number is within itself
 pub within-self : (stored : ℕ) → T (within stored stored)
 within-self stored = within-by-bits stored stored (λ i e. e)
+
+-- a value within the stored bits, stored over another that is, is held exactly
+pub store-exact : (stored old value : ℕ) → T (within stored old) → T (within stored value) → store stored old value ≡ value
+store-exact stored old value o v =
+    store-is stored old value value (λ i e. within-bit i stored old o e ∙ sym (within-bit i stored value v e)) (λ i e. refl)
 
 -- what is within a mask is at most the mask
 pub within-le : (stored value : ℕ) → T (within stored value) → value ≤ stored

@@ -1,6 +1,6 @@
 -- Tests: joined by `&&`, chosen by, and as equations. Assumes nothing.
 use mathlib.Core.Path.{_≡_, refl, sym, subst}
-use mathlib.Core.Bool.{Bool, true, false, cond, true≢false, _&&_, _||_}
+use mathlib.Core.Bool.{Bool, true, false, cond, true≢false, not, _&&_, _||_}
 use lib.Dec.{T}
 
 pub left : (a b : Bool) → T (a && b) → T a
@@ -62,3 +62,12 @@ and-false false = refl
 pub or-right : (a b : Bool) → a || b ≡ false → b ≡ false
 or-right true b e = absurd (true≢false e)
 or-right false b e = e
+
+-- where two tests joined by `||` do not pass, neither does
+pub neither : (a b : Bool) → T (not (a || b)) → T (not a) × T (not b)
+neither true b t = absurd t
+neither false b t = (tt, t)
+
+pub twice : (b : Bool) → T (not (not b)) → T b
+twice true t = tt
+twice false t = absurd t

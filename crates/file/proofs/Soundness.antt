@@ -42,7 +42,7 @@ within-by-number (stored ∷ table) (value ∷ values) e h =
     (within-by-number table values (ap pred e) (λ number l. h (suc number) (suc-le-suc l)))
 
 -- and may take another value that is
-set-within : (table values : List ℕ) (number new : ℕ)
+pub set-within : (table values : List ℕ) (number new : ℕ)
     → T (allWithin table values) → T (within (getD table number 0) new) → T (allWithin table (set values number new))
 unfolding allWithin
 set-within [] [] number new t w = tt
@@ -54,6 +54,14 @@ set-within (stored ∷ table) (value ∷ values) (suc number) new t w =
     both (within stored value) (allWithin table (set values number new))
     (left (within stored value) (allWithin table values) t)
     (set-within table values number new (right (within stored value) (allWithin table values) t) w)
+
+-- there are as many registers as rows
+pub within-count : (table values : List ℕ) → T (allWithin table values) → length values ≡ length table
+unfolding allWithin
+within-count [] [] t = refl
+within-count [] (value ∷ values) t = absurd t
+within-count (stored ∷ table) [] t = absurd t
+within-count (stored ∷ table) (value ∷ values) t = ap suc (within-count table values (right (within stored value) (allWithin table values) t))
 
 -- writing an address leaves a sound pointer
 pub addressed-sound : (reading : Bool) (address : ℕ) → T (pointerSound (addressed reading address))
@@ -132,7 +140,7 @@ move-to f g p same t s =
     both (allWithin storedTable (g .registers)) (pointerSound p)
     (subst (λ (l : List ℕ). T (allWithin storedTable l)) (sym same) (registers-sound f s)) t
 
-paint-keeps : (f : File) (bank : Bool) (entry : ℕ) (colour : Colour) → paintIn bank entry colour f .registers ≡ f .registers
+pub paint-keeps : (f : File) (bank : Bool) (entry : ℕ) (colour : Colour) → paintIn bank entry colour f .registers ≡ f .registers
 unfolding paintIn withBank withPalette
 paint-keeps f true entry colour = refl
 paint-keeps f false entry colour = refl

@@ -1,0 +1,303 @@
+-- The stage of registers, over any list of roads: every record is accepted, what the list names holds the wanted value, and all else is as
+-- before, but for the index registers that the roads move. Assumes nothing.
+use Prim.Native.Nat.{ℕ, _<_}
+use mathlib.Core.Path.{_≡_, refl, sym, ap, _∙_, subst}
+use mathlib.Core.Bool.{Bool, true, false, not, _&&_, _||_}
+use mathlib.Core.List.{List, [], _∷_, _++_, append-assoc, map, map-append}
+use borrow.Author.Tests.{eqb-true, eqb-false}
+use lib.Dec.{T, eqb, T-not, eqb-refl, lit<}
+use lib.ListN.{getD, set, length, length-set}
+use lib.Seq.{getD-set-same, getD-set-other}
+use Rattle.bits.specs.Store.{within}
+use Rattle.bits.proofs.Test.{left, right, by-test}
+use Rattle.file.specs.declared.registers.File.{File}
+use Rattle.file.specs.File.{register, withRegisters, withToggle}
+use Rattle.file.specs.Names.{MISC, SRX, CRX, GRX, ARX}
+use Rattle.file.specs.Registers.{storedBits}
+use Rattle.file.specs.Sound.{sound}
+use Rattle.access.specs.declared.record.Record.{Record}
+use Rattle.access.specs.Checks.{isOneOf}
+use Rattle.access.specs.Places.{Index, any, sr, cr, gr, ar, indexDue, dataDue}
+use Rattle.plan.specs.Roads.{Road, toSRX, toGRX, toARX}
+use Rattle.plan.specs.Steps.{write, valueFrom, wanted, step, stepRecord, selecting, stepsOf, along}
+use Rattle.plan.specs.Restores.{Runs}
+use Rattle.plan.proofs.Asked.{View, viewOf}
+use Rattle.plan.proofs.Composed.{none, then}
+use Rattle.plan.proofs.Leads.{flips, seen, leads, everyRoad, leading, singles-lead}
+use Rattle.plan.proofs.Ready.{Ready, view-with, wanted-within, ready-runs, loose, ready-with, ready-flipped}
+use Rattle.plan.proofs.Stored.{withRegister, flipped}
+
+-- ---- selecting an index
+
+-- the registers with an index selected
+unfoldable pub afterSelecting : Index → List ℕ → List ℕ
+afterSelecting any registers = registers
+afterSelecting (sr n) registers = set registers SRX n
+afterSelecting (cr n) registers = registers
+afterSelecting (gr n) registers = set registers GRX n
+afterSelecting (ar n) registers = registers
+afterSelecting indexDue registers = registers
+afterSelecting (dataDue n) registers = set registers ARX n
+
+-- an index that a plan selects, or none
+unfoldable pub selectable : Index → Bool
+selectable any = true
+selectable (sr n) = within (storedBits SRX) n
+selectable (cr n) = false
+selectable (gr n) = within (storedBits GRX) n
+selectable (ar n) = false
+selectable indexDue = false
+selectable (dataDue n) = within (storedBits ARX) n
+
+-- the file with it selected: data is due after a 3C0h write
+unfoldable pub selected : Index → File → File
+selected i f = flipped (flips i) (withRegisters (afterSelecting i (f .registers)) f)
+
+-- 3C0h, with the toggle at index
+pub arx-leads : (f : File) → f .toggle ≡ false → T (leads (viewOf f) toARX)
+unfolding seen viewOf
+arx-leads f t = subst (λ (b : Bool). T (leads (shows b) toARX)) (sym t) (singles-lead (viewOf f) .arx)
+  where
+    shows : Bool → View
+    shows b =
+        record { misc = register f MISC; srx = register f SRX; crx = register f CRX; grx = register f GRX; arx = register f ARX; toggle = b }
+
+-- what selecting leaves
+pub record Selected (w f : File) (i : Index) : Type 0 where
+  pub runs : Runs f (map (stepRecord w) (selecting i)) (selected i f)
+  pub ready : Ready w (selected i f)
+  pub view : viewOf (selected i f) ≡ seen i (viewOf f)
+
+-- by the index register's own road
+select-by : (w f : File) (to : Road) (n : ℕ) → Ready w f → T (leads (viewOf f) to) → T (loose (to .register))
+    → T (within (storedBits (to .register)) n)
+    → Runs f (write to n ∷ []) (flipped (flips (to .index)) (withRegister (to .register) n f))
+    × Ready w (flipped (flips (to .index)) (withRegister (to .register) n f))
+select-by w f to n ready l free fit = (
+  ready-runs w f to n ready l fit,
+  ready-flipped w (withRegister (to .register) n f) (flips (to .index)) (ready-with w f (to .register) n ready free fit),
+)
+
+select : (w f : File) (i : Index) → Ready w f → f .toggle ≡ false → T (selectable i) → Selected w f i
+unfolding selecting stepRecord valueFrom selected afterSelecting selectable flips flipped loose isOneOf withRegister withRegisters withToggle register seen viewOf
+select w f any ready t s = record { runs = none f; ready = ready; view = refl }
+select w f (sr n) ready t s =
+    let by = select-by w f toSRX n ready (singles-lead (viewOf f) .srx) tt s in
+    record { runs = by .0; ready = by .1; view = view-with f SRX n (ready .isSound) (lit< tt) }
+select w f (cr n) ready t s = absurd s
+select w f (gr n) ready t s =
+    let by = select-by w f toGRX n ready (singles-lead (viewOf f) .grx) tt s in
+    record { runs = by .0; ready = by .1; view = view-with f GRX n (ready .isSound) (lit< tt) }
+select w f (ar n) ready t s = absurd s
+select w f indexDue ready t s = absurd s
+select w f (dataDue n) ready t s =
+    let by = select-by w f toARX n ready (arx-leads f t) tt s in
+    record {
+      runs = by .0;
+      ready = by .1;
+      view =
+          rw t
+          (ap (λ (v : View). record { misc = v .misc; srx = v .srx; crx = v .crx; grx = v .grx; arx = v .arx; toggle = true })
+          (view-with f ARX n (ready .isSound) (lit< tt)));
+    }
+
+-- ---- a road, and a list of roads
+
+-- the registers after some roads
+unfoldable pub afterRoads : File → List Road → List ℕ → List ℕ
+afterRoads w [] registers = registers
+afterRoads w (road ∷ roads) registers =
+    afterRoads w roads (set (afterSelecting (road .index) registers) (road .register) (register w (road .register)))
+
+-- the file after them: all else is as before
+unfoldable pub brought : File → List Road → File → File
+brought w roads f = withRegisters (afterRoads w roads (f .registers)) f
+
+-- a road that a ready file may go
+unfoldable pub passable : Road → Bool
+passable road = selectable (road .index) && loose (road .register)
+
+-- its index selected, the register stored: the toggle is back where it was
+road-ends : (w f : File) (i : Index) (number value : ℕ) → f .toggle ≡ false → T (selectable i)
+    → flipped (flips i) (withRegister number value (selected i f)) ≡ withRegisters (set (afterSelecting i (f .registers)) number value) f
+unfolding withRegisters withToggle flipped flips withRegister afterSelecting selected selectable
+road-ends w f any number value t s = refl
+road-ends w f (sr n) number value t s = refl
+road-ends w f (cr n) number value t s = absurd s
+road-ends w f (gr n) number value t s = refl
+road-ends w f (ar n) number value t s = absurd s
+road-ends w f indexDue number value t s = absurd s
+road-ends w f (dataDue n) number value t s = rw t
+
+-- the records of a road, and of those behind it
+along-road : (w : File) (road : Road) (roads : List Road)
+    → map (stepRecord w) (selecting (road .index)) ++ write road (register w (road .register)) ∷ along w roads ≡ along w (road ∷ roads)
+unfolding along stepsOf stepRecord valueFrom
+along-road w road roads = sym (map-append (stepRecord w) (selecting (road .index)) (step road (wanted (road .register)) ∷ stepsOf roads))
+
+along-behind : (w : File) (road : Road) (roads : List Road) → along w (road ∷ []) ++ along w roads ≡ along w (road ∷ roads)
+unfolding along stepsOf
+along-behind w road roads =
+    ap (λ (rs : List Record). rs ++ along w roads) (sym (along-road w road []))
+    ∙ append-assoc (map (stepRecord w) (selecting (road .index))) (write road (register w (road .register)) ∷ []) (along w roads)
+    ∙ along-road w road roads
+
+-- every road leads to its register, with its index selected, in a file that shows the wanted MISC
+abbrev pub Lead : File → List Road → Type 0
+Lead w roads = (v : View) → v .misc ≡ register w MISC → T (leading v roads)
+
+-- what a list of roads does
+pub record Brings (w f : File) (roads : List Road) : Type 0 where
+  pub runs : Runs f (along w roads) (brought w roads f)
+  pub ready : Ready w (brought w roads f)
+
+module _ (w : File) (s : T (sound w)) where
+  -- one road
+  road-brings : (f : File) (road : Road) → Ready w f → f .toggle ≡ false → T (passable road) → T (leads (seen (road .index) (viewOf f)) road)
+      → Brings w f (road ∷ [])
+  unfolding along stepsOf brought afterRoads passable
+  road-brings f road ready t o l =
+      record {
+        runs =
+            subst (λ (rs : List Record). Runs f rs (brought w (road ∷ []) f)) (along-road w road [])
+            (then (map (stepRecord w) (selecting (road .index))) (write road (register w (road .register)) ∷ []) f (selected (road .index) f)
+            (brought w (road ∷ []) f) (sel .runs)
+            (subst (λ (g : File). Runs (selected (road .index) f) (write road (register w (road .register)) ∷ []) g) ends stores));
+        ready = subst (λ (g : File). Ready w g) ends after;
+      }
+    where
+      chosen : T (selectable (road .index))
+      chosen = left (selectable (road .index)) (loose (road .register)) o
+
+      sel : Selected w f (road .index)
+      sel = select w f (road .index) ready t chosen
+
+      fit : T (within (storedBits (road .register)) (register w (road .register)))
+      fit = wanted-within w (road .register) s
+
+      ends : flipped (flips (road .index)) (withRegister (road .register) (register w (road .register)) (selected (road .index) f)) ≡ brought w (road ∷ []) f
+      ends = road-ends w f (road .index) (road .register) (register w (road .register)) t chosen
+
+      stores : Runs (selected (road .index) f) (write road (register w (road .register)) ∷ [])
+          (flipped (flips (road .index)) (withRegister (road .register) (register w (road .register)) (selected (road .index) f)))
+      stores =
+          ready-runs w (selected (road .index) f) road (register w (road .register)) (sel .ready)
+          (subst (λ (v : View). T (leads v road)) (sym (sel .view)) l) fit
+
+      after : Ready w (flipped (flips (road .index)) (withRegister (road .register) (register w (road .register)) (selected (road .index) f)))
+      after =
+          ready-flipped w (withRegister (road .register) (register w (road .register)) (selected (road .index) f)) (flips (road .index))
+          (ready-with w (selected (road .index) f) (road .register) (register w (road .register)) (sel .ready) (search (left, right)) fit)
+
+  -- any list of roads
+  pub roads-bring : (roads : List Road) (f : File) → Ready w f → f .toggle ≡ false → T (everyRoad passable roads) → Lead w roads → Brings w f roads
+  unfolding along stepsOf brought afterRoads everyRoad leading viewOf withRegisters
+  roads-bring [] f ready t o lead = record { runs = none f; ready = ready }
+  roads-bring (road ∷ roads) f ready t o lead =
+      let first = road-brings f road ready t (left (passable road) (everyRoad passable roads) o)
+      (left (leads (seen (road .index) (viewOf f)) road) _ (lead (viewOf f) (ready .misc))) in
+      let rest = roads-bring roads (brought w (road ∷ []) f) (first .ready) t (right (passable road) (everyRoad passable roads) o)
+      (λ v e. right (leads (seen (road .index) v) road) _ (lead v e)) in
+      record {
+        runs =
+            subst (λ (rs : List Record). Runs f rs (brought w (road ∷ roads) f))
+            (along-behind w road roads)
+            (then (along w (road ∷ [])) (along w roads) f (brought w (road ∷ []) f) (brought w (road ∷ roads) f) (first .runs) (rest .runs));
+        ready = rest .ready;
+      }
+
+-- ---- what they leave in the registers
+
+-- the index register that selecting moves; 100, which none has, where there is none
+unfoldable pub moves : Index → ℕ
+moves any = 100
+moves (sr n) = SRX
+moves (cr n) = 100
+moves (gr n) = GRX
+moves (ar n) = 100
+moves indexDue = 100
+moves (dataDue n) = ARX
+
+differ : (m n : ℕ) → T (not (eqb m n)) → n ≡ m → ⊥
+differ m n h e = T-not (eqb m n) h (subst (λ (x : ℕ). T (eqb x n)) e (eqb-refl n))
+
+select-keeps : (i : Index) (registers : List ℕ) (n : ℕ) → T (not (eqb (moves i) n))
+    → getD (afterSelecting i registers) n 0 ≡ getD registers n 0
+unfolding afterSelecting moves
+select-keeps any registers n h = refl
+select-keeps (sr m) registers n h = getD-set-other registers SRX n m 0 (differ SRX n h)
+select-keeps (cr m) registers n h = refl
+select-keeps (gr m) registers n h = getD-set-other registers GRX n m 0 (differ GRX n h)
+select-keeps (ar m) registers n h = refl
+select-keeps indexDue registers n h = refl
+select-keeps (dataDue m) registers n h = getD-set-other registers ARX n m 0 (differ ARX n h)
+
+select-length : (i : Index) (registers : List ℕ) → length (afterSelecting i registers) ≡ length registers
+unfolding afterSelecting
+select-length any registers = refl
+select-length (sr m) registers = length-set registers SRX m
+select-length (cr m) registers = refl
+select-length (gr m) registers = length-set registers GRX m
+select-length (ar m) registers = refl
+select-length indexDue registers = refl
+select-length (dataDue m) registers = length-set registers ARX m
+
+-- as many registers as before
+pub after-length : (w : File) (roads : List Road) (registers : List ℕ) → length (afterRoads w roads registers) ≡ length registers
+unfolding afterRoads
+after-length w [] registers = refl
+after-length w (road ∷ roads) registers =
+    after-length w roads (set (afterSelecting (road .index) registers) (road .register) (register w (road .register)))
+    ∙ length-set (afterSelecting (road .index) registers) (road .register) (register w (road .register))
+    ∙ select-length (road .index) registers
+
+-- one list of roads behind another
+pub after-append : (w : File) (a b : List Road) (registers : List ℕ) → afterRoads w (a ++ b) registers ≡ afterRoads w b (afterRoads w a registers)
+unfolding afterRoads
+after-append w [] b registers = refl
+after-append w (road ∷ a) b registers =
+    after-append w a b (set (afterSelecting (road .index) registers) (road .register) (register w (road .register)))
+
+-- whether a register holds its wanted value after some roads, if it did or did not before
+unfoldable pub settles : List Road → ℕ → Bool → Bool
+settles [] n held = held
+settles (road ∷ roads) n held = settles roads n (eqb (road .register) n || held && not (eqb (moves (road .index)) n))
+
+pub settled : (w : File) (roads : List Road) (registers : List ℕ) (n : ℕ) (held : Bool) → n < length registers
+    → (T held → getD registers n 0 ≡ register w n) → T (settles roads n held) → getD (afterRoads w roads registers) n 0 ≡ register w n
+unfolding afterRoads settles
+settled w [] registers n held h e t = e t
+settled w (road ∷ roads) registers n held h e t =
+    settled w roads (set (afterSelecting (road .index) registers) (road .register) (register w (road .register))) n
+    (eqb (road .register) n || held && not (eqb (moves (road .index)) n))
+    (rw (length-set, select-length (road .index) registers) h)
+    (λ held′. by-test (eqb (road .register) n) stored (kept held′)) t
+  where
+    stored : eqb (road .register) n ≡ true
+        → getD (set (afterSelecting (road .index) registers) (road .register) (register w (road .register))) n 0 ≡ register w n
+    stored q =
+        rw (eqb-true (road .register) n q)
+        (getD-set-same (afterSelecting (road .index) registers) n (register w n) 0 (rw (select-length (road .index) registers) h))
+
+    kept : T (eqb (road .register) n || held && not (eqb (moves (road .index)) n)) → eqb (road .register) n ≡ false
+        → getD (set (afterSelecting (road .index) registers) (road .register) (register w (road .register))) n 0 ≡ register w n
+    kept held′ q =
+        let still : T (held && not (eqb (moves (road .index)) n)) = rw q at held′ in
+        getD-set-other (afterSelecting (road .index) registers) (road .register) n (register w (road .register)) 0 (λ x. eqb-false (road .register) n q (sym x))
+        ∙ select-keeps (road .index) registers n (right held (not (eqb (moves (road .index)) n)) still)
+        ∙ e (left held (not (eqb (moves (road .index)) n)) still)
+
+-- a register that some roads neither name nor move
+unfoldable pub spares : List Road → ℕ → Bool
+spares [] n = true
+spares (road ∷ roads) n = not (eqb (road .register) n) && not (eqb (moves (road .index)) n) && spares roads n
+
+pub spared : (w : File) (roads : List Road) (registers : List ℕ) (n : ℕ) → T (spares roads n)
+    → getD (afterRoads w roads registers) n 0 ≡ getD registers n 0
+unfolding afterRoads spares
+spared w [] registers n t = refl
+spared w (road ∷ roads) registers n t =
+    spared w roads (set (afterSelecting (road .index) registers) (road .register) (register w (road .register))) n (search (left, right))
+    ∙ getD-set-other (afterSelecting (road .index) registers) (road .register) n (register w (road .register)) 0
+    (differ (road .register) n (search (left, right)))
+    ∙ select-keeps (road .index) registers n (search (left, right))

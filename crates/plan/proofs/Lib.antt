@@ -1,0 +1,15 @@
+pub mod Composed
+pub mod Asked
+pub mod Leads
+pub mod Stored
+pub mod Ready
+pub mod Along
+pub mod Colours
+pub mod Entries
+pub mod Toggled
+pub mod Opening
+pub mod Stages
+pub mod Restored
+pub mod Counted
+pub mod Fitting
+pub mod Typed

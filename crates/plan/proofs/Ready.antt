@@ -1,0 +1,147 @@
+-- The file in which a plan's stages run: sound, both spaces on, unlocked, MISC as wanted; and what one record by a road does there.
+-- Assumes nothing.
+use Prim.Native.Nat.{ℕ, _<_}
+use mathlib.Core.Path.{_≡_, refl, _∙_, subst}
+use mathlib.Core.Bool.{Bool, true, false, cond, not, _&&_}
+use mathlib.Core.List.{[], _∷_}
+use borrow.Author.Tests.{eqb-true, eqb-false}
+use lib.Dec.{T, eqb, leb, T-not}
+use lib.ListN.{set, length}
+use lib.Seq.{getD-set-same, getD-set-other}
+use Rattle.bits.specs.Store.{bit, within}
+use Rattle.bits.proofs.Test.{both, by-test}
+use Rattle.file.specs.declared.registers.File.{File}
+use Rattle.file.specs.File.{register, crtcLocked, withRegisters, withToggle}
+use Rattle.file.specs.Names.{MISC, SRX, CRX, GRX, ARX, PCI04, CR11}
+use Rattle.file.specs.Palette.{pointerSound}
+use Rattle.file.specs.Registers.{storedBits, storedTable, registers, singles, sequencer, crtc, graphics, attribute, pipeline}
+use Rattle.file.specs.Sound.{allWithin, sound}
+use Rattle.file.proofs.Soundness.{at, set-within, within-count, registers-sound, pointer-sound}
+use Rattle.access.specs.declared.record.Record.{Record}
+use Rattle.access.specs.Access.{lockedOut, reachIn}
+use Rattle.access.specs.Checks.{isPort, isMmio, isOneOf, spaceOff}
+use Rattle.plan.specs.Roads.{Road}
+use Rattle.plan.specs.Plan.{openSpaces, openLock}
+use Rattle.plan.specs.Steps.{write}
+use Rattle.plan.specs.Restores.{Runs}
+use Rattle.plan.proofs.Asked.{viewOf}
+use Rattle.plan.proofs.Composed.{one}
+use Rattle.plan.proofs.Leads.{flips, leads}
+use Rattle.plan.proofs.Stored.{withRegister, flipped, Free, road-stores}
+
+-- ---- one register anew
+
+pub count : (f : File) → T (sound f) → length (f .registers) ≡ 100
+unfolding storedTable registers singles sequencer crtc graphics attribute pipeline
+count f s = within-count storedTable (f .registers) (registers-sound f s)
+
+pub at-same : (f : File) (number value : ℕ) → T (sound f) → number < 100 → register (withRegister number value f) number ≡ value
+unfolding register withRegister withRegisters
+at-same f number value s h = getD-set-same (f .registers) number value 0 (rw (count f s) h)
+
+pub at-other : (f : File) (number value n : ℕ) → (n ≡ number → ⊥) → register (withRegister number value f) n ≡ register f n
+unfolding register withRegister withRegisters
+at-other f number value n h = getD-set-other (f .registers) number n value 0 h
+
+pub at-any : (f : File) (number value n : ℕ) → T (sound f) → number < 100
+    → register (withRegister number value f) n ≡ cond (eqb n number) value (register f n)
+at-any f number value n s h =
+    by-test (eqb n number)
+    (λ e. rw (e, eqb-true n number e) (at-same f number value s h)) (λ e. rw e (at-other f number value n (eqb-false n number e)))
+
+-- what the file then shows
+pub view-with : (f : File) (number value : ℕ) → T (sound f) → number < 100
+    → viewOf (withRegister number value f)
+    ≡ record {
+      misc = cond (eqb MISC number) value (register f MISC);
+      srx = cond (eqb SRX number) value (register f SRX);
+      crx = cond (eqb CRX number) value (register f CRX);
+      grx = cond (eqb GRX number) value (register f GRX);
+      arx = cond (eqb ARX number) value (register f ARX);
+      toggle = f .toggle;
+    }
+unfolding viewOf withRegister withRegisters
+view-with f number value s h =
+    rw (at-any f number value MISC s h, at-any f number value SRX s h, at-any f number value CRX s h, at-any f number value GRX s h, at-any f number value ARX s h)
+
+pub with-sound : (f : File) (number value : ℕ) → T (sound f) → T (within (storedBits number) value) → T (sound (withRegister number value f))
+unfolding sound withRegister withRegisters storedBits
+with-sound f number value s w =
+    both (allWithin storedTable (set (f .registers) number value)) (pointerSound (f .pointer))
+    (set-within storedTable (f .registers) number value (registers-sound f s) w) (pointer-sound f s)
+
+-- a sound file's registers are within their stored bits
+pub wanted-within : (w : File) (number : ℕ) → T (sound w) → T (within (storedBits number) (register w number))
+unfolding storedBits register
+wanted-within w number s = at storedTable (w .registers) number (registers-sound w s)
+
+-- ---- ready
+
+-- PCI04 as a plan opens it
+unfoldable pub On : File → Type 0
+On f = register f PCI04 ≡ openSpaces
+
+pub record Ready (w f : File) : Type 0 where
+  pub isSound : T (sound f)
+  pub on : On f
+  pub unlocked : register f CR11 ≡ openLock
+  pub misc : register f MISC ≡ register w MISC
+
+pub spaces-on : (f : File) (r : Record) → On f → spaceOff f r ≡ false
+unfolding On openSpaces spaceOff bit
+spaces-on f r on = rw on (by-test (isPort r) (λ e. rw e (none (isMmio r))) (λ e. rw e (none (isMmio r))))
+  where
+    none : (b : Bool) → (b && false) ≡ false
+    none true = refl
+    none false = refl
+
+pub unlocked-free : (f : File) (number : ℕ) → register f CR11 ≡ openLock → Free f number
+unfolding openLock lockedOut reachIn crtcLocked bit
+unlocked-free f number e = record { unlocked = rw e; whole = rw e }
+
+-- PCI04 and CR11 are none of CR0 to CR7
+pub beyond-lock : (f : File) (number : ℕ) → eqb number 32 ≡ false → (leb 25 number && leb number 31) ≡ false → Free f number
+unfolding lockedOut reachIn
+beyond-lock f number e h =
+    record {
+      unlocked = rw h (by-test (crtcLocked f) (λ l. rw l) (λ l. rw l));
+      whole = rw e (by-test (crtcLocked f) (λ l. rw l) (λ l. rw l));
+    }
+
+-- a record by a road, in a sound file that has both spaces on
+pub on-runs : (f : File) (road : Road) (value : ℕ) → T (sound f) → On f → Free f (road .register) → T (leads (viewOf f) road)
+    → T (within (storedBits (road .register)) value)
+    → Runs f (write road value ∷ []) (flipped (flips (road .index)) (withRegister (road .register) value f))
+on-runs f road value s on free l w =
+    let stores = road-stores f road value l s (spaces-on f (write road value) on) free w in
+    one f (write road value) (flipped (flips (road .index)) (withRegister (road .register) value f)) (stores .done) (stores .file)
+
+-- and in a file that is ready
+pub ready-runs : (w f : File) (road : Road) (value : ℕ) → Ready w f → T (leads (viewOf f) road) → T (within (storedBits (road .register)) value)
+    → Runs f (write road value ∷ []) (flipped (flips (road .index)) (withRegister (road .register) value f))
+ready-runs w f road value ready = on-runs f road value (ready .isSound) (ready .on) (unlocked-free f (road .register) (ready .unlocked))
+
+-- the registers that a ready file is known by
+unfoldable pub loose : ℕ → Bool
+loose number = not (isOneOf (PCI04 ∷ CR11 ∷ MISC ∷ []) number)
+
+-- another register anew leaves it ready
+pub ready-with : (w f : File) (number value : ℕ) → Ready w f → T (loose number) → T (within (storedBits number) value)
+    → Ready w (withRegister number value f)
+unfolding On loose isOneOf
+ready-with w f number value ready l v =
+    record {
+      isSound = with-sound f number value (ready .isSound) v;
+      on = at-other f number value PCI04 (other PCI04 tt) ∙ ready .on;
+      unlocked = at-other f number value CR11 (other CR11 tt) ∙ ready .unlocked;
+      misc = at-other f number value MISC (other MISC tt) ∙ ready .misc;
+    }
+  where
+    other : (n : ℕ) → T (isOneOf (PCI04 ∷ CR11 ∷ MISC ∷ []) n) → n ≡ number → ⊥
+    other n t e =
+        T-not (isOneOf (PCI04 ∷ CR11 ∷ MISC ∷ []) number) l (subst (λ (m : ℕ). T (isOneOf (PCI04 ∷ CR11 ∷ MISC ∷ []) m)) e t)
+
+pub ready-flipped : (w f : File) (flip : Bool) → Ready w f → Ready w (flipped flip f)
+unfolding On flipped withToggle sound register
+ready-flipped w f true ready = record { isSound = ready .isSound; on = ready .on; unlocked = ready .unlocked; misc = ready .misc }
+ready-flipped w f false ready = ready

@@ -1,0 +1,5 @@
+pub mod Roads
+pub mod Steps
+pub mod Plan
+pub mod Restores
+pub mod Refusals

@@ -1,0 +1,1 @@
+// The plan: records that put any card into a wanted file.
