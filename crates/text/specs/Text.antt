@@ -45,8 +45,12 @@ unfoldable pub newline : List ℕ
 newline = 0x0A ∷ []
 
 -- 'For each record: its number from 0, code (decimal), value (four hex digits, capitals), one space between, each line ended by a newline.'
+unfoldable pub lineOf : ℕ → ℕ → ℕ → List ℕ
+lineOf number code value = decimal number ++ space ++ decimal code ++ space ++ hexFour value ++ newline
+
+-- the line of an answer
 unfoldable pub recordLine : ℕ → Answer → List ℕ
-recordLine number a = decimal number ++ space ++ decimal (codeOf a) ++ space ++ hexFour (valueOf a) ++ newline
+recordLine number a = lineOf number (codeOf a) (valueOf a)
 
 unfoldable pub spaced : List ℕ → List ℕ
 spaced [] = []

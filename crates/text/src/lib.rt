@@ -1,1 +1,5 @@
 // The lines that replay prints, as bytes in a lent buffer.
+mod line;
+mod number;
+
+pub use line::record_line;

@@ -1,0 +1,34 @@
+-- Text stored byte by byte: one after the other, and from the back. Assumes nothing.
+use Prim.Native.Nat.{ℕ, zero, suc, _+_, _≤_, _<_}
+use mathlib.Core.Path.{_≡_, refl, sym, ap, _∙_, subst}
+use mathlib.Core.List.{List, [], _∷_, _++_}
+use native.Mathlib.Nat.{add-zero, add-suc, suc-add, add-assoc}
+use native.Mathlib.Omega.{arith}
+use lib.ListN.{length, set, length-append}
+use lib.Seq.{sets, set-comm, length-sets}
+use Rattle.text.specs.Lent.{Wrote}
+
+-- one text behind another
+sets-append : (l : List ℕ) (at : ℕ) (a b : List ℕ) → sets l at (a ++ b) ≡ sets (sets l at a) (at + length a) b
+sets-append l at [] b = rw add-zero
+sets-append l at (x ∷ a) b = sets-append (set l at x) (suc at) a b ∙ rw (suc-add, add-suc)
+
+-- a text's last byte may be stored first
+pub sets-last : (l : List ℕ) (at : ℕ) (a : List ℕ) (x : ℕ) → sets l at (a ++ (x ∷ [])) ≡ sets (set l (at + length a) x) at a
+sets-last l at [] x = rw add-zero
+sets-last l at (y ∷ a) x =
+    sets-last (set l at y) (suc at) a x
+    ∙ ap (λ (m : List ℕ). sets m (suc at) a) (rw (suc-add, add-suc) (set-comm l at (suc (at + length a)) y x (λ e. omega arith)))
+
+module _ {before : List ℕ} {at : ℕ} {a b middle after : List ℕ} {p q : ℕ} where
+  -- a text, and then another
+  pub then-text : Wrote before at a middle p → Wrote middle p b after q → Wrote before at (a ++ b) after q
+  then-text v w =
+      record {
+        bytes = cc (v .bytes, v .place, w .bytes, sets-append before at a b);
+        place = w .place ∙ rw (v .place, length-append) (add-assoc at (length a) (length b));
+      }
+
+-- a byte
+pub one-byte : (l : List ℕ) (at x : ℕ) → Wrote l at (x ∷ []) (set l at x) (at + 1)
+one-byte l at x = record { bytes = refl; place = refl }

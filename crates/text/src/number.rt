@@ -1,0 +1,56 @@
+// Numbers as text, stored into a buffer that has room for them.
+ghost use mathlib.Core.Path.{_≡_};
+ghost use Prim.Native.Nat.{_+_, _≤_, _<_};
+ghost use lib.ListN.{length};
+ghost use Rattle.io.specs.Digits.{digits};
+ghost use Rattle.text.specs.Lent.{Wrote};
+ghost use Rattle.text.specs.Text.{decimalPlaces, hexFour};
+ghost use Rattle.text.specs.Text.{capital as capitalOf};
+
+// How many decimal digits a number has.
+pub fn places(n: u64) -> usize
+    ensures { λ r. ⌜ (r ≡ decimalPlaces n n) × (r ≤ 20) ⌝ }
+{
+    let mut count = 1;
+    let mut rest = n;
+    while rest >= 10 {
+        rest /= 10;
+        count += 1;
+    }
+    count
+}
+
+// The last digits of a number, so many of them, from a place on; the place behind them.
+pub fn spell(n: u64, count: usize, buffer: &mut [u8], at: usize) -> usize
+    requires { ⌜ at + count ≤ length (now buffer) ⌝ }
+    ensures { λ r. ⌜ Wrote (now (buffer .entry)) at (digits 10 count n) (now (buffer .exit)) r ⌝ }
+{
+    let mut i = count;
+    let mut rest = n;
+    while i > 0 {
+        i -= 1;
+        buffer[at + i] = 48 + (rest % 10) as u8;
+        rest /= 10;
+    }
+    at + count
+}
+
+// A hex digit.
+fn capital(d: u16) -> u8
+    requires { ⌜ d < 16 ⌝ }
+    ensures { λ r. ⌜ r ≡ capitalOf d ⌝ }
+{
+    if d < 10 { 48 + d as u8 } else { 55 + d as u8 }
+}
+
+// Four hex digits from a place on; the place behind them.
+pub fn hex(n: u16, buffer: &mut [u8], at: usize) -> usize
+    requires { ⌜ at + 4 ≤ length (now buffer) ⌝ }
+    ensures { λ r. ⌜ Wrote (now (buffer .entry)) at (hexFour n) (now (buffer .exit)) r ⌝ }
+{
+    buffer[at] = capital(n / 4096 % 16);
+    buffer[at + 1] = capital(n / 256 % 16);
+    buffer[at + 2] = capital(n / 16 % 16);
+    buffer[at + 3] = capital(n % 16);
+    at + 4
+}
