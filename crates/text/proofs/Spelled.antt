@@ -9,6 +9,7 @@ use lib.Dec.{lit<}
 use lib.ListN.{length, set, length-append}
 use lib.Seq.{sets}
 use Rattle.io.specs.Digits.{digits, glyph}
+use Rattle.text.specs.Text.{space}
 use Rattle.text.proofs.Stores.{sets-last}
 
 pub digits-length : (k n : ℕ) → length (digits 10 k n) ≡ k
@@ -23,3 +24,7 @@ spell-digit l at (suc k) n h =
     let less : suc k - 1 ≡ k = omega arith in
     rw (less, lt-ltb (n % 10) 10 (mod-lt n (lit< tt)))
     (sym (sets-last l at (digits 10 k (n / 10)) (48 + n % 10) ∙ rw digits-length))
+
+pub spaced-length : (k n : ℕ) → length (digits 10 k n ++ space) ≡ k + 1
+unfolding space
+spaced-length k n = rw (length-append, digits-length) refl

@@ -5,8 +5,9 @@ use mathlib.Core.List.{List, [], _∷_, _++_}
 use native.Mathlib.Nat.{add-zero, add-suc, suc-add, add-assoc}
 use native.Mathlib.Omega.{arith}
 use lib.ListN.{length, set, length-append}
-use lib.Seq.{sets, set-comm, length-sets}
-use Rattle.text.specs.Lent.{Wrote}
+use borrow.Author.Tests.{le-leb, lt-leb}
+use lib.Seq.{sets, sets-eq, set-comm}
+use Rattle.text.specs.Lent.{Wrote, fits, placed, behind}
 
 -- one text behind another
 sets-append : (l : List ℕ) (at : ℕ) (a b : List ℕ) → sets l at (a ++ b) ≡ sets (sets l at a) (at + length a) b
@@ -32,3 +33,15 @@ module _ {before : List ℕ} {at : ℕ} {a b middle after : List ℕ} {p q : ℕ
 -- a byte
 pub one-byte : (l : List ℕ) (at x : ℕ) → Wrote l at (x ∷ []) (set l at x) (at + 1)
 one-byte l at x = record { bytes = refl; place = refl }
+
+module _ (buffer : List ℕ) (at : ℕ) (text : List ℕ) where
+  -- no room: the buffer and the place are as they were
+  pub unplaced : length buffer < at + length text → (buffer ≡ placed buffer at text) × (at ≡ behind buffer at text)
+  unfolding placed behind fits
+  unplaced h = rw (lt-leb _ _ h) (refl, refl)
+
+  -- room: what was stored is the text at its place
+  pub whole : {after : List ℕ} {end : ℕ} → at + length text ≤ length buffer → Wrote buffer at text after end
+      → (after ≡ placed buffer at text) × (end ≡ behind buffer at text)
+  unfolding placed behind fits
+  whole h w = rw (le-leb _ _ h) (w .bytes ∙ sets-eq text buffer at h, w .place)

@@ -1,7 +1,12 @@
-// The line of a record and the timing line.
+// The line of a record.
 ghost use mathlib.Core.Path.{_≡_};
-ghost use Rattle.text.specs.Lent.{placed, behind};
-ghost use Rattle.text.specs.Text.{lineOf};
+ghost use mathlib.Core.List.{_++_};
+ghost use Prim.Native.Nat.{_+_, _≤_};
+ghost use lib.ListN.{length};
+ghost use Rattle.io.specs.Digits.{digits};
+ghost use Rattle.text.specs.Lent.{Wrote, placed, behind};
+ghost use Rattle.text.specs.Text.{lineOf, hexFour, space, newline};
+use crate::number::byte;
 use crate::number::hex;
 use crate::number::places;
 use crate::number::spell;
@@ -11,21 +16,27 @@ pub fn record_line(buffer: &mut [u8], at: usize, number: u64, code: u8, value: u
     ensures { λ r. ⌜ now (buffer .exit) ≡ placed (now (buffer .entry)) at (lineOf number code value) ⌝ }
     ensures { λ r. ⌜ r ≡ behind (now (buffer .entry)) at (lineOf number code value) ⌝ }
 {
-    let code_number = code as u64;
-    let digits = places(number);
-    let code_digits = places(code_number);
-    let size = digits + code_digits + 7;
+    let code = code as u64;
+    let first = places(number);
+    let second = places(code);
+    let size = first + second + 7;
     if buffer.len() < size {
         return at;
     }
     if buffer.len() - size < at {
         return at;
     }
-    let first = spell(number, digits, buffer, at);
-    buffer[first] = b' ';
-    let second = spell(code_number, code_digits, buffer, first + 1);
-    buffer[second] = b' ';
-    let third = hex(value, buffer, second + 1);
-    buffer[third] = b'\n';
-    third + 1
+    let at = spell_spaced(number, first, buffer, at);
+    let at = spell_spaced(code, second, buffer, at);
+    let at = hex(value, buffer, at);
+    byte(b'\n', buffer, at)
+}
+
+// So many digits, and a space behind them.
+fn spell_spaced(n: u64, count: usize, buffer: &mut [u8], at: usize) -> usize
+    requires { ⌜ at + count + 1 ≤ length (now buffer) ⌝ }
+    ensures { λ r. ⌜ Wrote (now (buffer .entry)) at (digits 10 count n ++ space) (now (buffer .exit)) r ⌝ }
+{
+    let at = spell(n, count, buffer, at);
+    byte(b' ', buffer, at)
 }

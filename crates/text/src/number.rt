@@ -1,4 +1,5 @@
 // Numbers as text, stored into a buffer that has room for them.
+ghost use mathlib.Core.List.{[], _∷_};
 ghost use mathlib.Core.Path.{_≡_};
 ghost use Prim.Native.Nat.{_+_, _≤_, _<_};
 ghost use lib.ListN.{length};
@@ -6,6 +7,15 @@ ghost use Rattle.io.specs.Digits.{digits};
 ghost use Rattle.text.specs.Lent.{Wrote};
 ghost use Rattle.text.specs.Text.{decimalPlaces, hexFour};
 ghost use Rattle.text.specs.Text.{capital as capitalOf};
+
+// A byte at a place; the place behind it.
+pub fn byte(b: u8, buffer: &mut [u8], at: usize) -> usize
+    requires { ⌜ at < length (now buffer) ⌝ }
+    ensures { λ r. ⌜ Wrote (now (buffer .entry)) at (b ∷ []) (now (buffer .exit)) r ⌝ }
+{
+    buffer[at] = b;
+    at + 1
+}
 
 // How many decimal digits a number has.
 pub fn places(n: u64) -> usize

@@ -1,83 +1,91 @@
+-- `line::record_line` meets its contract. Assumes nothing.
+use mathlib.Core.Path.{_≡_, subst}
+use native.Mathlib.Omega.{arith}
 use borrow.Author.Needs.{needs}
+use denote.Ref.{now}
+use Rattle.text.specs.Text.{hexFour, lineOf}
+use Rattle.text.proofs.Lines.{line-length, line-made}
+use Rattle.text.proofs.Spelled.{spaced-length}
+use Rattle.text.proofs.Stores.{then-text, unplaced, whole}
 use Rattle.text.proofs.line.record_line.Statement.{statement}
 use Rattle.text.proofs.line.record_line.Tie as tie
-use Rattle.text.proofs.line.record_line.Reads as reads
-use Rattle.text.proofs.line.record_line.Lts as lts
-use Rattle.text.proofs.number.hex.Reads as hex-reads
-use Rattle.text.proofs.number.places.Reads as places-reads
-use Rattle.text.proofs.number.spell.Reads as spell-reads
 
--- src/line.rt:15:9
 places-requires : tie.Need-places-requires
 places-requires c κs = search needs
 
--- src/line.rt:16:9
 places-requires-2 : tie.Need-places-requires-2
 places-requires-2 c κs = search needs
 
--- src/line.rt:17:16
 add-size : tie.Need-add-size
 add-size c = search needs
 
--- src/line.rt:17:16
 add-size-2 : tie.Need-add-size-2
 add-size-2 c = search needs
 
--- src/line.rt:19:9
 returns : tie.Need-returns
-returns c = ?
+returns c =
+    let args = c .before .before .before .before .args in
+    let text = lineOf (args .number) (args .code) (args .value) in
+    let size =
+    line-length (args .number) (args .code) (args .value) _ _ (c .before .before .places .ensures .0) (c .before .places2 .ensures .0) in
+    unplaced (now (args .buffer)) (args .at) text (omega arith)
 
--- src/line.rt:21:8
 sub-if2 : tie.Need-sub-if2
 sub-if2 c = search needs
 
--- src/line.rt:22:9
 returns-2 : tie.Need-returns-2
-returns-2 c = ?
+returns-2 c =
+    let args = c .before .before .before .before .before .args in
+    let text = lineOf (args .number) (args .code) (args .value) in
+    let size =
+    line-length (args .number) (args .code) (args .value) _ _ (c .before .before .before .places .ensures .0) (c .before .before .places2 .ensures .0) in
+    unplaced (now (args .buffer)) (args .at) text (omega arith)
 
--- src/line.rt:24:9
-spell-requires : tie.Need-spell-requires
-spell-requires c κs = search needs
+spell-spaced-requires : tie.Need-spell-spaced-requires
+spell-spaced-requires c κs = search needs
 
--- src/line.rt:25:5
-slice-write-buffer : tie.Need-slice-write-buffer
-slice-write-buffer c = ?
+spell-spaced-requires-2 : tie.Need-spell-spaced-requires-2
+spell-spaced-requires-2 c κs =
+    let start = c .before .before .before .before .before .before .before .before in
+    omega (arith, spaced-length (start .places .result) (start .before .before .args .number))
 
--- src/line.rt:26:58
-add-spell : tie.Need-add-spell
-add-spell c = ?
-
--- src/line.rt:26:9
-spell-requires-2 : tie.Need-spell-requires-2
-spell-requires-2 c κs = ?
-
--- src/line.rt:27:5
-slice-write-buffer-2 : tie.Need-slice-write-buffer-2
-slice-write-buffer-2 c = ?
-
--- src/line.rt:28:36
-add-hex : tie.Need-add-hex
-add-hex c = ?
-
--- src/line.rt:28:9
 hex-requires : tie.Need-hex-requires
-hex-requires c κs = ?
+hex-requires c κs =
+    let start = c .before .before .before .before .before .before .before .before .before .before .before .before in
+    omega (
+      arith,
+      spaced-length (start .places .result) (start .before .before .args .number),
+      spaced-length (c .before .before .before .before .before .before .before .before .before .before .before .places2 .result) (start .before .before .args .code),
+    )
 
--- src/line.rt:29:5
-slice-write-buffer-3 : tie.Need-slice-write-buffer-3
-slice-write-buffer-3 c = ?
+byte-requires : tie.Need-byte-requires
+unfolding hexFour
+byte-requires c κs =
+    let start = c .before .before .before .before .before .before .before .before .before .before .before .before .before .before .before .before in
+    omega (
+      arith,
+      spaced-length (start .places .result) (start .before .before .args .number),
+      spaced-length (c .before .before .before .before .before .before .before .before .before .before .before .before .before .before .before .places2 .result) (start .before .before .args .code),
+    )
 
--- src/line.rt:30:5
-add-result : tie.Need-add-result
-add-result c = ?
-
--- src/line.rt:10:1
 same-length : tie.Need-same-length
-same-length c = ?
+same-length c = search needs
 
--- src/line.rt:10:1
 returns-3 : tie.Need-returns-3
-returns-3 c = ?
+returns-3 c =
+    let start = c .before .before .before .before .before .before .before .before .before .before .before .before .before .before .before .before .before .before .before in
+    let args = start .before .before .args in
+    let first = start .places .ensures .0 in
+    let second = c .before .before .before .before .before .before .before .before .before .before .before .before .before .before .before .before .before .before .places2 .ensures .0 in
+    let made = line-made (args .number) (args .code) (args .value) _ _ first second in
+    let size = line-length (args .number) (args .code) (args .value) _ _ first second in
+    let wrote =
+    then-text
+    (then-text
+    (then-text (c .before .before .before .before .before .before .before .before .before .before .before .before .before .before .spell-spaced .ensures) (c .before .before .before .before .before .before .before .before .before .before .spell-spaced2 .ensures))
+    (c .before .before .before .before .before .before .hex .ensures))
+    (c .before .before .byte .ensures) in
+    whole (now (args .buffer)) (args .at) (lineOf (args .number) (args .code) (args .value)) (omega arith) (rw made at wrote)
 
 pub record-line-spec : {M : Type 1} → statement M
 record-line-spec =
@@ -90,14 +98,9 @@ record-line-spec =
     returns
     sub-if2
     returns-2
-    spell-requires
-    slice-write-buffer
-    add-spell
-    spell-requires-2
-    slice-write-buffer-2
-    add-hex
+    spell-spaced-requires
+    spell-spaced-requires-2
     hex-requires
-    slice-write-buffer-3
-    add-result
+    byte-requires
     same-length
     returns-3)
