@@ -4,9 +4,10 @@ use mathlib.Core.Path.{_≡_, refl, sym, ap, _∙_, subst}
 use mathlib.Core.List.{List, [], _∷_, _++_}
 use native.Mathlib.Nat.{add-zero, add-suc, suc-add, add-assoc}
 use native.Mathlib.Omega.{arith}
-use lib.ListN.{length, set, length-append}
+use native.Mathlib.Numerals.{add-one}
+use lib.ListN.{length, set, drop, getD, length-append}
 use borrow.Author.Tests.{le-leb, lt-leb}
-use lib.Seq.{sets, sets-eq, set-comm}
+use lib.Seq.{sets, sets-eq, set-comm, drop-cons}
 use Rattle.text.specs.Lent.{Wrote, fits, placed, behind}
 
 -- one text behind another
@@ -45,3 +46,13 @@ module _ (buffer : List ℕ) (at : ℕ) (text : List ℕ) where
       → (after ≡ placed buffer at text) × (end ≡ behind buffer at text)
   unfolding placed behind fits
   whole h w = rw (le-leb _ _ h) (w .bytes ∙ sets-eq text buffer at h, w .place)
+
+-- what is left of a text, stored behind its beginning
+pub rest-stored : {before : List ℕ} {at : ℕ} {a after : List ℕ} {p : ℕ} (rest : List ℕ)
+    → Wrote before at a after p → sets after p rest ≡ sets before at (a ++ rest)
+rest-stored {before} {at} {a} rest w = cc (w .bytes, w .place, sets-append before at a rest)
+
+-- a byte of a text, copied
+pub copy-byte : (l : List ℕ) (at i : ℕ) (text : List ℕ) → i < length text
+    → sets (set l (at + i) (getD text i 0)) (at + (i + 1)) (drop (i + 1) text) ≡ sets l (at + i) (drop i text)
+copy-byte l at i text h = rw (drop-cons text i 0 h, add-one, add-suc)
