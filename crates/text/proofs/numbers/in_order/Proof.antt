@@ -1,13 +1,13 @@
 -- `numbers::in_order` meets its contract: each number of 16 bits fits 32. Assumes nothing.
 use native.Mathlib.Omega.{arith}
-use borrow.Author.Needs.{needs}
+use mathlib.Core.Path.{refl}
 use Rattle.timing.specs.Timing.{numbersOf}
 use Rattle.text.proofs.numbers.in_order.Statement.{statement}
 use Rattle.text.proofs.numbers.in_order.Tie as tie
 
 returns : tie.Need-returns
 unfolding numbersOf
-returns c = search needs
+returns c = refl
 
 pub in-order-spec : {M : Type 1} → statement M
 in-order-spec =
