@@ -1,4 +1,7 @@
 // The hardware cursor and window 2 of a register file. Horizontal places are pixels, a third kind beside clocks and scanlines.
+mod edge;
+mod reader;
+
 use file::Answer;
 use timing::Scanlines;
 

@@ -1,0 +1,88 @@
+// The cursor and window 2 of a sound file, and what stands for them where it is not sound.
+ghost use mathlib.Core.Path.{_≡_};
+ghost use lib.Dec.{T};
+ghost use Rattle.file.specs.Sound.{sound};
+ghost use Rattle.geometry.specs.Geometry.{cursorIn, noCursor, noWindow, windowIn};
+ghost use Rattle.timing.specs.Timing.{timingIn};
+use crate::Cursor;
+use crate::Pixels;
+use crate::Window;
+use crate::edge::is_empty;
+use crate::edge::less_preset;
+use crate::edge::shown;
+use crate::edge::smaller;
+use file::File;
+use timing::Scanlines;
+
+pub fn cursor_in(file: File) -> Cursor
+    requires { ⌜ T (sound file) ⌝ }
+    ensures { λ r. ⌜ r ≡ cursorIn file ⌝ }
+{
+    let across = file.registers[97] / 256 % 128;
+    let down = file.registers[97] % 128;
+    Cursor {
+        enabled: file.registers[98] % 2 == 1,
+        left: less_preset(file.registers[95], across),
+        top: less_preset(file.registers[96], down),
+        width: shown(across),
+        height: shown(down),
+        address: (file.registers[99] / 4 % 8192) as u32 * 1024,
+    }
+}
+
+// No cursor: the marks off, every number 0.
+pub fn no_cursor() -> Cursor
+    ensures { λ r. ⌜ r ≡ noCursor ⌝ }
+{
+    Cursor {
+        enabled: false,
+        left: 0,
+        top: 0,
+        width: 0,
+        height: 0,
+        address: 0,
+    }
+}
+
+// The window, given the numbers V total and V display of the file.
+pub fn window_in(file: File, total: u16, display: u16) -> Window
+    requires { ⌜ (total ≡ timingIn file .«v_total» .0) × (display ≡ timingIn file .«v_display» .0) ⌝ }
+    ensures { λ r. ⌜ r ≡ windowIn file ⌝ }
+{
+    let left = file.registers[89];
+    let top = file.registers[90];
+    let right = file.registers[91];
+    let last = file.registers[92];
+    let marks = file.registers[93];
+    let bottom = smaller(last, display);
+    Window {
+        enabled: marks / 128 % 2 == 1,
+        video: marks / 64 % 2 == 1,
+        left: Pixels(left),
+        top: Scanlines(top),
+        right: Pixels(right),
+        bottom: Scanlines(bottom),
+        empty: is_empty(left, top, right, bottom),
+        fault: total < last,
+        start: Scanlines(64 * (marks % 64)),
+        stop: Scanlines(64 * (file.registers[94] % 64)),
+    }
+}
+
+// No window: the marks off, every number 0, empty.
+pub fn no_window() -> Window
+    ensures { λ r. ⌜ r ≡ noWindow ⌝ }
+{
+    Window {
+        enabled: false,
+        video: false,
+        left: Pixels(0),
+        top: Scanlines(0),
+        right: Pixels(0),
+        bottom: Scanlines(0),
+        empty: true,
+        fault: false,
+        start: Scanlines(0),
+        stop: Scanlines(0),
+    }
+}
