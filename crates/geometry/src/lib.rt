@@ -3,6 +3,7 @@ mod edge;
 mod reader;
 
 use file::Answer;
+pub use reader::read_geometry;
 use timing::Scanlines;
 
 pub struct Pixels(pub u16);

@@ -2,19 +2,42 @@
 ghost use mathlib.Core.Path.{_≡_};
 ghost use lib.Dec.{T};
 ghost use Rattle.file.specs.Sound.{sound};
-ghost use Rattle.geometry.specs.Geometry.{cursorIn, noCursor, noWindow, windowIn};
+ghost use Rattle.geometry.specs.Geometry.{cursorIn, noCursor, noWindow, readGeometry, windowIn};
 ghost use Rattle.timing.specs.Timing.{timingIn};
 use crate::Cursor;
+use crate::Geometry;
 use crate::Pixels;
 use crate::Window;
+use crate::edge::eleven;
 use crate::edge::is_empty;
 use crate::edge::less_preset;
 use crate::edge::shown;
 use crate::edge::smaller;
+use file::Answer;
 use file::File;
+use file::is_sound;
 use timing::Scanlines;
 
-pub fn cursor_in(file: File) -> Cursor
+// What a file's registers say of the cursor and of window 2.
+pub fn read_geometry(file: File) -> Geometry
+    ensures { λ r. ⌜ r ≡ readGeometry file ⌝ }
+{
+    if is_sound(file) {
+        Geometry {
+            answer: Answer::Done(0),
+            cursor: cursor_in(file),
+            window: window_in(file, v_total(file), v_display(file)),
+        }
+    } else {
+        Geometry {
+            answer: Answer::NotSound,
+            cursor: no_cursor(),
+            window: no_window(),
+        }
+    }
+}
+
+fn cursor_in(file: File) -> Cursor
     requires { ⌜ T (sound file) ⌝ }
     ensures { λ r. ⌜ r ≡ cursorIn file ⌝ }
 {
@@ -31,7 +54,7 @@ pub fn cursor_in(file: File) -> Cursor
 }
 
 // No cursor: the marks off, every number 0.
-pub fn no_cursor() -> Cursor
+fn no_cursor() -> Cursor
     ensures { λ r. ⌜ r ≡ noCursor ⌝ }
 {
     Cursor {
@@ -45,7 +68,7 @@ pub fn no_cursor() -> Cursor
 }
 
 // The window, given the numbers V total and V display of the file.
-pub fn window_in(file: File, total: u16, display: u16) -> Window
+fn window_in(file: File, total: u16, display: u16) -> Window
     requires { ⌜ (total ≡ timingIn file .«v_total» .0) × (display ≡ timingIn file .«v_display» .0) ⌝ }
     ensures { λ r. ⌜ r ≡ windowIn file ⌝ }
 {
@@ -69,8 +92,30 @@ pub fn window_in(file: File, total: u16, display: u16) -> Window
     }
 }
 
+// The number V total.
+fn v_total(file: File) -> u16
+    ensures { λ r. ⌜ r ≡ timingIn file .«v_total» .0 ⌝ }
+{
+    let cr7 = file.registers[32];
+    eleven(file.registers[54] / 8, cr7 / 32, cr7, file.registers[31]) + 2
+}
+
+// The number V display.
+fn v_display(file: File) -> u16
+    ensures { λ r. ⌜ r ≡ timingIn file .«v_display» .0 ⌝ }
+{
+    let cr7 = file.registers[32];
+    eleven(
+        file.registers[54] / 4,
+        cr7 / 64,
+        cr7 / 2,
+        file.registers[43],
+    )
+        + 1
+}
+
 // No window: the marks off, every number 0, empty.
-pub fn no_window() -> Window
+fn no_window() -> Window
     ensures { λ r. ⌜ r ≡ noWindow ⌝ }
 {
     Window {
