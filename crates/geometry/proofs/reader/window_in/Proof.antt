@@ -42,7 +42,7 @@ returns : tie.Need-returns
 unfolding windowIn bottom register mark bit bits
 returns c =
     let given = c .before .before .before .before .before .before .before .before .pre in
-    rw (c .before .is-empty .ensures, c .before .before .smaller .ensures, given .0, given .1) (simp div-one)
+    rw (c .before .is-empty .ensures, c .before .before .smaller .ensures, ← given .0, ← given .1) (simp div-one)
 
 pub window-in-spec : {M : Type 1} → statement M
 window-in-spec =
