@@ -18,6 +18,37 @@ use file::File;
 use file::is_sound;
 use timing::Scanlines;
 
+// The registers that are read here, by their numbers in the table of stored bits.
+const CR6: usize = 31;
+
+const CR7: usize = 32;
+
+const CR12: usize = 43;
+
+const CR1E: usize = 54;
+
+const CC: usize = 89;
+
+const CE: usize = 90;
+
+const D0: usize = 91;
+
+const D2: usize = 92;
+
+const D4: usize = 93;
+
+const D5: usize = 94;
+
+const E0: usize = 95;
+
+const E2: usize = 96;
+
+const E4: usize = 97;
+
+const E6: usize = 98;
+
+const E8: usize = 99;
+
 // What a file's registers say of the cursor and of window 2.
 pub fn read_geometry(file: File) -> Geometry
     ensures { λ r. ⌜ r ≡ readGeometry file ⌝ }
@@ -41,15 +72,15 @@ fn cursor_in(file: File) -> Cursor
     requires { ⌜ T (sound file) ⌝ }
     ensures { λ r. ⌜ r ≡ cursorIn file ⌝ }
 {
-    let across = file.registers[97] / 256 % 128;
-    let down = file.registers[97] % 128;
+    let across = file.registers[E4] / 256 % 128;
+    let down = file.registers[E4] % 128;
     Cursor {
-        enabled: file.registers[98] % 2 == 1,
-        left: less_preset(file.registers[95], across),
-        top: less_preset(file.registers[96], down),
+        enabled: file.registers[E6] % 2 == 1,
+        left: less_preset(file.registers[E0], across),
+        top: less_preset(file.registers[E2], down),
         width: shown(across),
         height: shown(down),
-        address: (file.registers[99] / 4 % 8192) as u32 * 1024,
+        address: (file.registers[E8] / 4 % 8192) as u32 * 1024,
     }
 }
 
@@ -72,11 +103,11 @@ fn window_in(file: File, total: u16, display: u16) -> Window
     requires { ⌜ (total ≡ timingIn file .«v_total» .0) × (display ≡ timingIn file .«v_display» .0) ⌝ }
     ensures { λ r. ⌜ r ≡ windowIn file ⌝ }
 {
-    let left = file.registers[89];
-    let top = file.registers[90];
-    let right = file.registers[91];
-    let last = file.registers[92];
-    let marks = file.registers[93];
+    let left = file.registers[CC];
+    let top = file.registers[CE];
+    let right = file.registers[D0];
+    let last = file.registers[D2];
+    let marks = file.registers[D4];
     let bottom = smaller(last, display);
     Window {
         enabled: marks / 128 % 2 == 1,
@@ -88,7 +119,7 @@ fn window_in(file: File, total: u16, display: u16) -> Window
         empty: is_empty(left, top, right, bottom),
         fault: total < last,
         start: Scanlines(64 * (marks % 64)),
-        stop: Scanlines(64 * (file.registers[94] % 64)),
+        stop: Scanlines(64 * (file.registers[D5] % 64)),
     }
 }
 
@@ -96,20 +127,20 @@ fn window_in(file: File, total: u16, display: u16) -> Window
 fn v_total(file: File) -> u16
     ensures { λ r. ⌜ r ≡ timingIn file .«v_total» .0 ⌝ }
 {
-    let cr7 = file.registers[32];
-    eleven(file.registers[54] / 8, cr7 / 32, cr7, file.registers[31]) + 2
+    let cr7 = file.registers[CR7];
+    eleven(file.registers[CR1E] / 8, cr7 / 32, cr7, file.registers[CR6]) + 2
 }
 
 // The number V display.
 fn v_display(file: File) -> u16
     ensures { λ r. ⌜ r ≡ timingIn file .«v_display» .0 ⌝ }
 {
-    let cr7 = file.registers[32];
+    let cr7 = file.registers[CR7];
     eleven(
-        file.registers[54] / 4,
+        file.registers[CR1E] / 4,
         cr7 / 64,
         cr7 / 2,
-        file.registers[43],
+        file.registers[CR12],
     )
         + 1
 }

@@ -1,4 +1,4 @@
--- `reader::v_total` meets its contract: the pieces of the table, gathered. Assumes nothing.
+-- `reader::v_total` meets its contract: the pieces of V total in the table, gathered. Assumes nothing.
 use native.Mathlib.Nat.{div-one}
 use borrow.Author.Needs.{needs}
 use Rattle.bits.specs.Numbers.{meant, readFrom, readNumbers}
@@ -9,21 +9,6 @@ use Rattle.geometry.proofs.Eleven.{gathered}
 use Rattle.geometry.proofs.reader.v_total.Statement.{statement}
 use Rattle.geometry.proofs.reader.v_total.Tie as tie
 
-element-copy-out-cr7 : tie.Need-element-copy-out-cr7
-element-copy-out-cr7 c = search needs
-
-element-copy-out-eleven : tie.Need-element-copy-out-eleven
-element-copy-out-eleven c = search needs
-
-element-copy-out-eleven-2 : tie.Need-element-copy-out-eleven-2
-element-copy-out-eleven-2 c = search needs
-
-eleven-requires : tie.Need-eleven-requires
-eleven-requires c κs = search needs
-
-add-result : tie.Need-add-result
-add-result c = search needs
-
 returns : tie.Need-returns
 unfolding timingIn timingOf readNumbers readFrom table meant gather held width
 returns c = rw (c .eleven .ensures .0) (simp div-one (gathered _ _ _ _ _))
@@ -31,10 +16,4 @@ returns c = rw (c .eleven .ensures .0) (simp div-one (gathered _ _ _ _ _))
 pub v-total-spec : {M : Type 1} → statement M
 v-total-spec =
     tie.close
-    (tie.spec
-    element-copy-out-cr7
-    element-copy-out-eleven
-    element-copy-out-eleven-2
-    eleven-requires
-    add-result
-    returns)
+    (tie.spec (λ c. search needs) (λ c. search needs) (λ c. search needs) (λ c κs. search needs) (λ c. search needs) returns)
