@@ -1,7 +1,7 @@
 -- How many decimal digits a number has: the bound on how far it is looked at plays no part. Assumes nothing.
 use Prim.Native.Nat.{ℕ, zero, suc, _*_, _/_, _^_, _≤_, _<_, suc-le-suc}
 use mathlib.Core.Path.{_≡_, refl, sym, ap, _∙_, subst}
-use native.Mathlib.Nat.{pow-suc, div-lt-iff-lt-mul}
+use native.Mathlib.Nat.{pow-suc, one-le-pow, div-lt-iff-lt-mul, le-div-iff-mul-le}
 use native.Mathlib.Omega.{arith}
 use borrow.Author.Tests.{lt-ltb, le-ltb, ltb-true, ltb-false}
 use lib.Dec.{ltb, lit<}
@@ -43,3 +43,17 @@ most-places (suc j) (suc bound) n h =
     by-test (ltb n 10) (λ e. rw (one-place (suc bound) n (ltb-true n 10 e)) (omega arith))
     (λ e. rw (tenth bound n (ltb-false n 10 e))
     (suc-le-suc (most-places j bound (n / 10) (div-lt-iff-lt-mul (lit< tt) .1 (rw (pow-suc 10 (suc j)) at h)))))
+
+-- a number from 10^j on has more than j
+least-places : (j n : ℕ) → 10 ^ j ≤ n → j < decimalPlaces n n
+least-places zero n h =
+    by-test (ltb n 10) (λ e. rw (one-place n n (ltb-true n 10 e)) (omega arith))
+    (λ e. rw (more-places n (ltb-false n 10 e)) (omega arith))
+least-places (suc j) n h =
+    let tens : 10 ^ j * 10 ≤ n = rw (pow-suc 10 j) at h in
+    rw (more-places n (omega (arith, one-le-pow j 10 (lit< tt))))
+    (suc-le-suc (least-places j (n / 10) (le-div-iff-mul-le (lit< tt) .1 tens)))
+
+-- between the two it has as many
+pub so-many : (j n : ℕ) → 10 ^ j ≤ n → n < 10 ^ suc j → suc j ≡ decimalPlaces n n
+so-many j n low high = omega (arith, least-places j n low, most-places j n n high)

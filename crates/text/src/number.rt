@@ -17,8 +17,33 @@ pub fn byte(b: u8, buffer: &mut [u8], at: usize) -> usize
     at + 1
 }
 
-// How many decimal digits a number has.
+// How many decimal digits a number has. A record's number has few, so these are tried first.
 pub fn places(n: u64) -> usize
+    ensures { λ r. ⌜ (r ≡ decimalPlaces n n) × (r ≤ 20) ⌝ }
+{
+    if n < 10 {
+        return 1;
+    }
+    if n < 100 {
+        return 2;
+    }
+    if n < 1000 {
+        return 3;
+    }
+    if n < 10000 {
+        return 4;
+    }
+    if n < 100000 {
+        return 5;
+    }
+    if n < 1000000 {
+        return 6;
+    }
+    many_places(n)
+}
+
+// The same, counted.
+fn many_places(n: u64) -> usize
     ensures { λ r. ⌜ (r ≡ decimalPlaces n n) × (r ≤ 20) ⌝ }
 {
     let mut count = 1;

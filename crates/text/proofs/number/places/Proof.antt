@@ -1,38 +1,36 @@
--- `number::places` meets its contract: the digits counted and those of the rest are the number's. Assumes nothing.
-use Prim.Native.Nat.{_+_, _≤_}
-use mathlib.Core.Path.{_≡_}
-use native.Mathlib.Omega.{arith}
-use Rattle.text.specs.Text.{decimalPlaces}
-use Rattle.text.proofs.Places.{one-place, more-places, most-places}
+-- `number::places` meets its contract: each test is of a power of ten. Assumes nothing.
+use mathlib.Core.Path.{sym}
+use borrow.Author.Needs.{needs}
+use lib.Dec.{lit≤}
+use Rattle.text.proofs.Places.{one-place, so-many}
 use Rattle.text.proofs.number.places.Statement.{statement}
 use Rattle.text.proofs.number.places.Tie as tie
 
-abbrev Inv-loop : tie.InvT-loop
-Inv-loop n count₀ rest₀ count rest = (decimalPlaces n n + 1 ≡ count + decimalPlaces rest rest) × (count + rest ≤ n + 1)
+returns : tie.Need-returns
+returns c = (sym (one-place _ _ (c .if1 .taken)), lit≤ tt)
 
-abbrev μ-loop : tie.MeasureT-loop
-μ-loop n count₀ rest₀ count rest = rest
+returns-2 : tie.Need-returns-2
+returns-2 c = (so-many 1 _ (c .before .if1 .left) (c .if2 .taken), lit≤ tt)
 
-loop-holds : tie.Need-loop-holds Inv-loop μ-loop
-loop-holds c = omega arith
+returns-3 : tie.Need-returns-3
+returns-3 c = (so-many 2 _ (c .before .if2 .left) (c .if3 .taken), lit≤ tt)
 
-add-count : tie.Need-add-count Inv-loop μ-loop
-add-count c = omega arith
+returns-4 : tie.Need-returns-4
+returns-4 c = (so-many 3 _ (c .before .if3 .left) (c .if4 .taken), lit≤ tt)
 
-loop-less : tie.Need-loop-less Inv-loop μ-loop
-loop-less c = omega arith
+returns-5 : tie.Need-returns-5
+returns-5 c = (so-many 4 _ (c .before .if4 .left) (c .if5 .taken), lit≤ tt)
 
-loop-again : tie.Need-loop-again Inv-loop μ-loop
-loop-again c = omega (arith, more-places (c .before .loop .rest) (omega arith))
+returns-6 : tie.Need-returns-6
+returns-6 c = (so-many 5 _ (c .before .if5 .left) (c .if6 .taken), lit≤ tt)
 
-returns : tie.Need-returns Inv-loop μ-loop
-returns c =
-    let n = c .before .before .args .n in
-    let rest = c .before .loop .rest in
-    let one = one-place rest rest (omega arith) in
-    let most = most-places 19 n n (omega arith) in
-    omega arith
+many-places-requires : tie.Need-many-places-requires
+many-places-requires c κs = search needs
+
+returns-7 : tie.Need-returns-7
+returns-7 c = search needs
 
 pub places-spec : {M : Type 1} → statement M
 places-spec =
-    tie.close (tie.spec Inv-loop μ-loop loop-holds add-count loop-less loop-again returns)
+    tie.close
+    (tie.spec returns returns-2 returns-3 returns-4 returns-5 returns-6 many-places-requires returns-7)
