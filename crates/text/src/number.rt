@@ -55,19 +55,25 @@ fn many_places(n: u64) -> usize
     count
 }
 
-// The last digits of a number, so many of them, from a place on; the place behind them.
+// The last digits of a number, so many of them, from a place on; the place behind them. Two at a time, from the back.
 pub fn spell(n: u64, count: usize, buffer: &mut [u8], at: usize) -> usize
     requires { ⌜ at + count ≤ length (now buffer) ⌝ }
     ensures { λ r. ⌜ Wrote (now (buffer .entry)) at (digits 10 count n) (now (buffer .exit)) r ⌝ }
 {
+    let end = at + count;
     let mut i = count;
     let mut rest = n;
-    while i > 0 {
-        i -= 1;
-        buffer[at + i] = 48 + (rest % 10) as u8;
-        rest /= 10;
+    while i > 1 {
+        let pair = rest % 100;
+        buffer[at + (i - 1)] = 48 + (pair % 10) as u8;
+        buffer[at + (i - 2)] = 48 + (pair / 10) as u8;
+        i -= 2;
+        rest /= 100;
     }
-    at + count
+    if i > 0 {
+        buffer[at] = 48 + (rest % 10) as u8;
+    }
+    end
 }
 
 // A hex digit.
