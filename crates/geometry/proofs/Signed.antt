@@ -1,10 +1,10 @@
 -- A difference of two small numbers, signed, in 16 bits. Assumes nothing.
 use Prim.Native.Nat.{ℕ, zero, suc, _-_, _^_, _<_}
-use mathlib.Core.Path.{_≡_, refl, sym, ap, ap₂, _∙_}
+use mathlib.Core.Path.{_≡_, refl, ap}
 use native.Mathlib.Omega.{arith}
-use borrow.Author.Tests.{ltb-true, ltb-false, le-ltb}
+use borrow.Author.Tests.{le-ltb}
 use lib.Dec.{ltb}
-use lib.IntN.{ℤ, pos, negsuc, subℕ, _-ℤ_}
+use lib.IntN.{pos, subℕ, _-ℤ_}
 use mir.Syntax.{w16}
 use mir.Val.{SFits, toZ}
 use mir.ValLaws.{toZ-ofZ}

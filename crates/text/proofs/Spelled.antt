@@ -1,7 +1,7 @@
 -- The digits of a number, stored from the back. Assumes nothing.
 use Prim.Native.Nat.{ℕ, zero, suc, _+_, _-_, _*_, _/_, _%_, _<_}
-use mathlib.Core.Path.{_≡_, refl, sym, ap, _∙_}
-use mathlib.Core.List.{List, [], _∷_, _++_}
+use mathlib.Core.Path.{_≡_, refl, sym, _∙_}
+use mathlib.Core.List.{List, _++_}
 use native.Mathlib.Nat.{mod-lt, div-div-eq-div-mul}
 use native.Mathlib.Omega.{arith}
 use borrow.Author.Tests.{lt-ltb}
@@ -9,7 +9,7 @@ use lib.Arith.{digits-div, digits-mod, mod-mul}
 use lib.Dec.{lit<}
 use lib.ListN.{length, set, length-append}
 use lib.Seq.{sets}
-use Rattle.io.specs.Digits.{digits, glyph}
+use Rattle.io.specs.Digits.{digits}
 use Rattle.text.specs.Text.{space}
 use Rattle.text.proofs.Stores.{sets-last}
 

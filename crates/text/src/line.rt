@@ -5,7 +5,7 @@ ghost use Prim.Native.Nat.{_+_, _≤_};
 ghost use lib.ListN.{length};
 ghost use Rattle.io.specs.Digits.{digits};
 ghost use Rattle.text.specs.Lent.{Wrote, placed, behind};
-ghost use Rattle.text.specs.Text.{lineOf, hexFour, space, newline};
+ghost use Rattle.text.specs.Text.{lineOf, space};
 use crate::number::byte;
 use crate::number::hex;
 use crate::number::places;

@@ -1,6 +1,4 @@
 -- `reader::cursor_in` meets its contract: E0 and E2 hold 12 bits in a sound file. Assumes nothing.
-use Prim.Native.Nat.{ℕ, _≤_}
-use mathlib.Core.Path.{_≡_, _∙_}
 use native.Mathlib.Nat.{div-one}
 use native.Mathlib.Omega.{arith}
 use borrow.Author.Needs.{needs}

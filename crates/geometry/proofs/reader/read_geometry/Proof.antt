@@ -1,5 +1,5 @@
 -- `reader::read_geometry` meets its contract. Assumes nothing.
-use mathlib.Core.Path.{_≡_, sym, _∙_}
+use mathlib.Core.Path.{sym, _∙_}
 use borrow.Author.Needs.{needs}
 use Rattle.bits.proofs.Test.{passes}
 use Rattle.geometry.specs.Geometry.{readGeometry}

@@ -1,5 +1,4 @@
 -- `reader::window_in` meets its contract. Assumes nothing.
-use mathlib.Core.Path.{_≡_, _∙_}
 use native.Mathlib.Nat.{div-one}
 use borrow.Author.Needs.{needs}
 use Rattle.bits.specs.Store.{bit, bits}

@@ -1,5 +1,4 @@
 -- `line::record_line` meets its contract. Assumes nothing.
-use mathlib.Core.Path.{_≡_, subst}
 use native.Mathlib.Omega.{arith}
 use borrow.Author.Needs.{needs}
 use denote.Ref.{now}

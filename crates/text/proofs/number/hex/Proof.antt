@@ -4,7 +4,6 @@ use mathlib.Core.Path.{_≡_, refl}
 use native.Mathlib.Omega.{arith}
 use borrow.Author.Needs.{needs}
 use lib.ListN.{length-set}
-use Rattle.text.specs.Lent.{Wrote}
 use Rattle.text.specs.Text.{hexFour}
 use Rattle.text.proofs.number.hex.Statement.{statement}
 use Rattle.text.proofs.number.hex.Tie as tie

@@ -1,11 +1,10 @@
 -- `number::spell` meets its contract: with the digits that are left stored, the buffer holds them all. Assumes nothing.
-use Prim.Native.Nat.{_+_, _≤_}
-use mathlib.Core.Path.{_≡_, refl, sym, _∙_}
+use Prim.Native.Nat.{_≤_}
+use mathlib.Core.Path.{_≡_, refl, _∙_}
 use native.Mathlib.Omega.{arith}
 use lib.ListN.{length, length-set}
 use lib.Seq.{sets}
 use Rattle.io.specs.Digits.{digits}
-use Rattle.text.specs.Lent.{Wrote}
 use Rattle.text.proofs.Spelled.{digits-length, spell-one, spell-pair}
 use Rattle.text.proofs.number.spell.Statement.{statement}
 use Rattle.text.proofs.number.spell.Tie as tie

@@ -1,13 +1,11 @@
 -- `numbers::copy` meets its contract: with the rest of the text stored, the buffer holds it all. Assumes nothing.
 use Prim.Native.Nat.{_+_, _-_, _≤_}
-use mathlib.Core.Path.{_≡_, refl, sym, _∙_}
-use mathlib.Core.List.{List}
+use mathlib.Core.Path.{_≡_, refl, _∙_}
 use native.Mathlib.Nat.{add-zero}
 use native.Mathlib.Omega.{arith}
 use denote.Ref.{now}
 use lib.ListN.{length, drop, length-set, drop-of-length-le}
 use lib.Seq.{sets}
-use Rattle.text.specs.Lent.{Wrote}
 use Rattle.text.proofs.Stores.{copy-byte}
 use Rattle.text.proofs.numbers.copy.Statement.{statement}
 use Rattle.text.proofs.numbers.copy.Tie as tie

@@ -6,7 +6,6 @@ use borrow.Author.Needs.{needs}
 use denote.Ref.{now}
 use lib.ListN.{length, drop}
 use lib.Seq.{sets}
-use Rattle.text.specs.Lent.{Wrote}
 use Rattle.text.specs.Text.{decimalPlaces, spaced}
 use Rattle.text.proofs.Spaced.{behind-length, next-length, next-spaced, none-left}
 use Rattle.text.proofs.Stores.{rest-stored}
