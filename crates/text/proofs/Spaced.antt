@@ -6,9 +6,7 @@ use native.Mathlib.Numerals.{add-one}
 use native.Mathlib.Omega.{arith}
 use lib.ListN.{length, drop, getD, length-append, drop-of-length-le}
 use lib.Seq.{drop-cons}
-use Rattle.timing.specs.declared.Timing.{Timing}
-use Rattle.timing.specs.Timing.{numbersOf}
-use Rattle.text.specs.Text.{ascii, decimal, decimalPlaces, newline, space, spaced, timingLine}
+use Rattle.text.specs.Text.{ascii, decimal, decimalPlaces, newline, numbersLine, space, spaced}
 use Rattle.text.proofs.Spelled.{digits-length}
 
 pub behind-length : (n : ℕ) → length (space ++ decimal n) ≡ 1 + decimalPlaces n n
@@ -30,6 +28,6 @@ pub none-left : (numbers : List ℕ) (i : ℕ) → length numbers ≤ i → spac
 unfolding spaced
 none-left numbers i h = rw (drop-of-length-le numbers h)
 
-pub timing-length : (t : Timing) → length (timingLine t) ≡ 7 + length (spaced (numbersOf t))
-unfolding timingLine ascii newline
-timing-length t = simp length-append (omega arith)
+pub numbers-length : (numbers : List ℕ) → length (numbersLine numbers) ≡ 7 + length (spaced numbers)
+unfolding numbersLine ascii newline
+numbers-length numbers = simp length-append (omega arith)

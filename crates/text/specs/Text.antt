@@ -57,8 +57,12 @@ spaced [] = []
 spaced (n ∷ ns) = space ++ decimal n ++ spaced ns
 
 -- 'Last comes one line: the word timing, then the fifteen numbers in table order, decimal.'
+unfoldable pub numbersLine : List ℕ → List ℕ
+numbersLine numbers = ascii "timing" ++ spaced numbers ++ newline
+
+-- the line of a timing
 unfoldable pub timingLine : Timing → List ℕ
-timingLine t = ascii "timing" ++ spaced (numbersOf t) ++ newline
+timingLine t = numbersLine (numbersOf t)
 
 -- the lines of items, from a number on
 unfoldable pub recordLines : ℕ → File → List Item → List ℕ

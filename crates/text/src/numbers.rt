@@ -4,7 +4,7 @@ ghost use mathlib.Core.List.{_++_};
 ghost use Prim.Native.Nat.{_+_, _≤_};
 ghost use lib.ListN.{length};
 ghost use Rattle.text.specs.Lent.{Wrote, placed, behind};
-ghost use Rattle.text.specs.Text.{decimal, decimalPlaces, space, spaced, timingLine};
+ghost use Rattle.text.specs.Text.{decimal, decimalPlaces, numbersLine, space, spaced, timingLine};
 ghost use Rattle.timing.specs.Timing.{numbersOf};
 use crate::number::byte;
 use crate::number::places;
@@ -17,7 +17,16 @@ pub fn timing_line(buffer: &mut [u8], at: usize, timing: Timing) -> usize
     ensures { λ r. ⌜ r ≡ behind (now (buffer .entry)) at (timingLine timing) ⌝ }
 {
     let numbers = in_order(timing);
-    let size = 7 + spaced_size(&numbers);
+    numbers_line(buffer, at, &numbers)
+}
+
+// The line of fifteen numbers.
+fn numbers_line(buffer: &mut [u8], at: usize, numbers: &[u32; 15]) -> usize
+    requires { ⌜ length (now numbers) ≡ 15 ⌝ }
+    ensures { λ r. ⌜ now (buffer .exit) ≡ placed (now (buffer .entry)) at (numbersLine (now (numbers .entry))) ⌝ }
+    ensures { λ r. ⌜ r ≡ behind (now (buffer .entry)) at (numbersLine (now (numbers .entry))) ⌝ }
+{
+    let size = 7 + spaced_size(numbers);
     if buffer.len() < size {
         return at;
     }
@@ -25,7 +34,7 @@ pub fn timing_line(buffer: &mut [u8], at: usize, timing: Timing) -> usize
         return at;
     }
     let at = copy(b"timing", buffer, at);
-    let at = spell_each(&numbers, buffer, at);
+    let at = spell_each(numbers, buffer, at);
     byte(b'\n', buffer, at)
 }
 

@@ -1,78 +1,21 @@
 -- `numbers::timing_line` meets its contract. Assumes nothing.
-use native.Mathlib.Omega.{arith}
 use borrow.Author.Needs.{needs}
-use denote.Ref.{now}
-use Rattle.text.specs.Text.{ascii, newline, timingLine}
-use Rattle.text.proofs.Spaced.{timing-length}
-use Rattle.text.proofs.Stores.{then-text, unplaced, whole}
+use Rattle.text.specs.Text.{timingLine}
 use Rattle.text.proofs.numbers.timing_line.Statement.{statement}
 use Rattle.text.proofs.numbers.timing_line.Tie as tie
 
 in-order-requires : tie.Need-in-order-requires
 in-order-requires c κs = search needs
 
-spaced-size-requires : tie.Need-spaced-size-requires
-spaced-size-requires c κs = search needs
-
-add-size : tie.Need-add-size
-add-size c = search needs
-
-returns : tie.Need-returns
-returns c =
-    let args = c .before .before .before .before .before .args in
-    let size = timing-length (args .timing) in
-    let counted = rw (c .before .before .before .in-order .ensures) at (c .before .spaced-size .ensures .0) in
-    unplaced (now (args .buffer)) (args .at) (timingLine (args .timing)) (omega arith)
-
-sub-if2 : tie.Need-sub-if2
-sub-if2 c = search needs
-
-returns-2 : tie.Need-returns-2
-returns-2 c =
-    let args = c .before .before .before .before .before .before .args in
-    let size = timing-length (args .timing) in
-    let counted = rw (c .before .before .before .before .in-order .ensures) at (c .before .before .spaced-size .ensures .0) in
-    unplaced (now (args .buffer)) (args .at) (timingLine (args .timing)) (omega arith)
-
-slice-aggregate-copy : tie.Need-slice-aggregate-copy
-slice-aggregate-copy c = search needs
-
-copy-requires : tie.Need-copy-requires
-copy-requires c κs = search needs
-
-spell-each-requires : tie.Need-spell-each-requires
-spell-each-requires c κs = search needs
-
-byte-requires : tie.Need-byte-requires
-byte-requires c κs = search needs
+numbers-line-requires : tie.Need-numbers-line-requires
+numbers-line-requires c κs = search needs
 
 same-length : tie.Need-same-length
 same-length c = search needs
 
-returns-3 : tie.Need-returns-3
-unfolding ascii newline timingLine
-returns-3 c =
-    let args = c .before .before .before .before .before .before .before .before .before .before .before .before .before .before .before .before .before .before .before .before .args in
-    let size = timing-length (args .timing) in
-    let order = c .before .before .before .before .before .before .before .before .before .before .before .before .before .before .before .before .before .before .in-order .ensures in
-    let counted = rw order at (c .before .before .before .before .before .before .before .before .before .before .before .before .before .before .before .before .spaced-size .ensures .0) in
-    let wrote =
-    then-text (then-text (c .before .before .before .before .before .before .before .before .before .before .before .copy .ensures) (c .before .before .before .before .before .before .spell-each .ensures)) (c .before .before .byte .ensures) in
-    whole (now (args .buffer)) (args .at) (timingLine (args .timing)) (omega arith) (rw order at wrote)
+returns : tie.Need-returns
+unfolding timingLine
+returns c = rw (c .before .before .before .before .before .in-order .ensures) at (c .before .before .numbers-line .ensures)
 
 pub timing-line-spec : {M : Type 1} → statement M
-timing-line-spec =
-    tie.close
-    (tie.spec
-    in-order-requires
-    spaced-size-requires
-    add-size
-    returns
-    sub-if2
-    returns-2
-    slice-aggregate-copy
-    copy-requires
-    spell-each-requires
-    byte-requires
-    same-length
-    returns-3)
+timing-line-spec = tie.close (tie.spec in-order-requires numbers-line-requires same-length returns)
