@@ -1,5 +1,9 @@
 // The hardware cursor and window 2 of a register file. Horizontal places are pixels, a third kind beside clocks and scanlines.
+mod edge;
+mod reader;
+
 use file::Answer;
+pub use reader::read_geometry;
 use timing::Scanlines;
 
 pub struct Pixels(pub u16);

@@ -3,7 +3,7 @@
 use Prim.Native.Char.{code}
 use Prim.Native.Nat.{ℕ, zero, suc, _+_, _/_, _%_}
 use Prim.Native.String.{String, [] as empty, _∷_ as _then_}
-use mathlib.Core.Bool.{Bool, true, false, cond}
+use mathlib.Core.Bool.{true, false, cond}
 use mathlib.Core.List.{List, [], _∷_, _++_}
 use lib.Dec.{ltb}
 use Rattle.io.specs.Digits.{digits}
@@ -45,16 +45,24 @@ unfoldable pub newline : List ℕ
 newline = 0x0A ∷ []
 
 -- 'For each record: its number from 0, code (decimal), value (four hex digits, capitals), one space between, each line ended by a newline.'
+unfoldable pub lineOf : ℕ → ℕ → ℕ → List ℕ
+lineOf number code value = decimal number ++ space ++ decimal code ++ space ++ hexFour value ++ newline
+
+-- the line of an answer
 unfoldable pub recordLine : ℕ → Answer → List ℕ
-recordLine number a = decimal number ++ space ++ decimal (codeOf a) ++ space ++ hexFour (valueOf a) ++ newline
+recordLine number a = lineOf number (codeOf a) (valueOf a)
 
 unfoldable pub spaced : List ℕ → List ℕ
 spaced [] = []
 spaced (n ∷ ns) = space ++ decimal n ++ spaced ns
 
 -- 'Last comes one line: the word timing, then the fifteen numbers in table order, decimal.'
+unfoldable pub numbersLine : List ℕ → List ℕ
+numbersLine numbers = ascii "timing" ++ spaced numbers ++ newline
+
+-- the line of a timing
 unfoldable pub timingLine : Timing → List ℕ
-timingLine t = ascii "timing" ++ spaced (numbersOf t) ++ newline
+timingLine t = numbersLine (numbersOf t)
 
 -- the lines of items, from a number on
 unfoldable pub recordLines : ℕ → File → List Item → List ℕ

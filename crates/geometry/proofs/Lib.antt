@@ -1,0 +1,3 @@
+pub mod Eleven
+pub mod Signed
+pub mod Twelve

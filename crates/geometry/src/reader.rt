@@ -1,0 +1,164 @@
+// The cursor and window 2 of a sound file, and what stands for them where it is not sound.
+ghost use mathlib.Core.Path.{_≡_};
+ghost use lib.Dec.{T};
+ghost use Rattle.file.specs.Sound.{sound};
+ghost use Rattle.geometry.specs.Geometry.{cursorIn, noCursor, noWindow, readGeometry, windowIn};
+ghost use Rattle.timing.specs.Timing.{timingIn};
+use crate::Cursor;
+use crate::Geometry;
+use crate::Pixels;
+use crate::Window;
+use crate::edge::eleven;
+use crate::edge::is_empty;
+use crate::edge::less_preset;
+use crate::edge::shown;
+use crate::edge::smaller;
+use file::Answer;
+use file::File;
+use file::is_sound;
+use timing::Scanlines;
+
+// The registers that are read here, by their numbers in the table of stored bits.
+const CR6: usize = 31;
+
+const CR7: usize = 32;
+
+const CR12: usize = 43;
+
+const CR1E: usize = 54;
+
+const CC: usize = 89;
+
+const CE: usize = 90;
+
+const D0: usize = 91;
+
+const D2: usize = 92;
+
+const D4: usize = 93;
+
+const D5: usize = 94;
+
+const E0: usize = 95;
+
+const E2: usize = 96;
+
+const E4: usize = 97;
+
+const E6: usize = 98;
+
+const E8: usize = 99;
+
+// What a file's registers say of the cursor and of window 2.
+pub fn read_geometry(file: File) -> Geometry
+    ensures { λ r. ⌜ r ≡ readGeometry file ⌝ }
+{
+    if is_sound(file) {
+        Geometry {
+            answer: Answer::Done(0),
+            cursor: cursor_in(file),
+            window: window_in(file, v_total(file), v_display(file)),
+        }
+    } else {
+        Geometry {
+            answer: Answer::NotSound,
+            cursor: no_cursor(),
+            window: no_window(),
+        }
+    }
+}
+
+fn cursor_in(file: File) -> Cursor
+    requires { ⌜ T (sound file) ⌝ }
+    ensures { λ r. ⌜ r ≡ cursorIn file ⌝ }
+{
+    let across = file.registers[E4] / 256 % 128;
+    let down = file.registers[E4] % 128;
+    Cursor {
+        enabled: file.registers[E6] % 2 == 1,
+        left: less_preset(file.registers[E0], across),
+        top: less_preset(file.registers[E2], down),
+        width: shown(across),
+        height: shown(down),
+        address: (file.registers[E8] / 4 % 8192) as u32 * 1024,
+    }
+}
+
+// No cursor: the marks off, every number 0.
+fn no_cursor() -> Cursor
+    ensures { λ r. ⌜ r ≡ noCursor ⌝ }
+{
+    Cursor {
+        enabled: false,
+        left: 0,
+        top: 0,
+        width: 0,
+        height: 0,
+        address: 0,
+    }
+}
+
+// The window, given the numbers V total and V display of the file.
+fn window_in(file: File, total: u16, display: u16) -> Window
+    requires { ⌜ (total ≡ timingIn file .«v_total» .0) × (display ≡ timingIn file .«v_display» .0) ⌝ }
+    ensures { λ r. ⌜ r ≡ windowIn file ⌝ }
+{
+    let left = file.registers[CC];
+    let top = file.registers[CE];
+    let right = file.registers[D0];
+    let last = file.registers[D2];
+    let marks = file.registers[D4];
+    let bottom = smaller(last, display);
+    Window {
+        enabled: marks / 128 % 2 == 1,
+        video: marks / 64 % 2 == 1,
+        left: Pixels(left),
+        top: Scanlines(top),
+        right: Pixels(right),
+        bottom: Scanlines(bottom),
+        empty: is_empty(left, top, right, bottom),
+        fault: total < last,
+        start: Scanlines(64 * (marks % 64)),
+        stop: Scanlines(64 * (file.registers[D5] % 64)),
+    }
+}
+
+// The number V total.
+fn v_total(file: File) -> u16
+    ensures { λ r. ⌜ r ≡ timingIn file .«v_total» .0 ⌝ }
+{
+    let cr7 = file.registers[CR7];
+    eleven(file.registers[CR1E] / 8, cr7 / 32, cr7, file.registers[CR6]) + 2
+}
+
+// The number V display.
+fn v_display(file: File) -> u16
+    ensures { λ r. ⌜ r ≡ timingIn file .«v_display» .0 ⌝ }
+{
+    let cr7 = file.registers[CR7];
+    eleven(
+        file.registers[CR1E] / 4,
+        cr7 / 64,
+        cr7 / 2,
+        file.registers[CR12],
+    )
+        + 1
+}
+
+// No window: the marks off, every number 0, empty.
+fn no_window() -> Window
+    ensures { λ r. ⌜ r ≡ noWindow ⌝ }
+{
+    Window {
+        enabled: false,
+        video: false,
+        left: Pixels(0),
+        top: Scanlines(0),
+        right: Pixels(0),
+        bottom: Scanlines(0),
+        empty: true,
+        fault: false,
+        start: Scanlines(0),
+        stop: Scanlines(0),
+    }
+}

@@ -1,0 +1,5 @@
+pub mod Places
+pub mod Stores
+pub mod Spelled
+pub mod Lines
+pub mod Spaced

@@ -1,0 +1,113 @@
+// The timing line: a word, and the fifteen numbers behind it.
+ghost use mathlib.Core.Path.{_≡_};
+ghost use mathlib.Core.List.{_++_};
+ghost use Prim.Native.Nat.{_+_, _≤_};
+ghost use lib.ListN.{length};
+ghost use Rattle.text.specs.Lent.{Wrote, placed, behind};
+ghost use Rattle.text.specs.Text.{decimal, decimalPlaces, numbersLine, space, spaced, timingLine};
+ghost use Rattle.timing.specs.Timing.{numbersOf};
+use crate::number::byte;
+use crate::number::places;
+use crate::number::spell;
+use timing::Timing;
+
+// The word timing and the fifteen numbers, from a place of the buffer on, and the place behind the line; nothing is stored where there is no room.
+pub fn timing_line(buffer: &mut [u8], at: usize, timing: Timing) -> usize
+    ensures { λ r. ⌜ now (buffer .exit) ≡ placed (now (buffer .entry)) at (timingLine timing) ⌝ }
+    ensures { λ r. ⌜ r ≡ behind (now (buffer .entry)) at (timingLine timing) ⌝ }
+{
+    let numbers = in_order(timing);
+    numbers_line(buffer, at, &numbers)
+}
+
+// The line of fifteen numbers.
+fn numbers_line(buffer: &mut [u8], at: usize, numbers: &[u32; 15]) -> usize
+    requires { ⌜ length (now numbers) ≡ 15 ⌝ }
+    ensures { λ r. ⌜ now (buffer .exit) ≡ placed (now (buffer .entry)) at (numbersLine (now (numbers .entry))) ⌝ }
+    ensures { λ r. ⌜ r ≡ behind (now (buffer .entry)) at (numbersLine (now (numbers .entry))) ⌝ }
+{
+    let size = 7 + spaced_size(numbers);
+    if buffer.len() < size {
+        return at;
+    }
+    if buffer.len() - size < at {
+        return at;
+    }
+    let at = copy(b"timing", buffer, at);
+    let at = spell_each(numbers, buffer, at);
+    byte(b'\n', buffer, at)
+}
+
+// The numbers of a timing, in table order.
+fn in_order(t: Timing) -> [u32; 15]
+    ensures { λ r. ⌜ r ≡ numbersOf t ⌝ }
+{
+    [
+        t.h_total.0 as u32,
+        t.h_display.0 as u32,
+        t.h_blank_start.0 as u32,
+        t.h_blank_end.0 as u32,
+        t.h_sync_start.0 as u32,
+        t.h_sync_end.0 as u32,
+        t.v_total.0 as u32,
+        t.v_display.0 as u32,
+        t.v_blank_start.0 as u32,
+        t.v_blank_end.0 as u32,
+        t.v_sync_start.0 as u32,
+        t.v_sync_end.0 as u32,
+        t.line_compare.0 as u32,
+        t.offset as u32,
+        t.screen_start,
+    ]
+}
+
+// How many bytes the numbers take, each behind a space.
+fn spaced_size(numbers: &[u32; 15]) -> usize
+    requires { ⌜ length (now numbers) ≡ 15 ⌝ }
+    ensures { λ r. ⌜ (r ≡ length (spaced (now (numbers .entry)))) × (r ≤ 315) ⌝ }
+{
+    let mut size = 0;
+    for i in 0..15 {
+        size += 1 + places(wide(numbers[i]));
+    }
+    size
+}
+
+// The numbers, each behind a space, from a place on; the place behind them.
+fn spell_each(numbers: &[u32; 15], buffer: &mut [u8], at: usize) -> usize
+    requires { ⌜ length (now numbers) ≡ 15 ⌝ }
+    requires { ⌜ at + length (spaced (now numbers)) ≤ length (now buffer) ⌝ }
+    ensures { λ r. ⌜ Wrote (now (buffer .entry)) at (spaced (now (numbers .entry))) (now (buffer .exit)) r ⌝ }
+{
+    let mut at = at;
+    for i in 0..15 {
+        at = spell_behind(wide(numbers[i]), buffer, at);
+    }
+    at
+}
+
+// A space and a number behind it, from a place on; the place behind them.
+fn spell_behind(n: u64, buffer: &mut [u8], at: usize) -> usize
+    requires { ⌜ at + 1 + decimalPlaces n n ≤ length (now buffer) ⌝ }
+    ensures { λ r. ⌜ Wrote (now (buffer .entry)) at (space ++ decimal n) (now (buffer .exit)) r ⌝ }
+{
+    let at = byte(b' ', buffer, at);
+    spell(n, places(n), buffer, at)
+}
+
+fn wide(n: u32) -> u64
+    ensures { λ r. ⌜ r ≡ n ⌝ }
+{
+    n as u64
+}
+
+// A text from a place on; the place behind it.
+fn copy(text: &[u8], buffer: &mut [u8], at: usize) -> usize
+    requires { ⌜ at + length (now text) ≤ length (now buffer) ⌝ }
+    ensures { λ r. ⌜ Wrote (now (buffer .entry)) at (now (text .entry)) (now (buffer .exit)) r ⌝ }
+{
+    for i in 0..text.len() {
+        buffer[at + i] = text[i];
+    }
+    at + text.len()
+}
