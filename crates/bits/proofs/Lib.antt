@@ -1,4 +1,6 @@
 pub mod Bit
+pub mod Shift
 pub mod Stored
 pub mod Test
 pub mod Ends
+pub mod Piece
