@@ -4,3 +4,4 @@ pub mod Stored
 pub mod Test
 pub mod Ends
 pub mod Piece
+pub mod Split

@@ -62,6 +62,13 @@ pub put-length : (p : Piece) (n : ℕ) (registers : List ℕ) → length (put p 
 unfolding put
 put-length p n registers = simp length-set
 
+-- it takes no more of a number than the piece has bits
+pub put-low : (p : Piece) (n : ℕ) (registers : List ℕ) → put p (n % 2 ^ p .width) registers ≡ put p n registers
+unfolding put
+put-low p n registers =
+    ap (λ (x : ℕ). set registers (p .register) (store (pieceReach p) (getD registers (p .register) 0) (x * 2 ^ p .low)))
+    (mod-mod n (2 ^ p .width))
+
 -- it leaves every bit outside the piece's reach
 pub put-outside : (p : Piece) (n : ℕ) (registers : List ℕ) (r i : ℕ) → (r ≡ p .register → bit i (pieceReach p) ≡ 0)
     → bit i (getD (put p n registers) r 0) ≡ bit i (getD registers r 0)
