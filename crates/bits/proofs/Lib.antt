@@ -5,3 +5,4 @@ pub mod Test
 pub mod Ends
 pub mod Piece
 pub mod Split
+pub mod Tables

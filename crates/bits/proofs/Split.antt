@@ -71,7 +71,7 @@ reach-bit p ps r i = by-choice (eqb r (p .register))
     by-choice true = bit-or i (pieceReach p) (reachIn ps r)
     by-choice false = omega arith
 
-reach-append : (ps qs : List Piece) (r i : ℕ) → bit i (reachIn (ps ++ qs) r) ≡ max (bit i (reachIn ps r)) (bit i (reachIn qs r))
+pub reach-append : (ps qs : List Piece) (r i : ℕ) → bit i (reachIn (ps ++ qs) r) ≡ max (bit i (reachIn ps r)) (bit i (reachIn qs r))
 reach-append [] qs r i = omega (arith, reach-none r i)
 reach-append (p ∷ ps) qs r i = omega (arith, reach-bit p (ps ++ qs) r i, reach-bit p ps r i, reach-append ps qs r i)
 
