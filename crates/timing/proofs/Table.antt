@@ -1,0 +1,67 @@
+-- 01's table of timing numbers, wide and narrow: each rule of it that the proofs use is one computed test.
+-- Assumes nothing.
+use Prim.Native.Nat.{ℕ}
+use mathlib.Core.Path.{_≡_, refl}
+use mathlib.Core.Bool.{Bool, true, false, _&&_}
+use mathlib.Core.List.{List, [], _∷_}
+use lib.Bits.{bitAnd}
+use lib.Dec.{T, eqb}
+use Rattle.bits.specs.Numbers.{Number}
+use Rattle.bits.specs.Pieces.{Piece, pieceReach}
+use Rattle.bits.specs.Store.{store, within}
+use Rattle.bits.proofs.Split.{reachIn, disjoint, placed}
+use Rattle.bits.proofs.Tables.{piecesOf, tableReach, fitting}
+use Rattle.file.specs.Names.{CR3, CR5, CR9, CR11, CR1A, CR1B}
+use Rattle.file.specs.Registers.{storedBits, storedTable, registers, singles, sequencer, crtc, graphics, attribute, pipeline}
+use Rattle.timing.specs.Table.{table}
+
+-- the pieces lie in the file's registers and are disjoint
+pub table-fits : (w : Bool) → T (fitting 100 (table w))
+unfolding fitting disjoint placed piecesOf reachIn pieceReach table
+table-fits true = tt
+table-fits false = tt
+
+-- each piece lies in stored bits
+unfoldable pub storable : List Piece → Bool
+storable [] = true
+storable (p ∷ ps) = within (storedBits (p .register)) (pieceReach p) && storable ps
+
+pub table-stored : (w : Bool) → T (storable (piecesOf (table w)))
+unfolding storable piecesOf pieceReach table within store storedBits storedTable registers singles sequencer crtc graphics attribute pipeline
+table-stored true = tt
+table-stored false = tt
+
+-- bits of the table's registers that belong to no number
+pub record Free : Type 0 where
+  pub register : ℕ
+  pub bits : ℕ
+
+unfoldable pub free : List Free
+free =
+    record { register = CR1A; bits = 0x0F }
+    ∷ record { register = CR1B; bits = 0xE2 }
+    ∷ record { register = CR3; bits = 0xE0 }
+    ∷ record { register = CR5; bits = 0x60 }
+    ∷ record { register = CR9; bits = 0x9F }
+    ∷ record { register = CR11; bits = 0xF0 }
+    ∷ []
+
+unfoldable pub spares : List Number → List Free → Bool
+spares table [] = true
+spares table (x ∷ xs) = eqb (bitAnd (tableReach table (x .register)) (x .bits)) 0 && spares table xs
+
+pub table-spares : (w : Bool) → T (spares (table w) free)
+unfolding spares free tableReach piecesOf reachIn pieceReach table
+table-spares true = tt
+table-spares false = tt
+
+-- 'otherwise .. CR1A[7:4] isn't touched': the narrow table has no piece there
+pub narrow-reach : tableReach (table false) CR1A ≡ 0
+unfolding tableReach piecesOf reachIn pieceReach table
+narrow-reach = refl
+
+-- 'The writer never changes CR1B[5] or CR1B[7]'
+pub wide-reach : (w : Bool) → tableReach (table w) CR1B ≡ 0x1D
+unfolding tableReach piecesOf reachIn pieceReach table
+wide-reach true = refl
+wide-reach false = refl
