@@ -1,11 +1,13 @@
 -- Soundness is kept: by a store within the stored bits, by every step of the pointer, and so by an effect made of these.
 -- Assumes nothing.
-use Prim.Native.Nat.{ℕ, zero, suc}
-use mathlib.Core.Path.{_≡_, refl, sym, subst}
+use Prim.Native.Nat.{ℕ, zero, suc, _+_, _<_}
+use mathlib.Core.Path.{_≡_, refl, sym, ap, ap₂, _∙_, subst}
 use mathlib.Core.Bool.{Bool, true, false, _&&_}
 use mathlib.Core.List.{List, [], _∷_}
+use native.Mathlib.Numerals.{add-one}
 use lib.Dec.{T, eqb}
-use lib.ListN.{getD, set}
+use lib.ListN.{getD, set, drop, length}
+use lib.Seq.{drop-cons}
 use Rattle.bits.specs.Store.{store, within}
 use Rattle.bits.proofs.Stored.{store-within}
 use Rattle.bits.proofs.Test.{left, right, both}
@@ -28,6 +30,15 @@ at [] (value ∷ values) number t = absurd t
 at (stored ∷ table) [] number t = absurd t
 at (stored ∷ table) (value ∷ values) zero t = left (within stored value) (allWithin table values) t
 at (stored ∷ table) (value ∷ values) (suc number) t = at table values number (right (within stored value) (allWithin table values) t)
+
+-- the registers from one on are within their rows if that one is and those behind it are
+pub from : (table values : List ℕ) (number : ℕ) → number < length table → number < length values
+    → allWithin (drop number table) (drop number values)
+    ≡ (within (getD table number 0) (getD values number 0) && allWithin (drop (number + 1) table) (drop (number + 1) values))
+unfolding allWithin
+from table values number t v =
+    ap₂ allWithin (drop-cons table number 0 t) (drop-cons values number 0 v)
+    ∙ ap (λ (n : ℕ). within (getD table number 0) (getD values number 0) && allWithin (drop n table) (drop n values)) (sym (add-one number))
 
 -- and may take another value that is
 set-within : (table values : List ℕ) (number new : ℕ)

@@ -3,6 +3,7 @@ mod answer;
 mod effect;
 mod palette;
 mod registers;
+mod sound;
 
 pub use answer::Answer;
 pub use effect::Effect;
@@ -10,3 +11,4 @@ pub use effect::Reach;
 pub use palette::Colour;
 pub use palette::Pointer;
 pub use registers::File;
+pub use sound::is_sound;

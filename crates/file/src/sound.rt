@@ -1,0 +1,39 @@
+ghost use mathlib.Core.Path.{_≡_};
+ghost use Rattle.file.specs.Palette.{pointerSound};
+ghost use Rattle.file.specs.Sound.{sound};
+use crate::palette::Pointer;
+use crate::registers::File;
+
+// No bit outside the table is set, and the pointer is one that its steps can reach.
+pub fn is_sound(file: File) -> bool
+    ensures { λ r. ⌜ r ≡ sound file ⌝ }
+{
+    let mut i = 0;
+    while i < 100 {
+        if !bits::within(File::STORED[i], file.registers[i]) {
+            return false;
+        }
+        i += 1;
+    }
+    pointer_sound(file.pointer)
+}
+
+// The next colour is 0 to 2, green is held before blue only, and red after red only.
+fn pointer_sound(pointer: Pointer) -> bool
+    ensures { λ r. ⌜ r ≡ pointerSound pointer ⌝ }
+{
+    let next = pointer.next;
+    if 2 < next {
+        return false;
+    }
+    if 2 <= next {
+        return true;
+    }
+    if pointer.green != 0 {
+        return false;
+    }
+    if 1 <= next {
+        return true;
+    }
+    pointer.red == 0
+}
