@@ -6,3 +6,4 @@ pub mod Ends
 pub mod Piece
 pub mod Split
 pub mod Tables
+pub mod Encoded

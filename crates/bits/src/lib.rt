@@ -1,4 +1,9 @@
 // Bits of numbers: the store rule and the pieces of split fields. Nothing here knows a card.
+mod pieces;
+
+pub use pieces::gather;
+pub use pieces::scatter;
+pub use pieces::width;
 ghost use mathlib.Core.Path.{_≡_};
 ghost use Rattle.bits.specs.Store.{store as storeBits, within as withinBits};
 
