@@ -49,10 +49,13 @@ value-whole n number =
 pub ones-whole : (n : ℕ) → (1 * 2 ^ pieceOf n .width) % 2 ^ 32 ≡ 2 ^ pieceOf n .width
 ones-whole n = shl-exact 1 (pieceOf n .width) 32 (lit< tt) (omega (arith, in-register n)) ∙ one-mul (2 ^ pieceOf n .width)
 
--- the pieces from one on: that one, and those behind it
-pub next-piece : (pieces : List ℕ) (k : ℕ) → k < length pieces
+-- a list from one element on: that one, and those behind it
+pub from-next : (list : List ℕ) (k : ℕ) → k < length list → drop k list ≡ getD list k 0 ∷ drop (k + 1) list
+from-next list k h = drop-cons list k 0 h ∙ ap (λ (n : ℕ). getD list k 0 ∷ drop n list) (sym (add-one k))
+
+next-piece : (pieces : List ℕ) (k : ℕ) → k < length pieces
     → map pieceOf (drop k pieces) ≡ pieceOf (getD pieces k 0) ∷ map pieceOf (drop (k + 1) pieces)
-next-piece pieces k h = ap (map pieceOf) (drop-cons pieces k 0 h ∙ ap (λ (n : ℕ). getD pieces k 0 ∷ drop n pieces) (sym (add-one k)))
+next-piece pieces k h = ap (map pieceOf) (from-next pieces k h)
 
 -- a product and a sum modulo m see no more of a number than its low part
 mod-linear : (a b c m : ℕ) → (a % m * b + c) % m ≡ (a * b + c) % m

@@ -7,3 +7,4 @@ pub mod Piece
 pub mod Split
 pub mod Tables
 pub mod Encoded
+pub mod Bounded
