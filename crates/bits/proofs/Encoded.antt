@@ -2,16 +2,18 @@
 use mathlib.Core.List.{List, [], _∷_, map}
 use Prim.Native.Nat.{ℕ, _+_, _-_, _*_, _/_, _%_, _^_, _≤_, _<_, min}
 use mathlib.Core.Path.{_≡_, sym, ap, ap₂, _∙_}
+use mathlib.Core.Bool.{Bool, cond}
 use native.Mathlib.Nat.{lt-of-lt-of-le, mod-lt, one-mul, mul-assoc, mul-comm, add-mul, mod-add-mod, add-mul-mod-self-right, div-add-mod', zero-div, zero-mod, zero-mul, mod-eq-of-lt, div-eq-of-lt}
 use native.Mathlib.Numerals.{add-one}
 use native.Mathlib.Omega.{arith}
-use borrow.Author.Tests.{leb-true, leb-false}
+use borrow.Author.Tests.{leb-true, leb-false, eq-eqb, ne-eqb}
 use lib.Bits.{bitAnd, and-mask}
 use lib.Dec.{leb, lit<}
 use lib.ListN.{getD, set, drop, length, List·getD-eq-default, drop-of-length-le}
 use lib.Pow.{pow-pos, ones-lt, pow-mono, pow-add, shl-lt, shl-exact}
 use lib.Seq.{drop-cons, set-out}
-use Rattle.bits.specs.Encoded.{pieceOf}
+use Rattle.bits.specs.Encoded.{pieceOf, meaningOf, rowOf, tableOf}
+use Rattle.bits.specs.Numbers.{plus, endOfLast}
 use Rattle.bits.specs.Pieces.{Piece, width, held, gather, pieceReach, put, scatter}
 use Rattle.bits.specs.Store.{store}
 use Rattle.bits.proofs.Test.{by-test}
@@ -166,3 +168,21 @@ pub scatter-last : (pieces registers : List ℕ) (number k : ℕ) → length pie
     → scatter (map pieceOf (drop k pieces)) number registers ≡ registers
 unfolding scatter
 scatter-last pieces registers number k h = ap (λ (ps : List Piece). scatter ps number registers) (none-left pieces k h)
+
+pub meaning-end : (k : ℕ) → k ≡ 15 → meaningOf k ≡ endOfLast
+unfolding meaningOf
+meaning-end k e = ap (λ (b : Bool). cond b endOfLast (plus k)) (eq-eqb k 15 e)
+
+pub meaning-plus : (k : ℕ) → (k ≡ 15 → ⊥) → meaningOf k ≡ plus k
+unfolding meaningOf
+meaning-plus k n = ap (λ (b : Bool). cond b endOfLast (plus k)) (ne-eqb k 15 n)
+
+-- the rows from one on: that one, and those behind it
+pub next-row : (rows pieces : List ℕ) (k : ℕ) → k < length rows
+    → tableOf (drop k rows) pieces ≡ rowOf pieces (getD rows k 0) ∷ tableOf (drop (k + 1) rows) pieces
+unfolding tableOf
+next-row rows pieces k h = ap (map (rowOf pieces)) (from-next rows k h)
+
+pub no-row : (rows pieces : List ℕ) (k : ℕ) → length rows ≤ k → tableOf (drop k rows) pieces ≡ []
+unfolding tableOf
+no-row rows pieces k h = ap (map (rowOf pieces)) (drop-of-length-le rows h)

@@ -1,4 +1,6 @@
 // The fifteen timing numbers of a register file, in two units that cannot be mixed up.
+mod numbers;
+
 use file::Answer;
 use file::File;
 
