@@ -17,7 +17,7 @@ use Rattle.file.specs.File.{register, withRegisters}
 use Rattle.file.specs.Registers.{storedBits}
 use Rattle.file.specs.Sound.{sound}
 use Rattle.file.proofs.Soundness.{apply-sound, keeps}
-use Rattle.timing.proofs.Table.{storable}
+use Rattle.timing.proofs.Computed.{storable}
 
 storable-left : (ps qs : List Piece) → T (storable (ps ++ qs)) → T (storable ps)
 unfolding storable

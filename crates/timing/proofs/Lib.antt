@@ -1,5 +1,5 @@
 pub mod Part
 pub mod Rows
-pub mod Table
+pub mod Computed
 pub mod Kept
 pub mod Writer

@@ -28,7 +28,7 @@ use Rattle.timing.specs.declared.Written.{Written}
 use Rattle.timing.specs.Table.{table, wide}
 use Rattle.timing.specs.Timing.{timingOf, numbersOf, timingIn, readTiming, withTiming, timingAnswer, writtenFile, writeTiming}
 use Rattle.timing.proofs.Kept.{written-sound}
-use Rattle.timing.proofs.Table.{table-fits, table-stored, narrow-reach, wide-reach}
+use Rattle.timing.proofs.Computed.{table-fits, table-stored, narrow-reach, wide-reach}
 
 -- the three tests that an accepted timing passes
 pub record Passes (f : File) (t : Timing) : Type 0 where

@@ -1,13 +1,14 @@
 -- 01's table of timing numbers, wide and narrow: each rule of it that the proofs use is one computed test.
 -- Assumes nothing.
-use Prim.Native.Nat.{ℕ}
+use Prim.Native.Nat.{ℕ, _^_}
 use mathlib.Core.Path.{_≡_, refl}
 use mathlib.Core.Bool.{Bool, true, false, _&&_}
 use mathlib.Core.List.{List, [], _∷_}
 use lib.Bits.{bitAnd}
 use lib.Dec.{T, eqb}
+use Rattle.bits.specs.Encoded.{most, bounded}
 use Rattle.bits.specs.Numbers.{Number}
-use Rattle.bits.specs.Pieces.{Piece, pieceReach}
+use Rattle.bits.specs.Pieces.{Piece, width, pieceReach}
 use Rattle.bits.specs.Store.{store, within}
 use Rattle.bits.proofs.Split.{reachIn, disjoint, placed}
 use Rattle.bits.proofs.Tables.{piecesOf, tableReach, fitting}
@@ -20,6 +21,12 @@ pub table-fits : (w : Bool) → T (fitting 100 (table w))
 unfolding fitting disjoint placed piecesOf reachIn pieceReach table
 table-fits true = tt
 table-fits false = tt
+
+-- its numbers stay below 2^31
+pub table-bounded : (w : Bool) → T (bounded (2 ^ 31) 0 (table w))
+unfolding bounded most width table
+table-bounded true = tt
+table-bounded false = tt
 
 -- each piece lies in stored bits
 unfoldable pub storable : List Piece → Bool
