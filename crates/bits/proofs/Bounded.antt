@@ -1,16 +1,16 @@
 -- A table whose numbers stay below 2^31: what code needs to count in 32 bits. Assumes nothing.
-use Prim.Native.Nat.{ℕ, _+_, _-_, _%_, _^_, _≤_, _<_}
-use mathlib.Core.Path.{_≡_, ap, _∙_}
+use Prim.Native.Nat.{ℕ, zero, suc, _+_, _-_, _%_, _^_, _≤_, _<_}
+use mathlib.Core.Path.{_≡_, refl, ap}
 use mathlib.Core.Bool.{Bool, true, false, _&&_}
 use mathlib.Core.List.{List, [], _∷_}
-use native.Mathlib.Nat.{le-refl, lt-of-lt-of-le, lt-of-le-of-lt, le-of-lt, mod-eq-of-lt}
+use native.Mathlib.Nat.{le-refl, lt-of-le-of-lt, le-of-lt, le-of-suc-le-suc, not-suc-le-zero}
 use native.Mathlib.Omega.{arith}
 use borrow.Author.Tests.{ltb-true, ltb-false}
 use lib.Dec.{T, leb, ltb, ltb→lt, lt→ltb, leb→le}
-use lib.ListN.{getD}
+use lib.ListN.{length, getD, take}
 use lib.Pow.{pow-mono}
 use Rattle.bits.specs.Encoded.{most, bounded}
-use Rattle.bits.specs.Numbers.{Meaning, plus, endOfLast, Number, endAfter, meant, inRange}
+use Rattle.bits.specs.Numbers.{Meaning, plus, endOfLast, Number, endAfter, meant, inRange, readFrom}
 use Rattle.bits.specs.Pieces.{width, gather}
 use Rattle.bits.proofs.Ends.{end-most}
 use Rattle.bits.proofs.Split.{gather-lt}
@@ -75,3 +75,28 @@ pub width-below : (m : Meaning) (n last : ℕ) → most m n last < 2 ^ 31 → n 
 width-below m n last h =
     by-test (ltb n 31) (λ t. ltb-true n 31 t)
     (λ t. absurd (omega (arith, h, power-most m n last, pow-mono {i = 31} {j = n} (ltb-false n 31 t))))
+
+-- every number that is read is below the bound
+pub read-below : (bound last : ℕ) (table : List Number) (registers : List ℕ) → T (bounded bound last table)
+    → (k : ℕ) → k < length table → getD (readFrom last table registers) k 0 < bound
+unfolding readFrom
+read-below bound last [] registers t k h = absurd (not-suc-le-zero h)
+read-below bound last (n ∷ ns) registers t zero h =
+    lt-of-le-of-lt
+    (meant-most (n .meaning) (width (n .pieces)) last (gather registers (n .pieces)) (gather-lt (n .pieces) registers))
+    (bounded-first bound last n ns t)
+read-below bound last (n ∷ ns) registers t (suc k) h =
+    read-below bound (meant (n .meaning) (width (n .pieces)) last (gather registers (n .pieces))) ns registers
+    (bounded-rest bound last (meant (n .meaning) (width (n .pieces)) last (gather registers (n .pieces))) n ns
+    (meant-most (n .meaning) (width (n .pieces)) last (gather registers (n .pieces)) (gather-lt (n .pieces) registers)) t)
+    k (le-of-suc-le-suc h)
+
+-- the first rows read the first numbers
+pub read-first : (last : ℕ) (table : List Number) (registers : List ℕ) (j : ℕ)
+    → readFrom last (take j table) registers ≡ take j (readFrom last table registers)
+unfolding readFrom
+read-first last table registers zero = refl
+read-first last [] registers (suc j) = refl
+read-first last (n ∷ ns) registers (suc j) =
+    ap (λ (xs : List ℕ). meant (n .meaning) (width (n .pieces)) last (gather registers (n .pieces)) ∷ xs)
+    (read-first (meant (n .meaning) (width (n .pieces)) last (gather registers (n .pieces))) ns registers j)

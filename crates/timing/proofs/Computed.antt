@@ -1,15 +1,19 @@
 -- 01's table of timing numbers, wide and narrow: each rule of it that the proofs use is one computed test.
 -- Assumes nothing.
-use Prim.Native.Nat.{ℕ, _^_}
-use mathlib.Core.Path.{_≡_, refl}
+use Prim.Native.Nat.{ℕ, _^_, _<_}
+use mathlib.Core.Path.{_≡_, refl, ap, _∙_, subst}
 use mathlib.Core.Bool.{Bool, true, false, _&&_}
 use mathlib.Core.List.{List, [], _∷_}
+use native.Mathlib.Omega.{arith}
 use lib.Bits.{bitAnd}
 use lib.Dec.{T, eqb}
+use lib.ListN.{length, getD, take}
+use lib.Seq.{getD-take}
 use Rattle.bits.specs.Encoded.{most, bounded}
-use Rattle.bits.specs.Numbers.{Number}
+use Rattle.bits.specs.Numbers.{Number, readFrom, readNumbers}
 use Rattle.bits.specs.Pieces.{Piece, width, pieceReach}
 use Rattle.bits.specs.Store.{store, within}
+use Rattle.bits.proofs.Bounded.{read-below, read-first}
 use Rattle.bits.proofs.Split.{reachIn, disjoint, placed}
 use Rattle.bits.proofs.Tables.{piecesOf, tableReach, fitting}
 use Rattle.file.specs.Names.{CR3, CR5, CR9, CR11, CR1A, CR1B}
@@ -27,6 +31,24 @@ pub table-bounded : (w : Bool) → T (bounded (2 ^ 31) 0 (table w))
 unfolding bounded most width table
 table-bounded true = tt
 table-bounded false = tt
+
+-- all but the last, the screen start, below 2^16
+first-bounded : (w : Bool) → T (bounded (2 ^ 16) 0 (take 14 (table w)))
+unfolding bounded most width table
+first-bounded true = tt
+first-bounded false = tt
+
+first-count : (w : Bool) → length (take 14 (table w)) ≡ 14
+unfolding table
+first-count true = refl
+first-count false = refl
+
+pub numbers-below : (w : Bool) (registers : List ℕ) (k : ℕ) → k < 14 → getD (readNumbers (table w) registers) k 0 < 2 ^ 16
+unfolding readNumbers
+numbers-below w registers k h =
+    subst (λ (x : ℕ). x < 2 ^ 16)
+    (ap (λ (l : List ℕ). getD l k 0) (read-first 0 (table w) registers 14) ∙ getD-take 14 (readFrom 0 (table w) registers) k 0 h)
+    (read-below (2 ^ 16) 0 (take 14 (table w)) registers (first-bounded w) k (omega (arith, first-count w)))
 
 -- each piece lies in stored bits
 unfoldable pub storable : List Piece → Bool
