@@ -5,7 +5,8 @@ pub use pieces::gather;
 pub use pieces::scatter;
 pub use pieces::width;
 ghost use mathlib.Core.Path.{_≡_};
-ghost use Rattle.bits.specs.Store.{store as storeBits, within as withinBits};
+ghost use Rattle.bits.specs.Store.{store as storeBits};
+ghost use lib.Bits.{bitXor};
 
 // The old bits outside the reach, the value's inside it.
 pub fn store(reach: u16, old: u16, value: u16) -> u16
@@ -14,9 +15,9 @@ pub fn store(reach: u16, old: u16, value: u16) -> u16
     old ^ ((old ^ value) & reach)
 }
 
-// No bit of the value is set outside the stored ones.
-pub fn within(stored: u16, value: u16) -> bool
-    ensures { λ r. ⌜ r ≡ withinBits stored value ⌝ }
+// The bits of a value that are not stored.
+pub fn stray(stored: u16, value: u16) -> u16
+    ensures { λ r. ⌜ r ≡ bitXor value (storeBits stored 0 value) ⌝ }
 {
-    store(stored, 0, value) == value
+    value ^ store(stored, 0, value)
 }

@@ -8,14 +8,18 @@ use crate::registers::File;
 pub fn is_sound(file: File) -> bool
     ensures { λ r. ⌜ r ≡ sound file ⌝ }
 {
+    let stored = File::STORED;
+    let mut stray: u16 = 0;
     let mut i = 0;
     while i < 100 {
-        if !bits::within(File::STORED[i], file.registers[i]) {
-            return false;
-        }
+        stray = stray | bits::stray(stored[i], file.registers[i]);
         i += 1;
     }
-    pointer_sound(file.pointer)
+    if stray == 0 {
+        pointer_sound(file.pointer)
+    } else {
+        false
+    }
 }
 
 // The next colour is 0 to 2, green is held before blue only, and red after red only.
