@@ -40,8 +40,10 @@ fn held(registers: &[u16], piece: u16) -> u32
     ensures { λ r. ⌜ r ≡ heldBits (now (registers .entry)) (pieceOf piece) ⌝ }
 {
     let register = (piece / 256) as usize;
+    let low = piece_low(piece);
+    let mask = piece_mask(piece);
     if register < registers.len() {
-        (wide(registers[register]) >> piece_low(piece)) & piece_mask(piece)
+        (wide(registers[register]) >> low) & mask
     } else {
         0
     }

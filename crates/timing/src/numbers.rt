@@ -3,7 +3,9 @@ ghost use mathlib.Core.Path.{_≡_};
 ghost use Prim.Native.Nat.{_+_, _/_, _%_, _^_, _<_, min};
 ghost use lib.Dec.{T};
 ghost use lib.ListN.{length, take, drop};
-ghost use Rattle.bits.specs.Encoded.{meaningOf, tableOf, most, bounded};
+ghost use Rattle.bits.specs.Encoded.{pieceOf, meaningOf, tableOf, most, bounded};
+ghost use Rattle.bits.specs.Pieces.{width as widthOf};
+ghost use mathlib.Core.List.{map};
 ghost use Rattle.bits.specs.Numbers.{endAfter, meant as meantBy, storedFor, inRange, readNumbers, allInRange, writeNumbers};
 
 fn clip(at: usize, end: usize) -> usize
@@ -44,13 +46,13 @@ fn end_after(start: u32, n: u32, low: u32) -> u32
     next + low_bits(low + power(n) - low_bits(next, n), n)
 }
 
-// The number that stored bits mean, after the last one.
-fn meant(meaning: u16, n: u32, last: u32, stored: u32) -> u32
-    requires { ⌜ (most (meaningOf meaning) n last < 2 ^ 31) × (stored < 2 ^ n) ⌝ }
-    ensures { λ r. ⌜ r ≡ meantBy (meaningOf meaning) n last stored ⌝ }
+// The number that stored bits of a row's pieces mean, after the last one. Only an end asks for their width.
+fn meant(meaning: u16, part: &[u16], last: u32, stored: u32) -> u32
+    requires { ⌜ (most (meaningOf meaning) (min 32 (widthOf (map pieceOf (now part)))) last < 2 ^ 31) × (stored < 2 ^ min 32 (widthOf (map pieceOf (now part)))) ⌝ }
+    ensures { λ r. ⌜ r ≡ meantBy (meaningOf meaning) (min 32 (widthOf (map pieceOf (now (part .entry))))) last stored ⌝ }
 {
     if meaning == 15 {
-        end_after(last, n, stored)
+        end_after(last, bits::width(part, 0), stored)
     } else {
         stored + meaning as u32
     }
@@ -96,7 +98,7 @@ pub fn read_numbers(registers: &[u16], rows: &[u16], pieces: &[u16], numbers: &m
         let row = rows[k];
         let part = row_pieces(pieces, row);
         let stored = bits::gather(registers, part);
-        last = meant(row / 16 % 16, bits::width(part, 0), last, stored);
+        last = meant(row / 16 % 16, part, last, stored);
         numbers[k] = last;
         k += 1;
     }

@@ -1,6 +1,6 @@
 -- `timing::numbers::read_numbers` meets its contract. Invariant: what is read so far, with what the rows from k on read, is the whole. Assumes nothing.
-use Prim.Native.Nat.{ℕ, _-_, _^_}
-use mathlib.Core.List.{_++_}
+use Prim.Native.Nat.{ℕ, _-_, _^_, min}
+use mathlib.Core.List.{_++_, map}
 use lib.ListN.{length-set}
 use Rattle.bits.specs.Numbers.{readFrom, readNumbers}
 use Rattle.timing.proofs.Rows.{row-most, row-below, number-most, bounded-after, read-next, read-last}
@@ -10,7 +10,8 @@ use borrow.Author.Needs.{needs}
 use denote.Ref.{now}
 use lib.Dec.{T}
 use lib.ListN.{length, take, drop}
-use Rattle.bits.specs.Encoded.{tableOf, bounded}
+use Rattle.bits.specs.Encoded.{pieceOf, tableOf, bounded}
+use Rattle.bits.specs.Pieces.{width}
 use Rattle.timing.proofs.numbers.read_numbers.Statement.{statement}
 use Rattle.timing.proofs.numbers.read_numbers.Tie as tie
 
@@ -39,13 +40,10 @@ row-pieces-requires c κs = search needs
 gather-requires : tie.Need-gather-requires Inv-loop μ-loop
 gather-requires c κs = search needs
 
-width-requires : tie.Need-width-requires Inv-loop μ-loop
-width-requires c κs = search needs
-
 meant-requires : tie.Need-meant-requires Inv-loop μ-loop
 meant-requires c κs = (
-  row-most (now (c .before .before .before .before .before .before .before .before .before .before .args .rows)) (now (c .before .before .before .before .before .before .before .before .before .before .args .pieces)) (c .before .before .before .before .before .loop .k) (c .before .before .before .before .before .loop .last) (c .width .result) (now (c .before .before .row-pieces .result)) (c .before .before .before .before .loop-test .taken) (c .before .before .before .before .before .loop .inv .1) (c .before .before .row-pieces .ensures) (c .width .ensures),
-  row-below (now (c .before .before .before .before .before .before .before .before .before .before .args .rows)) (now (c .before .before .before .before .before .before .before .before .before .before .args .pieces)) (c .before .before .before .before .before .loop .k) (c .before .before .before .before .before .loop .last) (c .width .result) (now (c .before .before .row-pieces .result)) (c .before .before .before .before .loop-test .taken) (c .before .before .before .before .before .loop .inv .1) (c .before .before .row-pieces .ensures) (c .width .ensures) (now (c .before .before .before .before .before .before .before .before .before .before .args .registers)) (c .before .gather .result) (c .before .gather .ensures),
+  row-most (now (c .before .before .before .before .before .before .before .before .before .args .rows)) (now (c .before .before .before .before .before .before .before .before .before .args .pieces)) (c .before .before .before .before .loop .k) (c .before .before .before .before .loop .last) (min 32 (width (map pieceOf (now (c .before .row-pieces .result))))) (now (c .before .row-pieces .result)) (c .before .before .before .loop-test .taken) (c .before .before .before .before .loop .inv .1) (c .before .row-pieces .ensures) refl,
+  row-below (now (c .before .before .before .before .before .before .before .before .before .args .rows)) (now (c .before .before .before .before .before .before .before .before .before .args .pieces)) (c .before .before .before .before .loop .k) (c .before .before .before .before .loop .last) (min 32 (width (map pieceOf (now (c .before .row-pieces .result))))) (now (c .before .row-pieces .result)) (c .before .before .before .loop-test .taken) (c .before .before .before .before .loop .inv .1) (c .before .row-pieces .ensures) refl (now (c .before .before .before .before .before .before .before .before .before .args .registers)) (c .gather .result) (c .gather .ensures),
 )
 
 mul-numbers : tie.Need-mul-numbers Inv-loop μ-loop
@@ -62,11 +60,11 @@ loop-less c = search needs
 
 loop-again : tie.Need-loop-again Inv-loop μ-loop
 loop-again c = (
-  simp length-set (c .before .before .before .before .before .before .loop .inv .0),
-  bounded-after (now (c .before .before .before .before .before .before .before .before .before .before .before .args .rows)) (now (c .before .before .before .before .before .before .before .before .before .before .before .args .pieces)) (c .before .before .before .before .before .before .loop .k) (c .before .before .before .before .before .before .loop .last) (c .before .width .result) (now (c .before .before .before .row-pieces .result)) (c .before .before .before .before .before .loop-test .taken) (c .before .before .before .before .before .before .loop .inv .1) (c .before .before .before .row-pieces .ensures) (c .before .width .ensures) (c .meant .result)
-      (number-most (now (c .before .before .before .before .before .before .before .before .before .before .before .args .rows)) (now (c .before .before .before .before .before .before .before .before .before .before .before .args .pieces)) (c .before .before .before .before .before .before .loop .k) (c .before .before .before .before .before .before .loop .last) (c .before .width .result) (now (c .before .before .before .row-pieces .result)) (c .before .before .before .before .before .loop-test .taken) (c .before .before .before .before .before .before .loop .inv .1) (c .before .before .before .row-pieces .ensures) (c .before .width .ensures) (now (c .before .before .before .before .before .before .before .before .before .before .before .args .registers)) (c .before .before .gather .result) (c .meant .result) (c .before .before .gather .ensures) (c .meant .ensures)),
-  read-next (now (c .before .before .before .before .before .before .before .before .before .before .before .args .rows)) (now (c .before .before .before .before .before .before .before .before .before .before .before .args .pieces)) (c .before .before .before .before .before .before .loop .k) (c .before .before .before .before .before .before .loop .last) (c .before .width .result) (now (c .before .before .before .row-pieces .result)) (c .before .before .before .before .before .loop-test .taken) (c .before .before .before .before .before .before .loop .inv .1) (c .before .before .before .row-pieces .ensures) (c .before .width .ensures) (now (c .before .before .before .before .before .before .before .before .before .before .before .args .registers)) (c .before .before .before .before .before .before .loop .numbers) (c .before .before .gather .result) (c .meant .result) (c .before .before .before .before .before .before .loop .inv .0) (c .before .before .gather .ensures) (c .meant .ensures)
-      ∙ c .before .before .before .before .before .before .loop .inv .2,
+  simp length-set (c .before .before .before .before .before .loop .inv .0),
+  bounded-after (now (c .before .before .before .before .before .before .before .before .before .before .args .rows)) (now (c .before .before .before .before .before .before .before .before .before .before .args .pieces)) (c .before .before .before .before .before .loop .k) (c .before .before .before .before .before .loop .last) (min 32 (width (map pieceOf (now (c .before .before .row-pieces .result))))) (now (c .before .before .row-pieces .result)) (c .before .before .before .before .loop-test .taken) (c .before .before .before .before .before .loop .inv .1) (c .before .before .row-pieces .ensures) refl (c .meant .result)
+      (number-most (now (c .before .before .before .before .before .before .before .before .before .before .args .rows)) (now (c .before .before .before .before .before .before .before .before .before .before .args .pieces)) (c .before .before .before .before .before .loop .k) (c .before .before .before .before .before .loop .last) (min 32 (width (map pieceOf (now (c .before .before .row-pieces .result))))) (now (c .before .before .row-pieces .result)) (c .before .before .before .before .loop-test .taken) (c .before .before .before .before .before .loop .inv .1) (c .before .before .row-pieces .ensures) refl (now (c .before .before .before .before .before .before .before .before .before .before .args .registers)) (c .before .gather .result) (c .meant .result) (c .before .gather .ensures) (c .meant .ensures)),
+  read-next (now (c .before .before .before .before .before .before .before .before .before .before .args .rows)) (now (c .before .before .before .before .before .before .before .before .before .before .args .pieces)) (c .before .before .before .before .before .loop .k) (c .before .before .before .before .before .loop .last) (min 32 (width (map pieceOf (now (c .before .before .row-pieces .result))))) (now (c .before .before .row-pieces .result)) (c .before .before .before .before .loop-test .taken) (c .before .before .before .before .before .loop .inv .1) (c .before .before .row-pieces .ensures) refl (now (c .before .before .before .before .before .before .before .before .before .before .args .registers)) (c .before .before .before .before .before .loop .numbers) (c .before .gather .result) (c .meant .result) (c .before .before .before .before .before .loop .inv .0) (c .before .gather .ensures) (c .meant .ensures)
+      ∙ c .before .before .before .before .before .loop .inv .2,
 )
 
 same-length : tie.Need-same-length Inv-loop μ-loop
@@ -88,7 +86,6 @@ read-numbers-spec =
     shared-slice-read-row
     row-pieces-requires
     gather-requires
-    width-requires
     meant-requires
     mul-numbers
     slice-write-numbers
