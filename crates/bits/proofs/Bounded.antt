@@ -1,7 +1,6 @@
 -- A table whose numbers stay below 2^31: what code needs to count in 32 bits. Assumes nothing.
-use Prim.Native.Nat.{ℕ, zero, suc, _+_, _-_, _%_, _^_, _≤_, _<_}
+use Prim.Native.Nat.{ℕ, zero, suc, _+_, _^_, _≤_, _<_}
 use mathlib.Core.Path.{_≡_, refl, ap}
-use mathlib.Core.Bool.{Bool, true, false, _&&_}
 use mathlib.Core.List.{List, [], _∷_}
 use native.Mathlib.Nat.{le-refl, lt-of-le-of-lt, le-of-lt, le-of-suc-le-suc, not-suc-le-zero}
 use native.Mathlib.Omega.{arith}
@@ -10,7 +9,7 @@ use lib.Dec.{T, leb, ltb, ltb→lt, lt→ltb, leb→le}
 use lib.ListN.{length, getD, take}
 use lib.Pow.{pow-mono}
 use Rattle.bits.specs.Encoded.{most, bounded}
-use Rattle.bits.specs.Numbers.{Meaning, plus, endOfLast, Number, endAfter, meant, inRange, readFrom}
+use Rattle.bits.specs.Numbers.{Meaning, plus, endOfLast, Number, meant, inRange, readFrom}
 use Rattle.bits.specs.Pieces.{width, gather}
 use Rattle.bits.proofs.Ends.{end-most}
 use Rattle.bits.proofs.Split.{gather-lt}

@@ -1,17 +1,16 @@
 -- The bits of a number that is shifted, cut off or all ones, and a number of k bits known by them.
 -- Assumes nothing.
-use mathlib.Core.Path.{_≡_, refl, sym, ap, _∙_, subst}
-use Prim.Native.Nat.{ℕ, zero, suc, _+_, _-_, _*_, _/_, _%_, _^_, _<_, _≤_, max}
-use mathlib.Core.Bool.{Bool, true, false}
+use mathlib.Core.Path.{_≡_, sym, ap, _∙_}
+use Prim.Native.Nat.{ℕ, _+_, _-_, _*_, _/_, _%_, _^_, _<_, _≤_, max}
 use native.Mathlib.Nat.{mod-lt, div-eq-of-lt, lt-of-lt-of-le, mul-mod-left}
 use native.Mathlib.Omega.{arith}
 use borrow.Author.Tests.{ltb-true, ltb-false}
 use lib.Arith.{digits-mod}
 use lib.Bits.{bitOr, or-step, or-shr}
 use lib.Dec.{ltb, lit<}
-use lib.Pow.{shr-shr, shl-shr, field, mod-mod-pow, pow-mono, pow-pos, high, low, ones-split, ones-lt}
+use lib.Pow.{shr-shr, shl-shr, field, mod-mod-pow, pow-mono, high, low, ones-split, ones-lt}
 use Rattle.bits.specs.Store.{bit}
-use Rattle.bits.proofs.Bit.{by-bit, by-bits, bit-lt, bit-of-zero}
+use Rattle.bits.proofs.Bit.{by-bit, by-bits, bit-of-zero}
 use Rattle.bits.proofs.Test.{by-test}
 
 pub bit-shr : (i k n : ℕ) → bit i (n / 2 ^ k) ≡ bit (k + i) n

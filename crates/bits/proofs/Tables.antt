@@ -1,9 +1,9 @@
 -- A table of numbers in pieces: what was written is read back, what was read is written back without a change, and no other bit moves.
 -- The table is any whose pieces are disjoint and lie in registers that are there, one computed test.
 -- Assumes nothing.
-use mathlib.Core.Path.{_≡_, refl, sym, ap, ap₂, _∙_, subst}
-use Prim.Native.Nat.{ℕ, _+_, _-_, _%_, _^_, _≤_, _<_}
-use mathlib.Core.Bool.{Bool, true, false, _&&_}
+use mathlib.Core.Path.{_≡_, refl, sym, ap, _∙_, subst}
+use Prim.Native.Nat.{ℕ, _+_, _%_, _^_, _≤_, _<_}
+use mathlib.Core.Bool.{Bool, _&&_}
 use mathlib.Core.List.{List, [], _∷_, _++_}
 use native.Mathlib.Nat.{mod-eq-of-lt, add-sub-cancel, sub-add-cancel}
 use native.Mathlib.Omega.{arith}

@@ -1,18 +1,15 @@
 -- The reader's and the writer's definitions, by what the code's tests found. Assumes nothing.
 use Prim.Native.Nat.{ℕ}
-use mathlib.Core.Path.{_≡_, sym, ap, ap₂, _∙_}
-use mathlib.Core.Bool.{Bool, true, false, cond}
+use mathlib.Core.Path.{_≡_}
+use mathlib.Core.Bool.{Bool, true, false}
 use mathlib.Core.List.{List, []}
 use Rattle.bits.specs.Numbers.{readNumbers, allInRange, writeNumbers}
-use Rattle.file.specs.declared.answer.Answer.{Answer}
 use Rattle.file.specs.declared.answer.Answer.the-variants.{Done, Locked, OutOfRange, NotSound}
 use Rattle.file.specs.declared.registers.File.{File}
 use Rattle.file.specs.Answers.{refused, codeOf}
 use Rattle.file.specs.File.{withRegisters, crtcLocked}
 use Rattle.file.specs.Sound.{sound}
 use Rattle.timing.specs.declared.Timing.{Timing}
-use Rattle.timing.specs.declared.Read.{Read}
-use Rattle.timing.specs.declared.Written.{Written}
 use Rattle.timing.specs.Table.{table, wide}
 use Rattle.timing.specs.Timing.{timingOf, numbersOf, timingIn, readTiming, withTiming, timingAnswer, writtenFile, writeTiming}
 

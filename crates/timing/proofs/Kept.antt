@@ -1,7 +1,6 @@
 -- Writing numbers whose pieces lie in stored bits keeps soundness.
 -- Assumes nothing.
 use Prim.Native.Nat.{ℕ, _/_, _%_, _*_, _^_}
-use mathlib.Core.Bool.{Bool, true, false, _&&_}
 use mathlib.Core.List.{List, [], _∷_, _++_}
 use lib.Dec.{T}
 use Rattle.bits.specs.Numbers.{Number, storedFor, writeNumbers}

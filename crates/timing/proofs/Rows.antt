@@ -1,9 +1,9 @@
 -- A table's rows, one at a time: what a turn of the loops that read, test and write numbers does. Assumes nothing.
 use Prim.Native.Nat.{ℕ, _+_, _/_, _%_, _^_, _≤_, _<_, min}
-use mathlib.Core.Path.{_≡_, refl, sym, ap, ap₂, _∙_, subst}
-use mathlib.Core.Bool.{Bool, true, false, _&&_}
+use mathlib.Core.Path.{_≡_, sym, ap, ap₂, _∙_, subst}
+use mathlib.Core.Bool.{Bool, true, _&&_}
 use mathlib.Core.List.{List, [], _∷_, _++_, map, append-assoc, append-nil}
-use native.Mathlib.Nat.{mod-eq-of-lt, lt-of-lt-of-le, lt-of-le-of-lt}
+use native.Mathlib.Nat.{mod-eq-of-lt, lt-of-lt-of-le}
 use native.Mathlib.Numerals.{add-one}
 use native.Mathlib.Omega.{arith}
 use lib.Dec.{T}
@@ -11,7 +11,7 @@ use lib.ListN.{length, getD, set, take, drop, drop-of-length-le}
 use lib.Pow.{pow-mono}
 use lib.Seq.{take-suc-set, take-all}
 use Rattle.bits.specs.Encoded.{pieceOf, meaningOf, rowOf, tableOf, most, bounded}
-use Rattle.bits.specs.Numbers.{Number, meant, storedFor, inRange, readFrom, readNumbers, rangesFrom, allInRange, writeNumbers}
+use Rattle.bits.specs.Numbers.{Number, meant, storedFor, inRange, readFrom, rangesFrom, writeNumbers}
 use Rattle.bits.specs.Pieces.{width, gather, scatter}
 use Rattle.bits.proofs.Bounded.{bounded-first, bounded-rest, meant-most, ranged-most, width-below}
 use Rattle.bits.proofs.Encoded.{from-next, next-row, no-row}

@@ -7,8 +7,8 @@ use mathlib.Core.List.{List, [], _∷_}
 use mathlib.Core.Logic.{_↔_}
 use native.Mathlib.Omega.{arith}
 use lib.Dec.{T, eqb}
-use lib.ListN.{getD, length}
-use Rattle.bits.specs.Numbers.{Number, readFrom, readNumbers, allInRange, writeNumbers}
+use lib.ListN.{length}
+use Rattle.bits.specs.Numbers.{readFrom, readNumbers, allInRange, writeNumbers}
 use Rattle.bits.specs.Store.{bit, within}
 use Rattle.bits.proofs.Bit.{by-bits, bit-of-zero}
 use Rattle.bits.proofs.Tables.{tableReach, fitting, written-outside, read-back, write-back, read-ranged}
@@ -23,8 +23,6 @@ use Rattle.file.specs.Registers.{storedTable, registers, singles, sequencer, cr
 use Rattle.file.specs.Sound.{sound, allWithin}
 use Rattle.file.proofs.Soundness.{registers-sound}
 use Rattle.timing.specs.declared.Timing.{Timing}
-use Rattle.timing.specs.declared.Read.{Read}
-use Rattle.timing.specs.declared.Written.{Written}
 use Rattle.timing.specs.Table.{table, wide}
 use Rattle.timing.specs.Timing.{timingOf, numbersOf, timingIn, readTiming, withTiming, timingAnswer, writtenFile, writeTiming}
 use Rattle.timing.proofs.Kept.{written-sound}

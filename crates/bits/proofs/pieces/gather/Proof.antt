@@ -1,5 +1,5 @@
 -- `bits::pieces::gather` meets its contract. Invariant: the pieces so far, with those from k on behind them, are the whole number. Assumes nothing.
-use Prim.Native.Nat.{ℕ, _+_, _-_, _*_, _%_, _^_, _≤_, _<_}
+use Prim.Native.Nat.{ℕ, _-_, _%_, _^_, _≤_, _<_}
 use mathlib.Core.Path.{_≡_, sym, subst, _∙_}
 use mathlib.Core.List.{map}
 use native.Mathlib.Nat.{mod-lt}

@@ -1,5 +1,5 @@
 -- `bits::pieces::scatter` meets its contract. Invariant: the pieces from k on are still to be set. Assumes nothing.
-use Prim.Native.Nat.{ℕ, _-_}
+use Prim.Native.Nat.{_-_}
 use mathlib.Core.Path.{_≡_, refl, sym, _∙_}
 use mathlib.Core.List.{map}
 use borrow.Author.Needs.{needs}

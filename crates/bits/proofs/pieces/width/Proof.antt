@@ -1,5 +1,5 @@
 -- `bits::pieces::width` meets its contract. Invariant: the bits so far, with the pieces from k on, are the whole width. Assumes nothing.
-use Prim.Native.Nat.{ℕ, _+_, _-_, _<_}
+use Prim.Native.Nat.{_+_, _-_, _<_}
 use mathlib.Core.Path.{_≡_}
 use mathlib.Core.List.{map}
 use native.Mathlib.Omega.{arith}

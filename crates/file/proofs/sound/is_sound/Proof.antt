@@ -1,5 +1,5 @@
 -- `file::sound::is_sound` meets its contract. Invariant: the stray bits so far and the registers from i on decide. Assumes nothing.
-use Prim.Native.Nat.{ℕ, _-_, _≤_}
+use Prim.Native.Nat.{_-_, _≤_}
 use mathlib.Core.Path.{_≡_, refl, sym, _∙_}
 use mathlib.Core.Bool.{_&&_}
 use native.Mathlib.Omega.{arith}

@@ -1,10 +1,9 @@
 -- `timing::numbers::all_in_range` meets its contract. Invariant: the rows from k on decide. Assumes nothing.
-use Prim.Native.Nat.{ℕ, _-_, _^_}
+use Prim.Native.Nat.{_-_, _^_}
 use borrow.Author.Tests.{not-true, not-false}
 use Rattle.bits.specs.Numbers.{rangesFrom, allInRange}
 use Rattle.timing.proofs.Rows.{row-most, tested-most, bounded-after, range-next, range-last}
-use mathlib.Core.Path.{_≡_, refl, sym, ap, _∙_}
-use native.Mathlib.Omega.{arith}
+use mathlib.Core.Path.{_≡_, refl, sym, _∙_}
 use borrow.Author.Needs.{needs}
 use denote.Ref.{now}
 use lib.Dec.{T}

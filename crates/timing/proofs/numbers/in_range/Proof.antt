@@ -1,5 +1,5 @@
 -- `timing::numbers::in_range` meets its contract, by the two meanings and the tests that led to each return. Assumes nothing.
-use Prim.Native.Nat.{ℕ, _^_, _<_}
+use Prim.Native.Nat.{_^_, _<_}
 use mathlib.Core.Path.{subst}
 use native.Mathlib.Omega.{arith}
 use borrow.Author.Tests.{le-ltb, lt-ltb, lt-leb, le-leb}

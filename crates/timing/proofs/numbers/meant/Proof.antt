@@ -1,5 +1,5 @@
 -- `timing::numbers::meant` meets its contract, by the two meanings. Assumes nothing.
-use Prim.Native.Nat.{ℕ, _^_, _<_, min}
+use Prim.Native.Nat.{_^_, _<_, min}
 use mathlib.Core.Path.{subst}
 use mathlib.Core.List.{map}
 use native.Mathlib.Omega.{arith}

@@ -1,11 +1,10 @@
 -- `timing::numbers::read_numbers` meets its contract. Invariant: what is read so far, with what the rows from k on read, is the whole. Assumes nothing.
-use Prim.Native.Nat.{ℕ, _-_, _^_, min}
+use Prim.Native.Nat.{_-_, _^_, min}
 use mathlib.Core.List.{_++_, map}
 use lib.ListN.{length-set}
 use Rattle.bits.specs.Numbers.{readFrom, readNumbers}
 use Rattle.timing.proofs.Rows.{row-most, row-below, number-most, bounded-after, read-next, read-last}
-use mathlib.Core.Path.{_≡_, refl, sym, ap, _∙_}
-use native.Mathlib.Omega.{arith}
+use mathlib.Core.Path.{_≡_, refl, sym, _∙_}
 use borrow.Author.Needs.{needs}
 use denote.Ref.{now}
 use lib.Dec.{T}

@@ -1,14 +1,12 @@
 -- `timing::numbers::write_numbers` meets its contract. Invariant: the rows from k on are still to be written. Assumes nothing.
-use Prim.Native.Nat.{ℕ, _-_}
+use Prim.Native.Nat.{_-_}
 use Rattle.bits.specs.Numbers.{writeNumbers}
 use Rattle.timing.proofs.Rows.{write-next, write-last}
-use mathlib.Core.Path.{_≡_, refl, sym, ap, _∙_}
-use native.Mathlib.Omega.{arith}
+use mathlib.Core.Path.{_≡_, refl, sym, _∙_}
 use borrow.Author.Needs.{needs}
 use denote.Ref.{now}
-use lib.Dec.{T}
-use lib.ListN.{length, take, drop}
-use Rattle.bits.specs.Encoded.{tableOf, bounded}
+use lib.ListN.{length, drop}
+use Rattle.bits.specs.Encoded.{tableOf}
 use Rattle.timing.proofs.numbers.write_numbers.Statement.{statement}
 use Rattle.timing.proofs.numbers.write_numbers.Tie as tie
 
