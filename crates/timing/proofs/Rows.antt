@@ -18,13 +18,16 @@ use Rattle.bits.proofs.Encoded.{from-next, next-row, no-row}
 use Rattle.bits.proofs.Split.{gather-lt}
 use Rattle.bits.proofs.Test.{passes}
 
--- a row, and the part of the pieces that code found for it
-module _ (rows pieces : List ℕ) (k last n : ℕ) (part : List ℕ) (inside : k < length rows)
-    (b : T (bounded (2 ^ 31) last (tableOf (drop k rows) pieces)))
-    (is-part : part ≡ take (getD rows k 0 % 16) (drop (getD rows k 0 / 256) pieces))
-    (is-width : n ≡ min 32 (width (map pieceOf part))) where
+-- a turn of a loop over the rows: a row, and the part of the pieces and the width that code found for it
+pub record Turn (rows pieces : List ℕ) (k last n : ℕ) (part : List ℕ) : Type 0 where
+  pub inside : k < length rows
+  pub bound : T (bounded (2 ^ 31) last (tableOf (drop k rows) pieces))
+  pub is-part : part ≡ take (getD rows k 0 % 16) (drop (getD rows k 0 / 256) pieces)
+  pub is-width : n ≡ min 32 (width (map pieceOf part))
+
+module _ {rows pieces : List ℕ} {k last n : ℕ} {part : List ℕ} (turn : Turn rows pieces k last n part) where
   bounded-here : T (bounded (2 ^ 31) last (rowOf pieces (getD rows k 0) ∷ tableOf (drop (k + 1) rows) pieces))
-  bounded-here = rw (next-row rows pieces k inside) at b
+  bounded-here = rw (next-row rows pieces k (turn .inside)) at (turn .bound)
 
   most-here : most (meaningOf (getD rows k 0 / 16 % 16)) (width (rowOf pieces (getD rows k 0) .pieces)) last < 2 ^ 31
   unfolding rowOf
@@ -33,7 +36,7 @@ module _ (rows pieces : List ℕ) (k last n : ℕ) (part : List ℕ) (inside : k
   pub row-width : n ≡ width (rowOf pieces (getD rows k 0) .pieces)
   unfolding rowOf
   row-width =
-      omega (arith, is-width, ap (λ (l : List ℕ). width (map pieceOf l)) is-part, width-below (meaningOf (getD rows k 0 / 16 % 16)) (width (rowOf pieces (getD rows k 0) .pieces)) last most-here)
+      omega (arith, turn .is-width, ap (λ (l : List ℕ). width (map pieceOf l)) (turn .is-part), width-below (meaningOf (getD rows k 0 / 16 % 16)) (width (rowOf pieces (getD rows k 0) .pieces)) last most-here)
 
   pub row-most : most (meaningOf (getD rows k 0 / 16 % 16)) n last < 2 ^ 31
   row-most = rw row-width most-here
@@ -44,8 +47,8 @@ module _ (rows pieces : List ℕ) (k last n : ℕ) (part : List ℕ) (inside : k
   unfolding rowOf
   row-stored registers stored e =
       e
-      ∙ ap (λ (l : List ℕ). gather registers (map pieceOf l) % 2 ^ 32) is-part
-      ∙ mod-eq-of-lt (lt-of-lt-of-le (gather-lt (rowOf pieces (getD rows k 0) .pieces) registers) (pow-mono {j = 32} (omega (arith, is-width, row-width))))
+      ∙ ap (λ (l : List ℕ). gather registers (map pieceOf l) % 2 ^ 32) (turn .is-part)
+      ∙ mod-eq-of-lt (lt-of-lt-of-le (gather-lt (rowOf pieces (getD rows k 0) .pieces) registers) (pow-mono {j = 32} (omega (arith, turn .is-width, row-width))))
 
   pub row-below : (registers : List ℕ) (stored : ℕ) → stored ≡ gather registers (map pieceOf part) % 2 ^ 32 → stored < 2 ^ n
   row-below registers stored e = rw (row-stored registers stored e, row-width) (gather-lt (rowOf pieces (getD rows k 0) .pieces) registers)
@@ -84,10 +87,10 @@ module _ (rows pieces : List ℕ) (k last n : ℕ) (part : List ℕ) (inside : k
   unfolding readFrom
   read-next registers numbers stored number same e m =
       ap (λ (l : List ℕ). l ++ readFrom number (tableOf (drop (k + 1) rows) pieces) registers)
-      (ap (λ (x : ℕ). take x (set numbers k number)) (add-one k) ∙ take-suc-set numbers k number (omega (arith, inside, same)))
+      (ap (λ (x : ℕ). take x (set numbers k number)) (add-one k) ∙ take-suc-set numbers k number (omega (arith, turn .inside, same)))
       ∙ append-assoc (take k numbers) (number ∷ []) (readFrom number (tableOf (drop (k + 1) rows) pieces) registers)
       ∙ ap (λ (x : ℕ). take k numbers ++ x ∷ readFrom x (tableOf (drop (k + 1) rows) pieces) registers) (row-number registers stored number e m)
-      ∙ ap (λ (t : List Number). take k numbers ++ readFrom last t registers) (sym (next-row rows pieces k inside))
+      ∙ ap (λ (t : List Number). take k numbers ++ readFrom last t registers) (sym (next-row rows pieces k (turn .inside)))
 
   -- one number more is tested
   pub range-next : (numbers : List ℕ) (good : Bool) → length numbers ≡ length rows
@@ -96,7 +99,7 @@ module _ (rows pieces : List ℕ) (k last n : ℕ) (part : List ℕ) (inside : k
       ≡ (good && rangesFrom (getD numbers k 0) (tableOf (drop (k + 1) rows) pieces) (drop (k + 1) numbers))
   unfolding rangesFrom rowOf
   range-next numbers good same e =
-      ap₂ (rangesFrom last) (next-row rows pieces k inside) (from-next numbers k (omega (arith, inside, same)))
+      ap₂ (rangesFrom last) (next-row rows pieces k (turn .inside)) (from-next numbers k (omega (arith, turn .inside, same)))
       ∙ ap (λ (g : Bool). g && rangesFrom (getD numbers k 0) (tableOf (drop (k + 1) rows) pieces) (drop (k + 1) numbers))
       (sym (e ∙ ap (λ (x : ℕ). inRange (meaningOf (getD rows k 0 / 16 % 16)) x last (getD numbers k 0)) row-width))
 

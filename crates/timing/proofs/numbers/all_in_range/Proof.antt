@@ -1,8 +1,9 @@
 -- `timing::numbers::all_in_range` meets its contract. Invariant: the rows from k on decide. Assumes nothing.
-use Prim.Native.Nat.{_-_, _^_}
+use Prim.Native.Nat.{_+_, _-_, _^_}
 use borrow.Author.Tests.{not-true, not-false}
 use Rattle.bits.specs.Numbers.{rangesFrom, allInRange}
-use Rattle.timing.proofs.Rows.{row-most, tested-most, bounded-after, range-next, range-last}
+use Rattle.timing.proofs.Rows.{Turn, row-most, tested-most, bounded-after, range-next, range-last}
+use mathlib.Core.Bool.{_&&_}
 use mathlib.Core.Path.{_≡_, refl, sym, _∙_}
 use borrow.Author.Needs.{needs}
 use denote.Ref.{now}
@@ -43,11 +44,23 @@ shared-slice-read-number c = search needs
 width-requires : tie.Need-width-requires Inv-loop μ-loop
 width-requires c κs = search needs
 
+-- the row of this turn
+turn : (c : tie.After-width Inv-loop μ-loop)
+    → Turn (now (c .before .before .before .before .before .before .before .before .before .args .rows)) (now (c .before .before .before .before .before .before .before .before .before .args .pieces)) (c .before .before .before .before .before .loop .k) (c .before .before .before .before .before .loop .last) (c .width .result) (now (c .before .before .row-pieces .result))
+turn c = record { inside = c .before .before .before .before .loop-test .taken; bound = c .before .before .before .before .before .loop .inv .1; is-part = c .before .before .row-pieces .ensures; is-width = c .width .ensures }
+
+-- the numbers so far decide, with this one
+step : (c : tie.After-in-range Inv-loop μ-loop) → allInRange (tableOf (now (c .before .before .before .before .before .before .before .before .before .before .args .rows)) (now (c .before .before .before .before .before .before .before .before .before .before .args .pieces))) (now (c .before .before .before .before .before .before .before .before .before .before .args .numbers))
+    ≡ (c .in-range .result && rangesFrom (getD (now (c .before .before .before .before .before .before .before .before .before .before .args .numbers)) (c .before .before .before .before .before .before .loop .k) 0) (tableOf (drop (c .before .before .before .before .before .before .loop .k + 1) (now (c .before .before .before .before .before .before .before .before .before .before .args .rows))) (now (c .before .before .before .before .before .before .before .before .before .before .args .pieces))) (drop (c .before .before .before .before .before .before .loop .k + 1) (now (c .before .before .before .before .before .before .before .before .before .before .args .numbers))))
+step c =
+    sym (c .before .before .before .before .before .before .loop .inv .2)
+    ∙ range-next (turn (c .before)) (now (c .before .before .before .before .before .before .before .before .before .before .args .numbers)) (c .in-range .result) (c .before .before .before .before .before .before .loop .inv .0) (c .in-range .ensures)
+
 in-range-requires : tie.Need-in-range-requires Inv-loop μ-loop
-in-range-requires c κs = row-most (now (c .before .before .before .before .before .before .before .before .before .args .rows)) (now (c .before .before .before .before .before .before .before .before .before .args .pieces)) (c .before .before .before .before .before .loop .k) (c .before .before .before .before .before .loop .last) (c .width .result) (now (c .before .before .row-pieces .result)) (c .before .before .before .before .loop-test .taken) (c .before .before .before .before .before .loop .inv .1) (c .before .before .row-pieces .ensures) (c .width .ensures)
+in-range-requires c κs = row-most (turn c)
 
 returns : tie.Need-returns Inv-loop μ-loop
-returns c = sym (sym (c .before .before .before .before .before .before .before .loop .inv .2) ∙ range-next (now (c .before .before .before .before .before .before .before .before .before .before .before .args .rows)) (now (c .before .before .before .before .before .before .before .before .before .before .before .args .pieces)) (c .before .before .before .before .before .before .before .loop .k) (c .before .before .before .before .before .before .before .loop .last) (c .before .before .width .result) (now (c .before .before .before .before .row-pieces .result)) (c .before .before .before .before .before .before .loop-test .taken) (c .before .before .before .before .before .before .before .loop .inv .1) (c .before .before .before .before .row-pieces .ensures) (c .before .before .width .ensures) (now (c .before .before .before .before .before .before .before .before .before .before .before .args .numbers)) (c .before .in-range .result) (c .before .before .before .before .before .before .before .loop .inv .0) (c .before .in-range .ensures) ∙ rw (not-true (c .before .in-range .result) (c .if1 .taken)))
+returns c = sym (rw (not-true (c .before .in-range .result) (c .if1 .taken)) at (step (c .before)))
 
 add-k : tie.Need-add-k Inv-loop μ-loop
 add-k c = search needs
@@ -58,9 +71,9 @@ loop-less c = search needs
 loop-again : tie.Need-loop-again Inv-loop μ-loop
 loop-again c = (
   c .before .before .before .before .before .before .before .loop .inv .0,
-  bounded-after (now (c .before .before .before .before .before .before .before .before .before .before .before .args .rows)) (now (c .before .before .before .before .before .before .before .before .before .before .before .args .pieces)) (c .before .before .before .before .before .before .before .loop .k) (c .before .before .before .before .before .before .before .loop .last) (c .before .before .width .result) (now (c .before .before .before .before .row-pieces .result)) (c .before .before .before .before .before .before .loop-test .taken) (c .before .before .before .before .before .before .before .loop .inv .1) (c .before .before .before .before .row-pieces .ensures) (c .before .before .width .ensures) (getD (now (c .before .before .before .before .before .before .before .before .before .before .before .args .numbers)) (c .before .before .before .before .before .before .before .loop .k) 0)
-      (tested-most (now (c .before .before .before .before .before .before .before .before .before .before .before .args .rows)) (now (c .before .before .before .before .before .before .before .before .before .before .before .args .pieces)) (c .before .before .before .before .before .before .before .loop .k) (c .before .before .before .before .before .before .before .loop .last) (c .before .before .width .result) (now (c .before .before .before .before .row-pieces .result)) (c .before .before .before .before .before .before .loop-test .taken) (c .before .before .before .before .before .before .before .loop .inv .1) (c .before .before .before .before .row-pieces .ensures) (c .before .before .width .ensures) (getD (now (c .before .before .before .before .before .before .before .before .before .before .before .args .numbers)) (c .before .before .before .before .before .before .before .loop .k) 0) (c .before .in-range .result) (c .before .in-range .ensures) (not-false (c .before .in-range .result) (c .if1 .left))),
-  sym (rw (not-false (c .before .in-range .result) (c .if1 .left)) at (range-next (now (c .before .before .before .before .before .before .before .before .before .before .before .args .rows)) (now (c .before .before .before .before .before .before .before .before .before .before .before .args .pieces)) (c .before .before .before .before .before .before .before .loop .k) (c .before .before .before .before .before .before .before .loop .last) (c .before .before .width .result) (now (c .before .before .before .before .row-pieces .result)) (c .before .before .before .before .before .before .loop-test .taken) (c .before .before .before .before .before .before .before .loop .inv .1) (c .before .before .before .before .row-pieces .ensures) (c .before .before .width .ensures) (now (c .before .before .before .before .before .before .before .before .before .before .before .args .numbers)) (c .before .in-range .result) (c .before .before .before .before .before .before .before .loop .inv .0) (c .before .in-range .ensures))) ∙ c .before .before .before .before .before .before .before .loop .inv .2,
+  bounded-after (turn (c .before .before)) (getD (now (c .before .before .before .before .before .before .before .before .before .before .before .args .numbers)) (c .before .before .before .before .before .before .before .loop .k) 0)
+      (tested-most (turn (c .before .before)) (getD (now (c .before .before .before .before .before .before .before .before .before .before .before .args .numbers)) (c .before .before .before .before .before .before .before .loop .k) 0) (c .before .in-range .result) (c .before .in-range .ensures) (not-false (c .before .in-range .result) (c .if1 .left))),
+  sym (rw (not-false (c .before .in-range .result) (c .if1 .left)) at (step (c .before))),
 )
 
 returns-2 : tie.Need-returns-2 Inv-loop μ-loop

@@ -3,7 +3,7 @@ use Prim.Native.Nat.{_-_, _^_, min}
 use mathlib.Core.List.{_++_, map}
 use lib.ListN.{length-set}
 use Rattle.bits.specs.Numbers.{readFrom, readNumbers}
-use Rattle.timing.proofs.Rows.{row-most, row-below, number-most, bounded-after, read-next, read-last}
+use Rattle.timing.proofs.Rows.{Turn, row-most, row-below, number-most, bounded-after, read-next, read-last}
 use mathlib.Core.Path.{_≡_, refl, sym, _∙_}
 use borrow.Author.Needs.{needs}
 use denote.Ref.{now}
@@ -39,11 +39,14 @@ row-pieces-requires c κs = search needs
 gather-requires : tie.Need-gather-requires Inv-loop μ-loop
 gather-requires c κs = search needs
 
+-- the row of this turn
+turn : (c : tie.After-row-pieces Inv-loop μ-loop)
+    → Turn (now (c .before .before .before .before .before .before .before .before .args .rows)) (now (c .before .before .before .before .before .before .before .before .args .pieces)) (c .before .before .before .loop .k) (c .before .before .before .loop .last) (min 32 (width (map pieceOf (now (c .row-pieces .result))))) (now (c .row-pieces .result))
+turn c = record { inside = c .before .before .loop-test .taken; bound = c .before .before .before .loop .inv .1; is-part = c .row-pieces .ensures; is-width = refl }
+
 meant-requires : tie.Need-meant-requires Inv-loop μ-loop
-meant-requires c κs = (
-  row-most (now (c .before .before .before .before .before .before .before .before .before .args .rows)) (now (c .before .before .before .before .before .before .before .before .before .args .pieces)) (c .before .before .before .before .loop .k) (c .before .before .before .before .loop .last) (min 32 (width (map pieceOf (now (c .before .row-pieces .result))))) (now (c .before .row-pieces .result)) (c .before .before .before .loop-test .taken) (c .before .before .before .before .loop .inv .1) (c .before .row-pieces .ensures) refl,
-  row-below (now (c .before .before .before .before .before .before .before .before .before .args .rows)) (now (c .before .before .before .before .before .before .before .before .before .args .pieces)) (c .before .before .before .before .loop .k) (c .before .before .before .before .loop .last) (min 32 (width (map pieceOf (now (c .before .row-pieces .result))))) (now (c .before .row-pieces .result)) (c .before .before .before .loop-test .taken) (c .before .before .before .before .loop .inv .1) (c .before .row-pieces .ensures) refl (now (c .before .before .before .before .before .before .before .before .before .args .registers)) (c .gather .result) (c .gather .ensures),
-)
+meant-requires c κs =
+    (row-most (turn (c .before)), row-below (turn (c .before)) (now (c .before .before .before .before .before .before .before .before .before .args .registers)) (c .gather .result) (c .gather .ensures))
 
 mul-numbers : tie.Need-mul-numbers Inv-loop μ-loop
 mul-numbers c = search needs
@@ -60,9 +63,9 @@ loop-less c = search needs
 loop-again : tie.Need-loop-again Inv-loop μ-loop
 loop-again c = (
   simp length-set (c .before .before .before .before .before .loop .inv .0),
-  bounded-after (now (c .before .before .before .before .before .before .before .before .before .before .args .rows)) (now (c .before .before .before .before .before .before .before .before .before .before .args .pieces)) (c .before .before .before .before .before .loop .k) (c .before .before .before .before .before .loop .last) (min 32 (width (map pieceOf (now (c .before .before .row-pieces .result))))) (now (c .before .before .row-pieces .result)) (c .before .before .before .before .loop-test .taken) (c .before .before .before .before .before .loop .inv .1) (c .before .before .row-pieces .ensures) refl (c .meant .result)
-      (number-most (now (c .before .before .before .before .before .before .before .before .before .before .args .rows)) (now (c .before .before .before .before .before .before .before .before .before .before .args .pieces)) (c .before .before .before .before .before .loop .k) (c .before .before .before .before .before .loop .last) (min 32 (width (map pieceOf (now (c .before .before .row-pieces .result))))) (now (c .before .before .row-pieces .result)) (c .before .before .before .before .loop-test .taken) (c .before .before .before .before .before .loop .inv .1) (c .before .before .row-pieces .ensures) refl (now (c .before .before .before .before .before .before .before .before .before .before .args .registers)) (c .before .gather .result) (c .meant .result) (c .before .gather .ensures) (c .meant .ensures)),
-  read-next (now (c .before .before .before .before .before .before .before .before .before .before .args .rows)) (now (c .before .before .before .before .before .before .before .before .before .before .args .pieces)) (c .before .before .before .before .before .loop .k) (c .before .before .before .before .before .loop .last) (min 32 (width (map pieceOf (now (c .before .before .row-pieces .result))))) (now (c .before .before .row-pieces .result)) (c .before .before .before .before .loop-test .taken) (c .before .before .before .before .before .loop .inv .1) (c .before .before .row-pieces .ensures) refl (now (c .before .before .before .before .before .before .before .before .before .before .args .registers)) (c .before .before .before .before .before .loop .numbers) (c .before .gather .result) (c .meant .result) (c .before .before .before .before .before .loop .inv .0) (c .before .gather .ensures) (c .meant .ensures)
+  bounded-after (turn (c .before .before)) (c .meant .result)
+      (number-most (turn (c .before .before)) (now (c .before .before .before .before .before .before .before .before .before .before .args .registers)) (c .before .gather .result) (c .meant .result) (c .before .gather .ensures) (c .meant .ensures)),
+  read-next (turn (c .before .before)) (now (c .before .before .before .before .before .before .before .before .before .before .args .registers)) (c .before .before .before .before .before .loop .numbers) (c .before .gather .result) (c .meant .result) (c .before .before .before .before .before .loop .inv .0) (c .before .gather .ensures) (c .meant .ensures)
       ∙ c .before .before .before .before .before .loop .inv .2,
 )
 
