@@ -76,7 +76,7 @@ reach-append [] qs r i = omega (arith, reach-none r i)
 reach-append (p ∷ ps) qs r i = omega (arith, reach-bit p (ps ++ qs) r i, reach-bit p ps r i, reach-append ps qs r i)
 
 -- where a piece reaches, those disjoint from it don't
-apart : (a b i : ℕ) → T (eqb (bitAnd a b) 0) → bit i a ≡ 1 → bit i b ≡ 0
+pub apart : (a b i : ℕ) → T (eqb (bitAnd a b) 0) → bit i a ≡ 1 → bit i b ≡ 0
 apart a b i t e =
     by-bit (λ (x : ℕ). min 1 x ≡ 0 → x ≡ 0) (λ _. refl) (λ z. z) (bit i b) (bit-lt i b)
     (ap (λ (x : ℕ). min x (bit i b)) (sym e) ∙ sym (bit-and i a b) ∙ ap (bit i) (eqb→eq (bitAnd a b) 0 t) ∙ bit-of-zero i)

@@ -75,9 +75,12 @@ free =
     ∷ record { register = CR11; bits = 0xF0 }
     ∷ []
 
+unfoldable pub nothing : Free
+nothing = record { register = 0; bits = 0 }
+
 unfoldable pub spares : List Number → List Free → Bool
 spares table [] = true
-spares table (x ∷ xs) = eqb (bitAnd (tableReach table (x .register)) (x .bits)) 0 && spares table xs
+spares table (x ∷ xs) = eqb (bitAnd (x .bits) (tableReach table (x .register))) 0 && spares table xs
 
 pub table-spares : (w : Bool) → T (spares (table w) free)
 unfolding spares free tableReach piecesOf reachIn pieceReach table

@@ -1,18 +1,20 @@
 -- Demand 2, timing, about the definitions: when a timing is accepted, what it reads back as, and what it leaves.
 -- Assumes nothing.
-use Prim.Native.Nat.{ℕ, suc}
+use Prim.Native.Nat.{ℕ, zero, suc}
 use mathlib.Core.Path.{_≡_, refl, sym, ap, ap₂, _∙_, subst}
 use mathlib.Core.Bool.{Bool, true, false, cond, _||_}
 use mathlib.Core.List.{List, [], _∷_}
 use mathlib.Core.Logic.{_↔_}
 use native.Mathlib.Omega.{arith}
+use lib.Bits.{bitAnd}
 use lib.Dec.{T, eqb}
-use lib.ListN.{length}
-use Rattle.bits.specs.Numbers.{readFrom, readNumbers, allInRange, writeNumbers}
+use lib.ListN.{getD, length}
+use Rattle.bits.specs.Numbers.{Number, readFrom, readNumbers, allInRange, writeNumbers}
 use Rattle.bits.specs.Store.{bit, within}
 use Rattle.bits.proofs.Bit.{by-bits, bit-of-zero}
+use Rattle.bits.proofs.Split.{apart}
 use Rattle.bits.proofs.Tables.{tableReach, fitting, written-outside, read-back, write-back, read-ranged}
-use Rattle.bits.proofs.Test.{right, is-true, passes}
+use Rattle.bits.proofs.Test.{left, right, is-true, passes}
 use Rattle.file.specs.declared.answer.Answer.{Answer}
 use Rattle.file.specs.declared.answer.Answer.the-variants.{Done, Locked, OutOfRange, NotSound}
 use Rattle.file.specs.declared.registers.File.{File}
@@ -26,7 +28,7 @@ use Rattle.timing.specs.declared.Timing.{Timing}
 use Rattle.timing.specs.Table.{table, wide}
 use Rattle.timing.specs.Timing.{timingOf, numbersOf, timingIn, readTiming, withTiming, timingAnswer, writtenFile, writeTiming}
 use Rattle.timing.proofs.Kept.{written-sound}
-use Rattle.timing.proofs.Computed.{table-fits, table-stored, narrow-reach, wide-reach}
+use Rattle.timing.proofs.Computed.{Free, nothing, free, spares, table-spares, table-fits, table-stored, narrow-reach, wide-reach}
 
 -- the three tests that an accepted timing passes
 pub record Passes (f : File) (t : Timing) : Type 0 where
@@ -86,6 +88,22 @@ same-outside f t =
       pointer = refl;
       toggle = refl;
     })
+
+-- a bit that a table spares is outside its reach
+spared : (table : List Number) (xs : List Free) (k i : ℕ) → T (spares table xs) → bit i (getD xs k nothing .bits) ≡ 1
+    → bit i (tableReach table (getD xs k nothing .register)) ≡ 0
+unfolding spares nothing
+spared table [] k i t e = absurd (let z : _≡_ {A = ℕ} 0 1 = sym (bit-of-zero i) ∙ e in omega arith)
+spared table (x ∷ xs) zero i t e =
+    apart (x .bits) (tableReach table (x .register)) i (left (eqb (bitAnd (x .bits) (tableReach table (x .register))) 0) (spares table xs) t) e
+spared table (x ∷ xs) (suc k) i t e =
+    spared table xs k i (right (eqb (bitAnd (x .bits) (tableReach table (x .register))) 0) (spares table xs) t) e
+
+-- CR1A[3:0], CR1B[7:5] and [1], CR3[7:5], CR5[6:5], CR9[7] and [4:0], CR11[7:4] never move: each bit of the list `free`
+pub free-kept : (f : File) (t : Timing) (k i : ℕ) → bit i (getD free k nothing .bits) ≡ 1
+    → bit i (register (writeTiming f t .file) (getD free k nothing .register)) ≡ bit i (register f (getD free k nothing .register))
+free-kept f t k i e =
+    same-outside f t .registers (getD free k nothing .register) i (spared (table (wide f)) free k i (table-spares (wide f)) e)
 
 -- a narrow file keeps CR1A whole
 pub narrow-kept : (f : File) (t : Timing) → wide f ≡ false → register (writeTiming f t .file) CR1A ≡ register f CR1A
