@@ -30,3 +30,25 @@ end-most start n low = omega (arith, mod-lt (low + 2 ^ n - (start + 1) % 2 ^ n) 
 pub end-low : (start n low : ℕ) → low < 2 ^ n → endAfter start n low % 2 ^ n ≡ low
 unfolding endAfter
 end-low start n low h = steps-to (start + 1) low (2 ^ n) (pow-pos n) h
+
+-- over any modulus: a number at most m above s is the step from s to its own low part
+steps-back : (s d m : ℕ) → 0 < m → d < m → ((s + d) % m + m - s % m) % m ≡ d
+steps-back s d m pos h =
+    ap (λ (x : ℕ). x % m) (omega (arith, mod-lt s pos))
+    ∙ mod-add-mod (s + d) m (m - s % m)
+    ∙ ap (λ (x : ℕ). x % m) (omega arith)
+    ∙ sym (mod-add-mod s m (d + (m - s % m)))
+    ∙ ap (λ (x : ℕ). x % m) (omega (arith, mod-lt s pos))
+    ∙ add-mod-right d m
+    ∙ mod-eq-of-lt h
+
+-- an end's number, 1 to 2^n above its start, is told by its low bits
+pub end-of : (start n number : ℕ) → start < number → number ≤ start + 2 ^ n → endAfter start n (number % 2 ^ n) ≡ number
+unfolding endAfter
+end-of start n number above most =
+    ap (λ (x : ℕ). start + 1 + (x % 2 ^ n + 2 ^ n - (start + 1) % 2 ^ n) % 2 ^ n) (sym whole)
+    ∙ ap (λ (x : ℕ). start + 1 + x) (steps-back (start + 1) (number - (start + 1)) (2 ^ n) (pow-pos n) (omega arith))
+    ∙ whole
+  where
+    whole : start + 1 + (number - (start + 1)) ≡ number
+    whole = omega arith

@@ -1,5 +1,11 @@
 pub mod Bit
+pub mod Shift
 pub mod Stored
 pub mod Test
 pub mod Ends
 pub mod Lists
+pub mod Piece
+pub mod Split
+pub mod Tables
+pub mod Encoded
+pub mod Bounded

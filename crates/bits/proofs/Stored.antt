@@ -2,11 +2,15 @@
 -- Assumes nothing.
 use mathlib.Core.Path.{_≡_, refl, sym, ap, ap₂, _∙_, subst}
 use Prim.Native.Nat.{ℕ, _≤_, _<_, min}
+use mathlib.Core.Bool.{Bool, _&&_}
 use native.Mathlib.Nat.{min-zero, le-trans, le-of-eq}
-use lib.Bits.{bitAnd, bitXor, differ, and-le-r}
+use native.Mathlib.Omega.{arith}
+use borrow.Author.Tests.{eqb-true, eqb-false, ne-eqb}
+use lib.Bits.{bitAnd, bitOr, bitXor, differ, or-zero-l, or-add-and, xor-add-and, xor-self, and-le-l, and-le-r}
 use lib.Dec.{T, eqb, eqb→eq, eqb-refl}
 use Rattle.bits.specs.Store.{bit, store, within}
 use Rattle.bits.proofs.Bit.{by-bit, bit-lt, bit-and, bit-xor, bit-of-zero, by-bits}
+use Rattle.bits.proofs.Test.{by-test}
 
 -- a bit of what is stored
 pub stored-bit : (i reach old value : ℕ)
@@ -85,3 +89,22 @@ store-exact stored old value o v =
 pub within-le : (stored value : ℕ) → T (within stored value) → value ≤ stored
 unfolding within store
 within-le stored value t = le-trans (le-of-eq (sym (eqb→eq (store stored 0 value) value t))) (and-le-r value stored)
+
+-- nothing is set in two numbers' bits together if in neither
+pub none-or : (a b : ℕ) → eqb (bitOr a b) 0 ≡ (eqb a 0 && eqb b 0)
+none-or a b =
+    by-test (eqb a 0)
+    (λ z. ap (λ (x : ℕ). eqb (bitOr x b) 0) (eqb-true a 0 z) ∙ ap (λ (x : ℕ). eqb x 0) (or-zero-l b) ∙ ap (λ (t : Bool). t && eqb b 0) (sym z))
+    (λ n. ne-eqb (bitOr a b) 0 (λ e. eqb-false a 0 n (omega (arith, or-add-and a b, and-le-r a b, e))) ∙ ap (λ (t : Bool). t && eqb b 0) (sym n))
+
+-- two numbers differ in no bit if they are equal
+none-xor : (a b : ℕ) → eqb (bitXor a b) 0 ≡ eqb b a
+none-xor a b =
+    by-test (eqb b a)
+    (λ t. ap (λ (x : ℕ). eqb (bitXor a x) 0) (eqb-true b a t) ∙ ap (λ (x : ℕ). eqb x 0) (xor-self a) ∙ sym t)
+    (λ n. ne-eqb (bitXor a b) 0 (λ e. eqb-false b a n (omega (arith, xor-add-and a b, and-le-l a b, and-le-r a b, e))) ∙ sym n)
+
+-- a value has no stray bit if it is within the stored ones
+pub none-stray : (stored value stray : ℕ) → stray ≡ bitXor value (store stored 0 value) → eqb stray 0 ≡ within stored value
+unfolding within
+none-stray stored value stray e = ap (λ (x : ℕ). eqb x 0) e ∙ none-xor value (store stored 0 value)

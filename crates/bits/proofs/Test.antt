@@ -15,6 +15,14 @@ pub both : (a b : Bool) → T a → T b → T (a && b)
 both true b s t = t
 both false b s t = s
 
+pub and-assoc : (a b c : Bool) → ((a && b) && c) ≡ (a && (b && c))
+and-assoc true b c = refl
+and-assoc false b c = refl
+
+pub and-true : (a : Bool) → (a && true) ≡ a
+and-true true = refl
+and-true false = refl
+
 -- what both choices pass, the one chosen passes
 pub chosen : {A : Type 0} (P : A → Bool) (b : Bool) (x y : A) → T (P x) → T (P y) → T (P (cond b x y))
 chosen P true x y p q = p

@@ -1,3 +1,4 @@
 pub mod Store
 pub mod Pieces
 pub mod Numbers
+pub mod Encoded

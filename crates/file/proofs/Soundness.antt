@@ -1,15 +1,17 @@
 -- Soundness is kept: by a store within the stored bits, by every step of the pointer, and so by an effect made of these.
 -- Assumes nothing.
-use Prim.Native.Nat.{ℕ, zero, suc, pred, _≤_, _<_, suc-le-suc, zero-le}
-use native.Mathlib.Nat.{suc-ne-zero}
-use mathlib.Core.Path.{_≡_, refl, sym, ap, subst}
+use Prim.Native.Nat.{ℕ, zero, suc, _+_, _<_, _≤_}
+use mathlib.Core.Path.{_≡_, refl, sym, ap, ap₂, _∙_, subst}
 use mathlib.Core.Bool.{Bool, true, false, _&&_}
 use mathlib.Core.List.{List, [], _∷_}
+use native.Mathlib.Numerals.{add-one}
+use lib.Bits.{bitOr, bitXor}
 use lib.Dec.{T, eqb}
-use lib.ListN.{length, getD, set}
+use lib.ListN.{getD, set, drop, length, drop-of-length-le}
+use lib.Seq.{drop-cons}
 use Rattle.bits.specs.Store.{store, within}
-use Rattle.bits.proofs.Stored.{store-within, within-le}
-use Rattle.bits.proofs.Test.{left, right, both}
+use Rattle.bits.proofs.Stored.{store-within, within-le, none-or, none-stray}
+use Rattle.bits.proofs.Test.{left, right, both, and-assoc, and-true}
 use Rattle.file.specs.declared.effect.Effect.{Effect}
 use Rattle.file.specs.declared.effect.Effect.the-variants.{Nothing, Store, StoreAndFlip, Toggle, Move, Paint}
 use Rattle.file.specs.declared.palette.Colour.{Colour}
@@ -30,16 +32,35 @@ at (stored ∷ table) [] number t = absurd t
 at (stored ∷ table) (value ∷ values) zero t = left (within stored value) (allWithin table values) t
 at (stored ∷ table) (value ∷ values) (suc number) t = at table values number (right (within stored value) (allWithin table values) t)
 
--- a list of registers is within a table as long where each is within its row
-pub within-by-number : (table values : List ℕ) → length values ≡ length table
-    → ((number : ℕ) → number < length values → T (within (getD table number 0) (getD values number 0))) → T (allWithin table values)
+-- the registers from one on are within their rows if that one is and those behind it are
+from : (table values : List ℕ) (number : ℕ) → number < length table → number < length values
+    → allWithin (drop number table) (drop number values)
+    ≡ (within (getD table number 0) (getD values number 0) && allWithin (drop (number + 1) table) (drop (number + 1) values))
 unfolding allWithin
-within-by-number [] [] e h = tt
-within-by-number [] (value ∷ values) e h = absurd (suc-ne-zero (length values) e)
-within-by-number (stored ∷ table) [] e h = absurd (suc-ne-zero (length table) (sym e))
-within-by-number (stored ∷ table) (value ∷ values) e h =
-    both (within stored value) (allWithin table values) (h 0 (suc-le-suc zero-le))
-    (within-by-number table values (ap pred e) (λ number l. h (suc number) (suc-le-suc l)))
+from table values number t v =
+    ap₂ allWithin (drop-cons table number 0 t) (drop-cons values number 0 v)
+    ∙ ap (λ (n : ℕ). within (getD table number 0) (getD values number 0) && allWithin (drop n table) (drop n values)) (sym (add-one number))
+
+-- the stray bits so far, and the registers from one on, tell whether all are within: one register more
+pub stray-next : (table values : List ℕ) (number stray more : ℕ) → number < length table → number < length values
+    → more ≡ bitXor (getD values number 0) (store (getD table number 0) 0 (getD values number 0))
+    → (eqb (bitOr stray more) 0 && allWithin (drop (number + 1) table) (drop (number + 1) values))
+    ≡ (eqb stray 0 && allWithin (drop number table) (drop number values))
+stray-next table values number stray more t v e =
+    ap (λ (b : Bool). b && rest) (none-or stray more ∙ ap (λ (b : Bool). eqb stray 0 && b) (none-stray (getD table number 0) (getD values number 0) more e))
+    ∙ and-assoc (eqb stray 0) (within (getD table number 0) (getD values number 0)) rest
+    ∙ ap (λ (b : Bool). eqb stray 0 && b) (sym (from table values number t v))
+  where
+    rest : Bool
+    rest = allWithin (drop (number + 1) table) (drop (number + 1) values)
+
+-- and none left
+pub stray-last : (table values : List ℕ) (number stray : ℕ) → length table ≤ number → length values ≤ number
+    → (eqb stray 0 && allWithin (drop number table) (drop number values)) ≡ eqb stray 0
+unfolding allWithin
+stray-last table values number stray t v =
+    ap₂ (λ (rows registers : List ℕ). eqb stray 0 && allWithin rows registers) (drop-of-length-le table t) (drop-of-length-le values v)
+    ∙ and-true (eqb stray 0)
 
 -- and may take another value that is
 pub set-within : (table values : List ℕ) (number new : ℕ)

@@ -1,0 +1,6 @@
+pub mod Part
+pub mod Rows
+pub mod Computed
+pub mod Cases
+pub mod Kept
+pub mod Writer

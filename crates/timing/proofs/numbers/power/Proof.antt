@@ -1,0 +1,19 @@
+-- `timing::numbers::power` meets its contract. Assumes nothing.
+use Prim.Native.Nat.{_^_}
+use mathlib.Core.Path.{_∙_}
+use native.Mathlib.Nat.{one-mul}
+use native.Mathlib.Omega.{arith}
+use lib.Dec.{lit<}
+use lib.Pow.{shl-exact}
+use borrow.Author.Needs.{needs}
+use Rattle.timing.proofs.numbers.power.Statement.{statement}
+use Rattle.timing.proofs.numbers.power.Tie as tie
+
+shl-result : tie.Need-shl-result
+shl-result c = search needs
+
+returns : tie.Need-returns
+returns c = shl-exact 1 (c .args .n) 32 (lit< tt) (omega arith) ∙ one-mul (2 ^ c .args .n)
+
+pub power-spec : {M : Type 1} → statement M
+power-spec = tie.close (tie.spec shl-result returns)

@@ -1,0 +1,57 @@
+-- `timing::read_timing` meets its contract, by what its tests and calls found. Assumes nothing.
+use Prim.Native.Nat.{ℕ, _^_, _<_}
+use mathlib.Core.Path.{sym, subst, _∙_}
+use mathlib.Core.List.{List}
+use borrow.Author.Tests.{not-true, not-false}
+use lib.ListN.{getD}
+use Rattle.file.specs.File.{register}
+use Rattle.timing.specs.Table.{wide}
+use Rattle.timing.proofs.Cases.{read-unsound, read-done}
+use Rattle.timing.proofs.Computed.{numbers-below}
+use borrow.Author.Needs.{needs}
+use Rattle.timing.proofs.read_timing.Statement.{statement}
+use Rattle.timing.proofs.read_timing.Tie as tie
+
+is-sound-requires : tie.Need-is-sound-requires
+is-sound-requires c κs = search needs
+
+none-requires : tie.Need-none-requires
+none-requires c κs = search needs
+
+returns : tie.Need-returns
+returns c = read-unsound (c .before .before .before .args .t1) (c .none .result) (sym (c .before .before .is-sound .ensures) ∙ not-true (c .before .before .is-sound .result) (c .before .if1 .taken)) (c .none .ensures)
+
+element-copy-out-is-wide : tie.Need-element-copy-out-is-wide
+element-copy-out-is-wide c = search needs
+
+is-wide-requires : tie.Need-is-wide-requires
+is-wide-requires c κs = search needs
+
+slice-aggregate-read : tie.Need-slice-aggregate-read
+slice-aggregate-read c = search needs
+
+read-requires : tie.Need-read-requires
+read-requires c κs = search needs
+
+of-requires : tie.Need-of-requires
+of-requires c κs =
+    λ k h. subst (λ (l : List ℕ). getD l k 0 < 2 ^ 16) (sym (c .before .read .ensures)) (numbers-below (c .before .before .before .before .before .before .is-wide .result) (c .before .before .before .before .before .before .before .before .before .before .args .t1 .registers) k h)
+
+returns-2 : tie.Need-returns-2
+unfolding wide register
+returns-2 c =
+    read-done (c .before .before .before .before .before .before .before .before .before .before .before .args .t1) (c .of .result) (c .before .before .before .before .before .before .before .is-wide .result) (c .before .before .read .last .1 .1 .0) (sym (c .before .before .before .before .before .before .before .before .before .before .is-sound .ensures) ∙ not-false (c .before .before .before .before .before .before .before .before .before .before .is-sound .result) (c .before .before .before .before .before .before .before .before .before .if1 .left)) (c .before .before .before .before .before .before .before .is-wide .ensures) (c .before .before .read .ensures) (c .of .ensures)
+
+pub read-timing-spec : {M : Type 1} → statement M
+read-timing-spec =
+    tie.close
+    (tie.spec
+    is-sound-requires
+    none-requires
+    returns
+    element-copy-out-is-wide
+    is-wide-requires
+    slice-aggregate-read
+    read-requires
+    of-requires
+    returns-2)
