@@ -9,3 +9,4 @@ pub mod Halves
 pub mod Looks
 pub mod Shown
 pub mod Decided
+pub mod Bytes

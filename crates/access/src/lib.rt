@@ -4,6 +4,7 @@ mod decode;
 mod engine;
 mod place;
 mod record;
+mod run;
 
 pub use access::Accessed;
 pub use place::Place;
