@@ -3,3 +3,4 @@ pub mod Stored
 pub mod Test
 pub mod Ends
 pub mod Lists
+pub mod Walk
