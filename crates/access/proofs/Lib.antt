@@ -9,3 +9,5 @@ pub mod Halves
 pub mod Looks
 pub mod Shown
 pub mod Decided
+pub mod Reading
+pub mod Thin
