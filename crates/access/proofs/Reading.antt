@@ -2,7 +2,7 @@
 use Prim.Native.Nat.{ℕ, zero, suc, _<_, _≤_, _+_, _*_, _-_, min}
 use mathlib.Core.Path.{_≡_, refl, sym, ap, _∙_}
 use mathlib.Core.List.{List, [], _∷_}
-use native.Mathlib.Nat.{le-of-suc-le-suc, not-suc-le-zero}
+use native.Mathlib.Nat.{le-of-suc-le-suc, not-suc-le-zero, zero-add, suc-add}
 use native.Mathlib.Omega.{arith}
 use lib.Dec.{lit<}
 use lib.ListN.{length, getD, take, drop, length-take, length-drop, drop-of-length-le}
@@ -87,3 +87,17 @@ drop-taken (suc n) (x ∷ xs) = drop-taken n xs
 
 pub left-after : (xs : List ℕ) (n m : ℕ) → m ≡ min n (length xs) → drop m xs ≡ drop n xs
 left-after xs n m e = ap (λ (k : ℕ). drop k xs) (e ∙ sym (length-take n xs)) ∙ drop-taken n xs
+
+-- past what stands next, a reader has 8 bytes less to read
+drop-none : {A : Type 0} (n : ℕ) → _≡_ {A = List A} (drop n []) []
+drop-none zero = refl
+drop-none (suc n) = refl
+
+drop-more : {A : Type 0} (m n : ℕ) (xs : List A) → drop (m + n) xs ≡ drop n (drop m xs)
+drop-more zero n xs = ap (λ (k : ℕ). drop k xs) (zero-add n)
+drop-more (suc m) n [] = drop-none (suc m + n) ∙ sym (drop-none n)
+drop-more (suc m) n (x ∷ xs) = ap (λ (k : ℕ). drop k (x ∷ xs)) (suc-add m n) ∙ drop-more m n xs
+
+pub left-past-next : (xs : List ℕ) (at : ℕ) → drop (afterNext xs at) xs ≡ drop 8 (drop at xs)
+unfolding afterNext
+left-past-next xs at = drop-more at (length (take 8 (drop at xs))) xs ∙ drop-taken 8 (drop at xs)
