@@ -3,11 +3,15 @@ mod access;
 mod decode;
 mod engine;
 mod place;
+mod reader;
 mod record;
 mod run;
 
 pub use access::Accessed;
 pub use place::Place;
+pub use reader::Next;
+pub use reader::Reader;
+pub use reader::unread;
 pub use record::Item;
 pub use record::Record;
 pub use record::Reply;

@@ -9,3 +9,4 @@ pub mod Split
 pub mod Tables
 pub mod Encoded
 pub mod Bounded
+pub mod Walk

@@ -2,6 +2,7 @@
 mod answer;
 mod effect;
 mod palette;
+mod pointer;
 mod registers;
 mod sound;
 
@@ -10,5 +11,8 @@ pub use effect::Effect;
 pub use effect::Reach;
 pub use palette::Colour;
 pub use palette::Pointer;
+pub use pointer::read_pixel;
+pub use pointer::write_address;
+pub use pointer::write_pixel;
 pub use registers::File;
 pub use sound::is_sound;

@@ -1,0 +1,103 @@
+-- Records and positions of a trace: what the functions on a slice and a number compute is what the definitions say. Assumes nothing.
+use Prim.Native.Nat.{ℕ, zero, suc, _<_, _≤_, _+_, _*_, _-_, min}
+use mathlib.Core.Path.{_≡_, refl, sym, ap, _∙_}
+use mathlib.Core.List.{List, [], _∷_}
+use native.Mathlib.Nat.{le-of-suc-le-suc, not-suc-le-zero, zero-add, suc-add}
+use native.Mathlib.Omega.{arith}
+use lib.Dec.{lit<}
+use lib.ListN.{length, getD, take, drop, length-take, length-drop, drop-of-length-le}
+use borrow.Author.Tests.{le-leb, lt-leb, lt-ltb, le-ltb}
+use Rattle.access.specs.declared.record.Record.{Record}
+use Rattle.access.specs.declared.record.Item.{Item}
+use Rattle.access.specs.declared.record.Item.the-variants.{Whole, Fragment}
+use Rattle.access.specs.declared.reader.Next.{Next}
+use Rattle.access.specs.declared.reader.Next.the-variants.{Item as Left, End}
+use Rattle.access.specs.Records.{two, four, recordOf, itemOf}
+use Rattle.access.specs.Reader.{nextAt, afterNext}
+
+-- an entry of the first so many
+getD-take : {A : Type 0} (n i : ℕ) (xs : List A) (d : A) → i < n → getD (take n xs) i d ≡ getD xs i d
+getD-take zero i xs d h = absurd (not-suc-le-zero h)
+getD-take (suc n) i [] d h = refl
+getD-take (suc n) zero (x ∷ xs) d h = refl
+getD-take (suc n) (suc i) (x ∷ xs) d h = getD-take n i xs d (le-of-suc-le-suc h)
+
+-- a record is made of its first 8 bytes
+record-taken : (xs : List ℕ) → recordOf (take 8 xs) ≡ recordOf xs
+unfolding recordOf two four
+record-taken xs = λ i.
+    record {
+      kind = getD-take 8 0 xs 0 (lit< tt) i;
+      width = getD-take 8 1 xs 0 (lit< tt) i;
+      address = getD-take 8 2 xs 0 (lit< tt) i + 256 * getD-take 8 3 xs 0 (lit< tt) i;
+      value = getD-take 8 4 xs 0 (lit< tt) i + 256 * getD-take 8 5 xs 0 (lit< tt) i + 65536 * (getD-take 8 6 xs 0 (lit< tt) i + 256 * getD-take 8 7 xs 0 (lit< tt) i);
+    }
+
+-- a record that was made of the bytes, two by two
+pub record-read : (xs : List ℕ) {b₀ b₁ b₂ b₃ b₄ b₅ b₆ b₇ a lo hi v : ℕ} → b₀ ≡ getD xs 0 0 → b₁ ≡ getD xs 1 0 → b₂ ≡ getD xs 2 0 → b₃ ≡ getD xs 3 0 → b₄ ≡ getD xs 4 0 → b₅ ≡ getD xs 5 0 → b₆ ≡ getD xs 6 0 → b₇ ≡ getD xs 7 0
+    → a ≡ b₂ + 256 * b₃ → lo ≡ b₄ + 256 * b₅ → hi ≡ b₆ + 256 * b₇ → v ≡ lo + 65536 * hi → _≡_ {A = Record} (record { kind = b₀; width = b₁; address = a; value = v }) (recordOf (take 8 xs))
+unfolding recordOf two four
+record-read xs e₀ e₁ e₂ e₃ e₄ e₅ e₆ e₇ ea el eh ev =
+    (λ i. record { kind = e₀ i; width = e₁ i; address = (ea ∙ pair e₂ e₃) i; value = (ev ∙ (λ j. (el ∙ pair e₄ e₅) j + 65536 * (eh ∙ pair e₆ e₇) j)) i }) ∙ sym (record-taken xs)
+  where
+    pair : {l l′ h h′ : ℕ} → l ≡ l′ → h ≡ h′ → l + 256 * h ≡ l′ + 256 * h′
+    pair e f = λ i. e i + 256 * f i
+
+-- of what is whole, and of a fragment
+pub whole-read : (xs : List ℕ) (r : Record) → r ≡ recordOf (take 8 xs) → 8 ≤ length xs → Whole r ≡ itemOf (take 8 xs)
+unfolding itemOf
+whole-read xs r e h = rw (le-leb 8 (length (take 8 xs)) (omega (arith, length-take 8 xs))) (ap {B = Item} (λ (s : Record). Whole s) e)
+
+pub fragment-read : (xs : List ℕ) (r : Record) → r ≡ recordOf (take 8 xs) → length xs < 8 → Fragment r ≡ itemOf (take 8 xs)
+unfolding itemOf
+fragment-read xs r e h = rw (lt-leb 8 (length (take 8 xs)) (omega (arith, length-take 8 xs))) (ap {B = Item} (λ (s : Record). Fragment s) e)
+
+-- what is left from a position on
+all-taken : {A : Type 0} (n : ℕ) (xs : List A) → length xs ≤ n → take n xs ≡ xs
+all-taken zero [] h = refl
+all-taken zero (x ∷ xs) h = absurd (not-suc-le-zero h)
+all-taken (suc n) [] h = refl
+all-taken (suc n) (x ∷ xs) h = ap (λ (ys : List _). x ∷ ys) (all-taken n xs (le-of-suc-le-suc h))
+
+pub part-left : (xs : List ℕ) (at : ℕ) → take (length xs - at) (drop at xs) ≡ drop at xs
+part-left xs at = all-taken (length xs - at) (drop at xs) (omega (arith, length-drop at xs))
+
+pub nothing-left : (xs : List ℕ) (at : ℕ) → length xs ≤ at → take (length xs - length xs) (drop (length xs) xs) ≡ drop at xs
+nothing-left xs at h = part-left xs (length xs) ∙ drop-of-length-le xs {i = length xs} (omega arith) ∙ sym (drop-of-length-le xs {i = at} h)
+
+-- what stands next
+pub next-read : (xs : List ℕ) (at : ℕ) (r : Item) → at < length xs → r ≡ itemOf (take 8 (take (length xs - at) (drop at xs))) → Left r ≡ nextAt xs at
+unfolding nextAt
+next-read xs at r h e = rw (lt-ltb at (length xs) h) (ap {B = Next} (λ (i : Item). Left i) (e ∙ ap (λ (ys : List ℕ). itemOf (take 8 ys)) (part-left xs at)))
+
+pub end-read : (xs : List ℕ) (at : ℕ) → length xs ≤ at → End ≡ nextAt xs at
+unfolding nextAt
+end-read xs at h = rw (le-ltb at (length xs) h) refl
+
+-- the next position, by the length of the trace
+pub after-is : (trace : List ℕ) (at : ℕ) → afterNext trace at ≡ at + min 8 (length trace - at)
+unfolding afterNext
+after-is trace at = ap (λ (n : ℕ). at + n) (length-take 8 (drop at trace) ∙ ap (min 8) (length-drop at trace))
+
+-- what is left past the first so many, however few there are
+drop-taken : {A : Type 0} (n : ℕ) (xs : List A) → drop (length (take n xs)) xs ≡ drop n xs
+drop-taken zero xs = refl
+drop-taken (suc n) [] = refl
+drop-taken (suc n) (x ∷ xs) = drop-taken n xs
+
+pub left-after : (xs : List ℕ) (n m : ℕ) → m ≡ min n (length xs) → drop m xs ≡ drop n xs
+left-after xs n m e = ap (λ (k : ℕ). drop k xs) (e ∙ sym (length-take n xs)) ∙ drop-taken n xs
+
+-- past what stands next, a reader has 8 bytes less to read
+drop-none : {A : Type 0} (n : ℕ) → _≡_ {A = List A} (drop n []) []
+drop-none zero = refl
+drop-none (suc n) = refl
+
+drop-more : {A : Type 0} (m n : ℕ) (xs : List A) → drop (m + n) xs ≡ drop n (drop m xs)
+drop-more zero n xs = ap (λ (k : ℕ). drop k xs) (zero-add n)
+drop-more (suc m) n [] = drop-none (suc m + n) ∙ sym (drop-none n)
+drop-more (suc m) n (x ∷ xs) = ap (λ (k : ℕ). drop k (x ∷ xs)) (suc-add m n) ∙ drop-more m n xs
+
+pub left-past-next : (xs : List ℕ) (at : ℕ) → drop (afterNext xs at) xs ≡ drop 8 (drop at xs)
+unfolding afterNext
+left-past-next xs at = drop-more at (length (take 8 (drop at xs))) xs ∙ drop-taken 8 (drop at xs)

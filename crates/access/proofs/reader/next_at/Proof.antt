@@ -1,0 +1,27 @@
+-- `next_at` meets its contract. Assumes nothing.
+use Rattle.access.proofs.Reading.{next-read, end-read}
+use borrow.Author.Needs.{needs}
+use Rattle.access.proofs.reader.next_at.Statement.{statement}
+use Rattle.access.proofs.reader.next_at.Tie as tie
+
+sub-left : tie.Need-sub-left
+sub-left c = search needs
+
+part-left-start : tie.Need-part-left-start
+part-left-start c = search needs
+
+part-left-end : tie.Need-part-left-end
+part-left-end c = search needs
+
+item-of-requires : tie.Need-item-of-requires
+item-of-requires c κs = search needs
+
+returns : tie.Need-returns
+returns c = next-read (c .before .before .before .before .args .trace .now) (c .before .before .before .before .args .at) _ (c .before .before .if1 .taken) (c .item-of .ensures)
+
+returns-2 : tie.Need-returns-2
+returns-2 c = end-read (c .before .before .args .trace .now) (c .before .before .args .at) (c .if1 .left)
+
+pub next-at-spec : {M : Type 1} → statement M
+next-at-spec =
+    tie.close (tie.spec sub-left part-left-start part-left-end item-of-requires returns returns-2)
