@@ -48,17 +48,22 @@ module _ (w : File) (before : List ℕ) where
   unfolding planAnswer refused codeOf
   plan-short s e l = plan-refused ShortBuffer (rw (s, eq-eqb (w .pointer .next) 0 e, lt-leb 8192 (length before) l)) refl
 
-  pub plan-made : IsFile w → sound w ≡ true → w .pointer .next ≡ 0 → 8192 ≤ length before → (after : List ℕ)
-      → after ≡ traceOf (planRecords w) ++ drop 7784 before → PlanKept w before after (record { answer = Done 0; count = 973 })
+  pub plan-made : IsFile w → sound w ≡ true → w .pointer .next ≡ 0 → 8192 ≤ length before → (count : ℕ) → count ≡ length (planRecords w)
+      → (after : List ℕ) → after ≡ traceOf (planRecords w) ++ drop 7784 before → PlanKept w before after (record { answer = Done 0; count = count })
   unfolding planAnswer refused codeOf
-  plan-made wf s e l after filled =
+  plan-made wf s e l count counted after filled =
       record {
         answered = rw (s, eq-eqb (w .pointer .next) 0 e, le-leb 8192 (length before) l);
-        made = λ _.
-            record { records = planRecords w; plans = plan-serves w wf (passes (sound w) s) e; counted = sym (plan-count w wf); filled = filled };
+        made = λ _. record { records = planRecords w; plans = plan-serves w wf (passes (sound w) s) e; counted = counted; filled = all };
         none = λ t. absurd (true≢false (sym t));
         kept = λ t. absurd (true≢false (sym t));
       }
+    where
+      many : 7784 ≡ 8 * count
+      many = omega (arith, counted, plan-count w wf)
+
+      all : after ≡ traceOf (planRecords w) ++ drop (8 * count) before
+      all = filled ∙ ap (λ (n : ℕ). traceOf (planRecords w) ++ drop n before) many
 
 -- ---- a restore
 

@@ -7,11 +7,11 @@ use lib.ListN.{length, take, drop}
 use denote.Ref.{now}
 use Rattle.access.specs.Records.{bytesOf}
 use Rattle.access.specs.declared.record.Record.{Record}
-use Rattle.plan.specs.Plan.{planRecords}
 use Rattle.plan.specs.Written.{recordAt}
-use Rattle.plan.proofs.InBytes.{partly, partly-none, partly-more, partly-all}
-use Rattle.plan.proofs.Typed.{is-file}
+use Rattle.plan.specs.Plan.{planRecords}
 use Rattle.plan.proofs.Counted.{plan-count}
+use Rattle.plan.proofs.Typed.{is-file}
+use Rattle.plan.proofs.InBytes.{partly, partly-none, partly-more, partly-all}
 use Rattle.plan.proofs.planning.write_records.Statement.{statement}
 use Rattle.plan.proofs.planning.write_records.Tie as tie
 

@@ -9,9 +9,9 @@ use lib.Dec.{eqb}
 use Rattle.bits.specs.Store.{bit}
 use Rattle.file.specs.File.{register}
 use Rattle.access.specs.declared.record.Record.{Record}
-use Rattle.plan.specs.Plan.{portRead, indices}
 use Rattle.plan.specs.Steps.{valueFrom, stepRecord, selecting, stepsOf, along}
 use Rattle.plan.specs.Written.{nothing}
+use Rattle.plan.specs.Plan.{portRead, indices}
 use Rattle.plan.specs.Roads.{byHalf, indexRoads}
 use Rattle.plan.proofs.records.index_at.Statement.{statement}
 use Rattle.plan.proofs.records.index_at.Tie as tie

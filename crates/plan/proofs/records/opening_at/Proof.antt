@@ -1,8 +1,8 @@
 -- `opening_at` meets its contract. Assumes nothing.
 use Prim.Native.Nat.{ℕ}
-use mathlib.Core.Path.{ap, _∙_}
 use mathlib.Core.Bool.{cond}
 use mathlib.Core.List.{List, [], _∷_}
+use mathlib.Core.Path.{ap, _∙_}
 use borrow.Author.Needs.{needs}
 use lib.ListN.{getD}
 use lib.Dec.{eqb}
@@ -10,8 +10,8 @@ use Rattle.bits.specs.Store.{bit}
 use Rattle.file.specs.File.{register}
 use Rattle.access.specs.declared.record.Record.{Record}
 use Rattle.plan.specs.Written.{nothing}
-use Rattle.plan.specs.Plan.{mmioWrite, portRead, openSpaces, openLock, openPalette, opening}
 use Rattle.plan.specs.Roads.{byHalf}
+use Rattle.plan.specs.Plan.{mmioWrite, portRead, openSpaces, openLock, openPalette, opening}
 use Rattle.plan.proofs.records.opening_at.Statement.{statement}
 use Rattle.plan.proofs.records.opening_at.Tie as tie
 

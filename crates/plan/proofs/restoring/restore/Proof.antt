@@ -4,8 +4,8 @@ use native.Mathlib.Omega.{arith}
 use borrow.Author.Needs.{needs}
 use borrow.Author.Tests.{not-true, not-false}
 use denote.Ref.{now}
-use Rattle.plan.proofs.Kept.{restore-unsound, restore-unplanned, room, never-refused, restore-done}
 use Rattle.plan.proofs.Typed.{is-file}
+use Rattle.plan.proofs.Kept.{restore-unsound, restore-unplanned, room, never-refused, restore-done}
 use Rattle.plan.proofs.restoring.restore.Statement.{statement}
 use Rattle.plan.proofs.restoring.restore.Tie as tie
 

@@ -1,7 +1,7 @@
 -- `run_plan` meets its contract. The loop: what is left to run says of the whole what the whole says. Assumes nothing.
 use Prim.Native.Nat.{_-_}
-use mathlib.Core.Path.{sym, _∙_}
 use mathlib.Core.Bool.{true≢false}
+use mathlib.Core.Path.{sym, _∙_}
 use native.Mathlib.Omega.{arith}
 use denote.Ref.{now}
 use Rattle.plan.proofs.Coursed.{Reached, at-start, onward, stopped, all-accepted, all-run}

@@ -4,8 +4,8 @@ use mathlib.Core.List.{map}
 use borrow.Author.Needs.{needs}
 use Rattle.file.specs.Registers.{sequencer, crtc, graphics, attribute, pipeline}
 use Rattle.access.specs.Checks.{isOneOf}
-use Rattle.plan.specs.Steps.{selecting, stepsOf, along}
 use Rattle.plan.specs.Roads.{eachRoad, but, registerRoads}
+use Rattle.plan.specs.Steps.{selecting, stepsOf, along}
 use Rattle.plan.proofs.Placed.{packedSource, packed, sameSource, sameRow, sameRows, row-at}
 use Rattle.plan.proofs.rows.register_at.Statement.{statement}
 use Rattle.plan.proofs.rows.register_at.Tie as tie
