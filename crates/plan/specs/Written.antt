@@ -17,7 +17,7 @@ nothing = record { kind = 0; width = 0; address = 0; value = 0 }
 unfoldable pub recordAt : File → ℕ → Record
 recordAt w k = getD (planRecords w) k nothing
 
--- a row's value: below 100h the value itself, from 100h on what the register of that number less 100h holds
+-- a row's value: below 100h itself, from 100h on what the register of that number less 100h holds
 unfoldable pub rowValue : List ℕ → ℕ → ℕ
 rowValue registers source = cond (ltb source 256) source (getD registers (source - 256) 0)
 
