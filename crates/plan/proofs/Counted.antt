@@ -14,19 +14,19 @@ use Rattle.plan.specs.Plan.{opening, pixels, entries, colours, indices, 
 use Rattle.plan.specs.Steps.{stepRecord, selecting, stepsOf, along}
 use Rattle.plan.specs.Restores.{IsFile}
 
-pixels-count : (cs : List Colour) → length (pixels cs) ≡ 3 * length cs
+pub pixels-count : (cs : List Colour) → length (pixels cs) ≡ 3 * length cs
 unfolding pixels
 pixels-count [] = refl
 pixels-count (c ∷ cs) = omega (arith, pixels-count cs)
 
 -- 769 records for the palette, 50 for the bank
-colours-count : (w : File) → IsFile w → length (colours w) ≡ 819
+pub colours-count : (w : File) → IsFile w → length (colours w) ≡ 819
 unfolding colours entries
 colours-count w wf =
     rw (length-append, pixels-count (w .palette), pixels-count (w .bank), wf .palette, wf .bank)
 
 -- one or two records for each register
-registers-count : (w : File) → length (along w registerRoads) ≡ 140
+pub registers-count : (w : File) → length (along w registerRoads) ≡ 140
 unfolding along stepsOf selecting registerRoads eachRoad but isOneOf sequencer crtc graphics attribute pipeline
 registers-count w = length-map (stepsOf registerRoads) (stepRecord w)
 

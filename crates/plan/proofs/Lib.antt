@@ -13,3 +13,8 @@ pub mod Restored
 pub mod Counted
 pub mod Fitting
 pub mod Typed
+pub mod Placed
+pub mod Numbered
+pub mod InBytes
+pub mod Coursed
+pub mod Kept

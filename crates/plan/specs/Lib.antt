@@ -3,3 +3,5 @@ pub mod Steps
 pub mod Plan
 pub mod Restores
 pub mod Refusals
+pub mod Written
+pub mod Promises

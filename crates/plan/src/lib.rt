@@ -1,1 +1,11 @@
 // The plan: records that put any card into a wanted file.
+mod bytes;
+mod planning;
+mod records;
+mod restoring;
+mod rows;
+
+pub use planning::Planned;
+pub use planning::plan;
+pub use restoring::Restored;
+pub use restoring::restore;

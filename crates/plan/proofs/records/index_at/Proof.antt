@@ -1,0 +1,84 @@
+-- `index_at` meets its contract. Assumes nothing.
+use Prim.Native.Nat.{ℕ}
+use mathlib.Core.Bool.{cond}
+use mathlib.Core.Path.{ap, ap₂, _∙_}
+use mathlib.Core.List.{List, [], _∷_}
+use borrow.Author.Needs.{needs}
+use lib.ListN.{getD}
+use lib.Dec.{eqb}
+use Rattle.bits.specs.Store.{bit}
+use Rattle.file.specs.File.{register}
+use Rattle.access.specs.declared.record.Record.{Record}
+use Rattle.plan.specs.Steps.{valueFrom, stepRecord, selecting, stepsOf, along}
+use Rattle.plan.specs.Written.{nothing}
+use Rattle.plan.specs.Plan.{portRead, indices}
+use Rattle.plan.specs.Roads.{byHalf, indexRoads}
+use Rattle.plan.proofs.records.index_at.Statement.{statement}
+use Rattle.plan.proofs.records.index_at.Tie as tie
+
+held-requires : tie.Need-held-requires
+held-requires c κs = search needs
+
+held-requires-2 : tie.Need-held-requires-2
+held-requires-2 c κs = search needs
+
+port-write-requires : tie.Need-port-write-requires
+port-write-requires c κs = search needs
+
+held-requires-3 : tie.Need-held-requires-3
+held-requires-3 c κs = search needs
+
+port-write-requires-2 : tie.Need-port-write-requires-2
+port-write-requires-2 c κs = search needs
+
+by-half-requires : tie.Need-by-half-requires
+by-half-requires c κs = search needs
+
+held-requires-4 : tie.Need-held-requires-4
+held-requires-4 c κs = search needs
+
+port-write-requires-3 : tie.Need-port-write-requires-3
+port-write-requires-3 c κs = search needs
+
+held-requires-5 : tie.Need-held-requires-5
+held-requires-5 c κs = search needs
+
+port-write-requires-4 : tie.Need-port-write-requires-4
+port-write-requires-4 c κs = search needs
+
+toggle-read-requires : tie.Need-toggle-read-requires
+toggle-read-requires c κs = search needs
+
+mul-result : tie.Need-mul-result
+mul-result c = search needs
+
+array-copy-out-result : tie.Need-array-copy-out-result
+array-copy-out-result c = search needs
+
+returns : tie.Need-returns
+unfolding indices indexRoads along stepsOf selecting stepRecord valueFrom byHalf register
+returns c = ap (λ (l : List Record). getD l (c .before .before .before .before .before .before .before .before .before .before .before .before .before .args .k) nothing)
+    (λ i. (c .before .before .before .before .before .before .before .before .before .port-write .ensures ∙ ap (λ (v : ℕ). record { kind = 3; width = 1; address = 0x3C4; value = v }) (c .before .before .before .before .before .before .before .before .before .before .held2 .ensures)) i
+    ∷ (c .before .before .before .before .before .before .before .port-write2 .ensures ∙ ap (λ (v : ℕ). record { kind = 3; width = 1; address = 0x3CE; value = v }) (c .before .before .before .before .before .before .before .before .held3 .ensures)) i
+    ∷ (c .before .before .before .before .port-write3 .ensures ∙ ap₂ (λ (a v : ℕ). record { kind = 3; width = 1; address = a; value = v }) (c .before .before .before .before .before .before .by-half .ensures ∙ ap (λ (m : ℕ). cond (eqb (bit 0 m) 1) 0x3D4 0x3B4) (c .before .before .before .before .before .before .before .before .before .before .before .held .ensures)) (c .before .before .before .before .before .held4 .ensures)) i
+    ∷ (c .before .before .port-write4 .ensures ∙ ap (λ (v : ℕ). record { kind = 3; width = 1; address = 0x3C0; value = v }) (c .before .before .before .held5 .ensures)) i
+    ∷ (c .before .toggle-read .ensures ∙ ap (λ (m : ℕ). cond (c .before .before .before .before .before .before .before .before .before .before .before .before .before .args .wanted .toggle) (portRead 0x3C0) (portRead (cond (eqb (bit 0 m) 1) 0x3DA 0x3BA))) (c .before .before .before .before .before .before .before .before .before .before .before .held .ensures)) i ∷ [])
+
+pub index-at-spec : {M : Type 1} → statement M
+index-at-spec =
+    tie.close
+    (tie.spec
+    held-requires
+    held-requires-2
+    port-write-requires
+    held-requires-3
+    port-write-requires-2
+    by-half-requires
+    held-requires-4
+    port-write-requires-3
+    held-requires-5
+    port-write-requires-4
+    toggle-read-requires
+    mul-result
+    array-copy-out-result
+    returns)
