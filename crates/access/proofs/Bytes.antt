@@ -18,7 +18,7 @@ module _ (trace : List ℕ) (at : ℕ) where
   unfolding two
   two-there i h =
       ap₂ (λ (x y : ℕ). x + 256 * y) (byte-there i (omega arith))
-        (byte-there (i + 1) h ∙ ap (λ (n : ℕ). getD trace n 0) (sym (add-assoc at i 1)))
+      (byte-there (i + 1) h ∙ ap (λ (n : ℕ). getD trace n 0) (sym (add-assoc at i 1)))
 
   -- the record of the 8 bytes from a place on, by the trace's own bytes
   pub record-there : recordOf (take 8 (drop at trace))
@@ -26,7 +26,7 @@ module _ (trace : List ℕ) (at : ℕ) where
         kind = getD trace at 0;
         width = getD trace (at + 1) 0;
         address = two trace (at + 2);
-        value = two trace (at + 4) + 65536 * two trace (at + 6)
+        value = two trace (at + 4) + 65536 * two trace (at + 6);
       }
   unfolding recordOf four
   record-there = λ i.
@@ -34,5 +34,5 @@ module _ (trace : List ℕ) (at : ℕ) where
         kind = (byte-there 0 (lit< tt) ∙ ap (λ (n : ℕ). getD trace n 0) (add-zero at)) i;
         width = byte-there 1 (lit< tt) i;
         address = two-there 2 (lit< tt) i;
-        value = ap₂ (λ (x y : ℕ). x + 65536 * y) (two-there 4 (lit< tt)) (two-there 6 (lit< tt)) i
+        value = ap₂ (λ (x y : ℕ). x + 65536 * y) (two-there 4 (lit< tt)) (two-there 6 (lit< tt)) i;
       }

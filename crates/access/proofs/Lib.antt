@@ -10,3 +10,6 @@ pub mod Looks
 pub mod Shown
 pub mod Decided
 pub mod Bytes
+pub mod Runs
+pub mod Loop
+pub mod Parted

@@ -6,3 +6,4 @@ pub mod Checks
 pub mod Access
 pub mod Looked
 pub mod Run
+pub mod Served

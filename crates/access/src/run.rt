@@ -6,17 +6,22 @@ ghost use Prim.Native.Nat.{_+_, _*_, _%_, _<_, _≤_};
 ghost use lib.Dec.{T};
 ghost use lib.ListN.{length, getD, take, drop, set};
 ghost use Rattle.bits.specs.Store.{store as storeBits};
-ghost use Rattle.file.specs.Palette.{component};
-ghost use Rattle.file.specs.Sound.{sound};
+ghost use Rattle.file.specs.Sound.{allWithin, sound};
 ghost use Rattle.access.specs.Access.{replyTo};
 ghost use Rattle.access.specs.Records.{two, four, recordOf, replyBytes, items};
+ghost use Rattle.file.specs.Effects.{apply as applyTo};
+ghost use Rattle.file.specs.declared.registers.File.{File as FileOf};
+ghost use Rattle.file.specs.Palette.{pointerSound};
+ghost use Rattle.file.specs.Registers.{storedTable};
 ghost use Rattle.access.specs.Run.{fileAfter, replies as repliesOf, run as runOf};
+ghost use Rattle.access.specs.Served.{Parts, putBack, lands, Serves};
 use crate::engine;
 use crate::record::Record;
 use file::Answer;
 use file::Colour;
 use file::Effect;
 use file::File;
+use file::Pointer;
 use file::is_sound;
 
 // What a run hands back: its answer, the new file and the count of replies. `unread` gives the part of the trace that is left.
@@ -72,4 +77,160 @@ fn put_reply(replies: &mut [u8], at: usize, kind: u8, address: u16, code: u8, va
     replies[at + 5] = (value / 256) as u8;
     replies[at + 6] = 0;
     replies[at + 7] = 0;
+}
+
+// One of two colours.
+fn pick(first: bool, a: Colour, b: Colour) -> Colour
+    ensures { λ r. ⌜ r ≡ cond first a b ⌝ }
+{
+    if first { a } else { b }
+}
+
+// The entry of the palette that the pointer names, and that of the bank.
+fn palette_entry(pointer: Pointer) -> usize
+    ensures { λ r. ⌜ (r ≡ pointer .address) × (r < 256) ⌝ }
+{
+    pointer.address as usize
+}
+
+fn bank_entry(pointer: Pointer) -> usize
+    ensures { λ r. ⌜ (r ≡ pointer .address % 16) × (r < 16) ⌝ }
+{
+    (pointer.address % 16) as usize
+}
+
+// One register stored where it stands.
+fn store_in(registers: &mut [u16; 100], number: usize, reach: u16, value: u16)
+    ensures { λ _. ⌜ (number < 100 → now (registers .exit) ≡ set (now (registers .entry)) number (storeBits reach (getD (now (registers .entry)) number 0) value)) ⌝ }
+{
+    if number < 100 {
+        registers[number] = bits::store(reach, registers[number], value);
+    }
+}
+
+// What an access leaves beside the registers: its reply's code and value, pointer, toggle, and the two entries that the pointer named.
+pub struct Served {
+    pub code: u8,
+    pub value: u16,
+    pub pointer: Pointer,
+    pub toggle: bool,
+    pub palette: Colour,
+    pub bank: Colour,
+}
+
+// An effect on the registers where they stand, and on the other parts by value.
+fn put_effect(registers: &mut [u16; 100], before: Served, effect: Effect) -> Served
+    ensures { λ r. ⌜ (r .code ≡ before .code) × (r .value ≡ before .value) ⌝ }
+    ensures { λ r. ⌜ ((f : FileOf) → Parts f (now (registers .entry)) before → T (lands (before .pointer) effect) → applyTo effect f ≡ putBack f (before .pointer) (now (registers .exit)) r) ⌝ }
+{
+    let mut after = before;
+    match effect {
+        Effect::Nothing => {}
+        Effect::Store {
+            register,
+            reach,
+            value,
+        } => {
+            store_in(registers, register, reach, value);
+        }
+        Effect::StoreAndFlip {
+            register,
+            reach,
+            value,
+        } => {
+            store_in(registers, register, reach, value);
+            after.toggle = !before.toggle;
+        }
+        Effect::Toggle(state) => {
+            after.toggle = state;
+        }
+        Effect::Move(next) => {
+            after.pointer = next;
+        }
+        Effect::Paint {
+            bank,
+            entry: _,
+            colour,
+            pointer: next,
+        } => {
+            after.bank = pick(bank, colour, before.bank);
+            after.palette = pick(bank, before.palette, colour);
+            after.pointer = next;
+        }
+    }
+    after
+}
+
+// One access: the registers where they stand, the other parts by value.
+fn serve(registers: &mut [u16; 100], before: Served, asked: Record) -> Served
+    requires { ⌜ T (allWithin storedTable (now registers)) ⌝ }
+    requires { ⌜ T (pointerSound (before .pointer)) ⌝ }
+    ensures { λ r. ⌜ ((f : FileOf) → T (sound f) → Parts f (now (registers .entry)) before → Serves f asked (before .pointer) (now (registers .exit)) r) ⌝ }
+{
+    let pointer = before.pointer;
+    let named = pick(
+        engine::is_in_bank(registers),
+        before.bank,
+        before.palette,
+    );
+    let shown = named.component(pointer.next);
+    let decision = engine::decide(registers, before.toggle, pointer, shown, asked);
+    let answer = decision.answer;
+    let mut said = before;
+    said.code = answer.code();
+    said.value = answer.value();
+    let effect = decision.effect;
+    put_effect(registers, said, effect)
+}
+
+// The first `count` whole records of a trace, which has them, into as many places of a reply buffer, which has them.
+fn run_whole(whole: File, trace: &[u8], replies: &mut [u8], count: usize) -> File
+    requires { ⌜ T (sound whole) ⌝ }
+    requires { ⌜ 8 * count ≤ length (now trace) ⌝ }
+    requires { ⌜ 8 * count ≤ length (now replies) ⌝ }
+    ensures { λ r. ⌜ r ≡ fileAfter whole (items count (now (trace .entry))) ⌝ }
+    ensures { λ _. ⌜ now (replies .exit) ≡ repliesOf whole (items count (now (trace .entry))) ++ drop (8 * count) (now (replies .entry)) ⌝ }
+{
+    let mut registers = whole.registers;
+    let mut palette = whole.palette;
+    let mut bank = whole.bank;
+    let mut pointer = whole.pointer;
+    let mut toggle = whole.toggle;
+    let mut n: usize = 0;
+    while n < count {
+        let asked = record_at(trace, 8 * n);
+        let at = palette_entry(pointer);
+        let within = bank_entry(pointer);
+        let before = Served {
+            code: 0,
+            value: 0,
+            pointer,
+            toggle,
+            palette: palette[at],
+            bank: bank[within],
+        };
+        let after = serve(&mut registers, before, asked);
+        put_reply(
+            replies,
+            8 * n,
+            asked.kind,
+            asked.address,
+            after.code,
+            after.value,
+        );
+        let entry = after.palette;
+        palette[at] = entry;
+        let colour = after.bank;
+        bank[within] = colour;
+        pointer = after.pointer;
+        toggle = after.toggle;
+        n += 1;
+    }
+    File {
+        registers,
+        palette,
+        bank,
+        pointer,
+        toggle,
+    }
 }

@@ -49,12 +49,12 @@ add-t17 c = search needs
 
 returns : tie.Need-returns
 returns c = (λ i.
-      record {
-        kind = getD (c .before .before .before .before .before .before .before .before .args .trace .now) (c .before .before .before .before .before .before .before .before .args .at) 0;
-        width = getD (c .before .before .before .before .before .before .before .before .args .trace .now) (c .before .before .before .before .before .before .before .before .args .at + 1) 0;
-        address = c .before .before .before .before .two-at .ensures i;
-        value = ap₂ (λ (x y : ℕ). x + 65536 * y) (c .before .before .widen .ensures .0 ∙ c .before .before .before .two-at2 .ensures) (c .widen2 .ensures .0 ∙ c .before .two-at3 .ensures) i
-      })
+    record {
+      kind = getD (c .before .before .before .before .before .before .before .before .args .trace .now) (c .before .before .before .before .before .before .before .before .args .at) 0;
+      width = getD (c .before .before .before .before .before .before .before .before .args .trace .now) (c .before .before .before .before .before .before .before .before .args .at + 1) 0;
+      address = c .before .before .before .before .two-at .ensures i;
+      value = ap₂ (λ (x y : ℕ). x + 65536 * y) (c .before .before .widen .ensures .0 ∙ c .before .before .before .two-at2 .ensures) (c .widen2 .ensures .0 ∙ c .before .two-at3 .ensures) i;
+    })
     ∙ sym (record-there (c .before .before .before .before .before .before .before .before .args .trace .now) (c .before .before .before .before .before .before .before .before .args .at))
 
 pub record-at-spec : {M : Type 1} → statement M
