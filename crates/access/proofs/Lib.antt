@@ -13,3 +13,4 @@ pub mod Bytes
 pub mod Runs
 pub mod Loop
 pub mod Parted
+pub mod Ends

@@ -14,12 +14,11 @@ use Rattle.file.specs.declared.palette.Pointer.{Pointer}
 use Rattle.file.specs.declared.registers.File.{File}
 use Rattle.file.specs.Effects.{apply, storeIn, paintIn}
 use Rattle.file.specs.File.{register, black, withRegisters, withPalette, withBank, withPointer, withToggle}
-use Rattle.file.specs.Names.{B0}
 use Rattle.file.specs.Palette.{stores}
 use Rattle.access.specs.declared.place.Place.{Place}
 use Rattle.access.specs.declared.place.Place.the-variants.{Register, Attribute, Fixed, ToggleState, AttributeIndex, PaletteState, ReadAddress, WriteAddress, PixelData, ToggleReset, NoRegister, NoAttribute}
 use Rattle.access.specs.declared.record.Record.{Record}
-use Rattle.access.specs.declared.run.Served.{Served}
+use Rattle.access.specs.declared.running.Served.{Served}
 use Rattle.access.specs.Access.{inBank, entryNumber, entry, pixelWrite, writeAt, readAt, effect}
 use Rattle.access.specs.Cells.{seen}
 use Rattle.access.specs.Looked.{inFile}

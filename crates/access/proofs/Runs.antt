@@ -1,18 +1,16 @@
 -- A run, one item more: items, file and replies at the end of a list; soundness along it. Assumes nothing.
 use Prim.Native.Nat.{ℕ, zero, suc, _+_, _*_}
-use mathlib.Core.Path.{_≡_, refl, sym, ap, _∙_, subst}
-use mathlib.Core.Bool.{Bool, true, false, cond}
+use mathlib.Core.Path.{_≡_, refl, sym, ap, _∙_}
 use mathlib.Core.List.{List, [], _∷_, _++_, append-assoc, append-nil}
 use native.Mathlib.Omega.{arith}
 use lib.Dec.{T}
-use lib.ListN.{length, take, drop, length-append}
+use lib.ListN.{length, take, drop}
 use lib.Seq.{drop-drop}
 use Rattle.file.specs.declared.registers.File.{File}
 use Rattle.file.specs.Sound.{sound}
-use Rattle.access.specs.declared.access.Accessed.{Accessed}
 use Rattle.access.specs.declared.record.Item.{Item}
 use Rattle.access.specs.declared.record.Item.the-variants.{Whole, Fragment}
-use Rattle.access.specs.Access.{access, accessItem, recordIn, replyTo}
+use Rattle.access.specs.Access.{accessItem, recordIn, replyTo}
 use Rattle.access.specs.Records.{itemOf, items, replyBytes}
 use Rattle.access.specs.Run.{fileAfter, replies}
 use Rattle.access.proofs.Sane.{access-sound}

@@ -8,14 +8,13 @@ use lib.Dec.{eqb, ltb}
 use lib.ListN.{getD, set}
 use Rattle.file.specs.declared.effect.Effect.{Effect}
 use Rattle.file.specs.declared.effect.Effect.the-variants.{Nothing, Store, StoreAndFlip, Toggle, Move, Paint}
-use Rattle.file.specs.declared.palette.Colour.{Colour}
 use Rattle.file.specs.declared.palette.Pointer.{Pointer}
 use Rattle.file.specs.declared.registers.File.{File}
 use Rattle.file.specs.Answers.{codeOf, valueOf}
 use Rattle.file.specs.Effects.{apply}
 use Rattle.file.specs.File.{black}
 use Rattle.access.specs.declared.record.Record.{Record}
-use Rattle.access.specs.declared.run.Served.{Served}
+use Rattle.access.specs.declared.running.Served.{Served}
 use Rattle.access.specs.Access.{answer, effect}
 
 -- the parts of a file that one access reads: of the colours, the two entries that the pointer names

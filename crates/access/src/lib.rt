@@ -4,10 +4,12 @@ mod decode;
 mod engine;
 mod place;
 mod record;
-mod run;
+mod running;
 
 pub use access::Accessed;
 pub use place::Place;
 pub use record::Item;
 pub use record::Record;
 pub use record::Reply;
+pub use running::Ran;
+pub use running::run;

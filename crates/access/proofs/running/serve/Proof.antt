@@ -1,5 +1,5 @@
 -- `serve` meets its contract. Assumes nothing.
-use mathlib.Core.Path.{_≡_, refl, sym, ap, _∙_, subst}
+use mathlib.Core.Path.{sym, ap, _∙_, subst}
 use lib.Dec.{T}
 use Rattle.file.specs.declared.palette.Colour.{Colour}
 use mathlib.Core.Bool.{Bool, cond}
@@ -12,61 +12,44 @@ use Rattle.access.specs.Served.{lands}
 use Rattle.access.proofs.Parted.{named-entry, effect-lands}
 use Rattle.file.specs.declared.palette.Pointer.{Pointer}
 use borrow.Author.Needs.{needs}
-use Rattle.access.proofs.run.serve.Statement.{statement}
-use Rattle.access.proofs.run.serve.Tie as tie
-use Rattle.access.proofs.run.serve.Reads as reads
-use Rattle.access.proofs.run.serve.Lts as lts
-use Rattle.access.proofs.engine.decide.Reads as decide-reads
-use Rattle.access.proofs.engine.is_in_bank.Reads as is-in-bank-reads
-use Rattle.access.proofs.run.pick.Reads as pick-reads
-use Rattle.access.proofs.run.put_effect.Reads as put-effect-reads
-use Rattle.file.proofs.answer.Answer.code.Reads as code-reads
-use Rattle.file.proofs.answer.Answer.value.Reads as value-reads
-use Rattle.file.proofs.palette.Colour.component.Reads as component-reads
+use Rattle.access.proofs.running.serve.Statement.{statement}
+use Rattle.access.proofs.running.serve.Tie as tie
 
--- src/run.rt:172:9
 is-in-bank-requires : tie.Need-is-in-bank-requires
 is-in-bank-requires c κs = search needs
 
--- src/run.rt:171:9
 pick-requires : tie.Need-pick-requires
 pick-requires c κs = search needs
 
--- src/run.rt:176:9
 component-requires : tie.Need-component-requires
 component-requires c κs = search needs
 
--- src/run.rt:177:9
 decide-requires : tie.Need-decide-requires
 decide-requires c κs = search needs
 
--- src/run.rt:180:5
 code-requires : tie.Need-code-requires
 code-requires c κs = search needs
 
--- src/run.rt:181:5
 value-requires : tie.Need-value-requires
 value-requires c κs = search needs
 
--- src/run.rt:183:5
 put-effect-requires : tie.Need-put-effect-requires
 put-effect-requires c κs = search needs
 
--- src/run.rt:165:1
 returns : tie.Need-returns
 unfolding decision
 returns c = λ f s p.
     let before = c .before .before .before .before .before .before .before .before .before .before .before .args .before in
     let shown = c .before .before .before .before .before .before .component .ensures
-        ∙ ap (λ (k : Colour). component k (before .pointer .next))
-        (c .before .before .before .before .before .before .before .pick .ensures ∙ ap (λ (b : Bool). cond b (before .bank) (before .palette)) (c .before .before .before .before .before .before .before .before .is-in-bank .ensures) ∙ sym (named-entry f _ before p)) in
+    ∙ ap (λ (k : Colour). component k (before .pointer .next))
+    (c .before .before .before .before .before .before .before .pick .ensures ∙ ap (λ (b : Bool). cond b (before .bank) (before .palette)) (c .before .before .before .before .before .before .before .before .is-in-bank .ensures) ∙ sym (named-entry f _ before p)) in
     let decided = c .before .before .before .before .decide .ensures f s (record { same-registers = p .same-registers; same-toggle = p .same-toggle; same-pointer = p .same-pointer; same-shown = sym shown }) in
     record {
       code = c .put-effect .ensures .0 .0 ∙ c .before .before .before .code .ensures ∙ ap (λ (d : Decision). codeOf (d .answer)) decided;
       value = c .put-effect .ensures .0 .1 ∙ c .before .before .value .ensures ∙ ap (λ (d : Decision). valueOf (d .answer)) decided;
       after = sym (ap (λ (d : Decision). apply (d .effect) f) decided)
-        ∙ c .put-effect .ensures .1 f (record { same-registers = p .same-registers; same-pointer = p .same-pointer; same-toggle = p .same-toggle; same-palette = p .same-palette; same-bank = p .same-bank })
-        (subst (λ (q : Pointer). T (lands q (c .before .before .before .before .decide .result .effect))) (p .same-pointer) (subst (λ (d : Decision). T (lands (f .pointer) (d .effect))) (sym decided) (effect-lands f (c .before .before .before .before .before .before .before .before .before .before .before .args .asked))));
+          ∙ c .put-effect .ensures .1 f (record { same-registers = p .same-registers; same-pointer = p .same-pointer; same-toggle = p .same-toggle; same-palette = p .same-palette; same-bank = p .same-bank })
+          (subst (λ (q : Pointer). T (lands q (c .before .before .before .before .decide .result .effect))) (p .same-pointer) (subst (λ (d : Decision). T (lands (f .pointer) (d .effect))) (sym decided) (effect-lands f (c .before .before .before .before .before .before .before .before .before .before .before .args .asked))));
     }
 
 pub serve-spec : {M : Type 1} → statement M

@@ -2,11 +2,10 @@
 use mathlib.Core.Path.{sym, ap₂, _∙_}
 use Prim.Native.Nat.{ℕ, _+_, _*_}
 use lib.ListN.{getD}
-use Rattle.access.specs.declared.record.Record.{Record}
 use Rattle.access.proofs.Bytes.{record-there}
 use borrow.Author.Needs.{needs}
-use Rattle.access.proofs.run.record_at.Statement.{statement}
-use Rattle.access.proofs.run.record_at.Tie as tie
+use Rattle.access.proofs.running.record_at.Statement.{statement}
+use Rattle.access.proofs.running.record_at.Tie as tie
 
 shared-slice-read-t4 : tie.Need-shared-slice-read-t4
 shared-slice-read-t4 c = search needs

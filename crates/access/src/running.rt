@@ -8,12 +8,13 @@ ghost use lib.ListN.{length, getD, take, drop, set};
 ghost use Rattle.bits.specs.Store.{store as storeBits};
 ghost use Rattle.file.specs.Sound.{allWithin, sound};
 ghost use Rattle.access.specs.Access.{replyTo};
-ghost use Rattle.access.specs.Records.{two, four, recordOf, replyBytes, items};
+ghost use Rattle.access.specs.Records.{two, recordOf, replyBytes, items};
+ghost use Rattle.file.specs.declared.answer.Answer.the-variants.{Done as DoneAnswer, Malformed as MalformedAnswer};
 ghost use Rattle.file.specs.Effects.{apply as applyTo};
 ghost use Rattle.file.specs.declared.registers.File.{File as FileOf};
 ghost use Rattle.file.specs.Palette.{pointerSound};
 ghost use Rattle.file.specs.Registers.{storedTable};
-ghost use Rattle.access.specs.Run.{fileAfter, replies as repliesOf, run as runOf};
+ghost use Rattle.access.specs.Run.{fileAfter, replies as repliesOf, runCount, run as runOf};
 ghost use Rattle.access.specs.Served.{Parts, putBack, lands, Serves};
 use crate::engine;
 use crate::record::Record;
@@ -24,7 +25,7 @@ use file::File;
 use file::Pointer;
 use file::is_sound;
 
-// What a run hands back: its answer, the new file and the count of replies. `unread` gives the part of the trace that is left.
+// What a run hands back: its answer, the new file and the count of replies. What is left of the trace begins at 8 times the count.
 pub struct Ran {
     pub answer: Answer,
     pub file: File,
@@ -168,11 +169,7 @@ fn serve(registers: &mut [u16; 100], before: Served, asked: Record) -> Served
     ensures { λ r. ⌜ ((f : FileOf) → T (sound f) → Parts f (now (registers .entry)) before → Serves f asked (before .pointer) (now (registers .exit)) r) ⌝ }
 {
     let pointer = before.pointer;
-    let named = pick(
-        engine::is_in_bank(registers),
-        before.bank,
-        before.palette,
-    );
+    let named = pick(engine::is_in_bank(registers), before.bank, before.palette);
     let shown = named.component(pointer.next);
     let decision = engine::decide(registers, before.toggle, pointer, shown, asked);
     let answer = decision.answer;
@@ -232,5 +229,69 @@ fn run_whole(whole: File, trace: &[u8], replies: &mut [u8], count: usize) -> Fil
         bank,
         pointer,
         toggle,
+    }
+}
+
+// A byte of a trace; a missing one counts as zero.
+fn byte_or_zero(trace: &[u8], at: usize) -> u8
+    ensures { λ r. ⌜ r ≡ getD (now (trace .entry)) at 0 ⌝ }
+{
+    if at < trace.len() { trace[at] } else { 0 }
+}
+
+// The reply to the fragment at the end of a trace: code 2.
+fn put_fragment(trace: &[u8], replies: &mut [u8], at: usize)
+    requires { ⌜ at < length (now trace) ⌝ }
+    requires { ⌜ at + 8 ≤ length (now replies) ⌝ }
+    ensures { λ _. ⌜ now (replies .exit) ≡ take at (now (replies .entry)) ++ replyBytes (replyTo (recordOf (take 8 (drop at (now (trace .entry))))) MalformedAnswer) ++ drop (at + 8) (now (replies .entry)) ⌝ }
+{
+    let low = narrow(byte_or_zero(trace, at + 2));
+    let high = narrow(byte_or_zero(trace, at + 3));
+    put_reply(replies, at, trace[at], low + 256 * high, 2, 0);
+}
+
+// A run from a sound file.
+fn run_sound(whole: File, trace: &[u8], replies: &mut [u8]) -> Ran
+    requires { ⌜ T (sound whole) ⌝ }
+    ensures { λ r. ⌜ (r .answer ≡ DoneAnswer 0) × (r .file ≡ fileAfter whole (items (runCount (now (trace .entry)) (now (replies .entry))) (now (trace .entry)))) × (r .count ≡ runCount (now (trace .entry)) (now (replies .entry))) ⌝ }
+    ensures { λ _. ⌜ now (replies .exit) ≡ repliesOf whole (items (runCount (now (trace .entry)) (now (replies .entry))) (now (trace .entry))) ++ drop (8 * runCount (now (trace .entry)) (now (replies .entry))) (now (replies .entry)) ⌝ }
+{
+    let places = replies.len() / 8;
+    let full = trace.len() / 8;
+    if places <= full {
+        return Ran {
+            answer: Answer::Done(0),
+            file: run_whole(whole, trace, replies, places),
+            count: places,
+        };
+    }
+    let file = run_whole(whole, trace, replies, full);
+    if trace.len() % 8 == 0 {
+        return Ran {
+            answer: Answer::Done(0),
+            file,
+            count: full,
+        };
+    }
+    put_fragment(trace, replies, 8 * full);
+    Ran {
+        answer: Answer::Done(0),
+        file,
+        count: full + 1,
+    }
+}
+
+// A run over a trace: replies into whole 8-byte places of a buffer until records or places end.
+pub fn run(whole: File, trace: &[u8], replies: &mut [u8]) -> Ran
+    ensures { λ r. ⌜ (r .answer ≡ runOf whole (now (trace .entry)) (now (replies .entry)) .answer) × (r .file ≡ runOf whole (now (trace .entry)) (now (replies .entry)) .file) × (r .count ≡ runOf whole (now (trace .entry)) (now (replies .entry)) .count) ⌝ }
+    ensures { λ _. ⌜ now (replies .exit) ≡ runOf whole (now (trace .entry)) (now (replies .entry)) .buffer ⌝ }
+{
+    if is_sound(whole) {
+        return run_sound(whole, trace, replies);
+    }
+    Ran {
+        answer: Answer::NotSound,
+        file: whole,
+        count: 0,
     }
 }

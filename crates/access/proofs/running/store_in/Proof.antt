@@ -1,37 +1,27 @@
 -- `store_in` meets its contract. Assumes nothing.
 use native.Mathlib.Omega.{arith}
 use borrow.Author.Needs.{needs}
-use Rattle.access.proofs.run.store_in.Statement.{statement}
-use Rattle.access.proofs.run.store_in.Tie as tie
-use Rattle.access.proofs.run.store_in.Reads as reads
-use Rattle.access.proofs.run.store_in.Lts as lts
-use Rattle.bits.proofs.store.Reads as store-reads
+use Rattle.access.proofs.running.store_in.Statement.{statement}
+use Rattle.access.proofs.running.store_in.Tie as tie
 
--- src/run.rt:107:48
 mul-store : tie.Need-mul-store
 mul-store c = search needs
 
--- src/run.rt:107:48
 element-copy-out-store : tie.Need-element-copy-out-store
 element-copy-out-store c = search needs
 
--- src/run.rt:107:29
 store-requires : tie.Need-store-requires
 store-requires c κs = search needs
 
--- src/run.rt:107:9
 mul-registers : tie.Need-mul-registers
 mul-registers c = search needs
 
--- src/run.rt:107:9
 element-write-registers : tie.Need-element-write-registers
 element-write-registers c = search needs
 
--- src/run.rt:103:1
 returns : tie.Need-returns
 returns c = λ h. rw (c .store .ensures)
 
--- src/run.rt:103:1
 returns-2 : tie.Need-returns-2
 returns-2 c = λ h. absurd (let no : ⊥ = omega (arith, h) in no)
 
