@@ -1,14 +1,19 @@
 -- The bytes of a record that stands in a trace. Assumes nothing.
-use Prim.Native.Nat.{ℕ, _+_, _*_, _<_}
-use mathlib.Core.Path.{_≡_, sym, ap, ap₂, _∙_}
-use mathlib.Core.List.{List}
-use native.Mathlib.Nat.{add-zero, add-assoc}
+use Prim.Native.Nat.{ℕ, zero, suc, _+_, _*_, _≤_, _<_}
+use mathlib.Core.Path.{_≡_, refl, sym, ap, ap₂, _∙_}
+use mathlib.Core.List.{List, [], _∷_}
+use native.Mathlib.Nat.{add-zero, add-assoc, not-suc-le-zero, le-of-suc-le-suc}
 use native.Mathlib.Omega.{arith}
 use lib.Dec.{lit<}
-use lib.ListN.{getD, take, drop}
+use lib.ListN.{length, getD, take, drop}
 use lib.Seq.{getD-take, getD-drop}
-use Rattle.access.specs.declared.record.Record.{Record}
 use Rattle.access.specs.Records.{two, four, recordOf}
+
+-- a missing byte counts as zero
+pub past-end : (l : List ℕ) (i : ℕ) → length l ≤ i → getD l i 0 ≡ 0
+past-end [] i h = refl
+past-end (x ∷ xs) zero h = absurd (not-suc-le-zero h)
+past-end (x ∷ xs) (suc i) h = past-end xs i (le-of-suc-le-suc h)
 
 module _ (trace : List ℕ) (at : ℕ) where
   byte-there : (i : ℕ) → i < 8 → getD (take 8 (drop at trace)) i 0 ≡ getD trace (at + i) 0
@@ -18,7 +23,7 @@ module _ (trace : List ℕ) (at : ℕ) where
   unfolding two
   two-there i h =
       ap₂ (λ (x y : ℕ). x + 256 * y) (byte-there i (omega arith))
-        (byte-there (i + 1) h ∙ ap (λ (n : ℕ). getD trace n 0) (sym (add-assoc at i 1)))
+      (byte-there (i + 1) h ∙ ap (λ (n : ℕ). getD trace n 0) (sym (add-assoc at i 1)))
 
   -- the record of the 8 bytes from a place on, by the trace's own bytes
   pub record-there : recordOf (take 8 (drop at trace))
@@ -26,7 +31,7 @@ module _ (trace : List ℕ) (at : ℕ) where
         kind = getD trace at 0;
         width = getD trace (at + 1) 0;
         address = two trace (at + 2);
-        value = two trace (at + 4) + 65536 * two trace (at + 6)
+        value = two trace (at + 4) + 65536 * two trace (at + 6);
       }
   unfolding recordOf four
   record-there = λ i.
@@ -34,5 +39,5 @@ module _ (trace : List ℕ) (at : ℕ) where
         kind = (byte-there 0 (lit< tt) ∙ ap (λ (n : ℕ). getD trace n 0) (add-zero at)) i;
         width = byte-there 1 (lit< tt) i;
         address = two-there 2 (lit< tt) i;
-        value = ap₂ (λ (x y : ℕ). x + 65536 * y) (two-there 4 (lit< tt)) (two-there 6 (lit< tt)) i
+        value = ap₂ (λ (x y : ℕ). x + 65536 * y) (two-there 4 (lit< tt)) (two-there 6 (lit< tt)) i;
       }

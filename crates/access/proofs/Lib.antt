@@ -12,3 +12,7 @@ pub mod Decided
 pub mod Bytes
 pub mod Reading
 pub mod Thin
+pub mod Runs
+pub mod Loop
+pub mod Parted
+pub mod Ends

@@ -7,3 +7,4 @@ pub mod Access
 pub mod Looked
 pub mod Run
 pub mod Reader
+pub mod Served

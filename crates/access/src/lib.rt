@@ -5,7 +5,7 @@ mod engine;
 mod place;
 mod reader;
 mod record;
-mod run;
+mod running;
 
 pub use access::Accessed;
 pub use place::Place;
@@ -15,3 +15,5 @@ pub use reader::unread;
 pub use record::Item;
 pub use record::Record;
 pub use record::Reply;
+pub use running::Ran;
+pub use running::run;

@@ -3,8 +3,8 @@ use mathlib.Core.Path.{ap₂}
 use Prim.Native.Nat.{ℕ, _+_, _*_}
 use Rattle.access.specs.Records.{two}
 use borrow.Author.Needs.{needs}
-use Rattle.access.proofs.run.two_at.Statement.{statement}
-use Rattle.access.proofs.run.two_at.Tie as tie
+use Rattle.access.proofs.running.two_at.Statement.{statement}
+use Rattle.access.proofs.running.two_at.Tie as tie
 
 shared-slice-read-narrow : tie.Need-shared-slice-read-narrow
 shared-slice-read-narrow c = search needs

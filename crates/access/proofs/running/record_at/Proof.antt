@@ -2,11 +2,10 @@
 use mathlib.Core.Path.{sym, ap₂, _∙_}
 use Prim.Native.Nat.{ℕ, _+_, _*_}
 use lib.ListN.{getD}
-use Rattle.access.specs.declared.record.Record.{Record}
 use Rattle.access.proofs.Bytes.{record-there}
 use borrow.Author.Needs.{needs}
-use Rattle.access.proofs.run.record_at.Statement.{statement}
-use Rattle.access.proofs.run.record_at.Tie as tie
+use Rattle.access.proofs.running.record_at.Statement.{statement}
+use Rattle.access.proofs.running.record_at.Tie as tie
 
 shared-slice-read-t4 : tie.Need-shared-slice-read-t4
 shared-slice-read-t4 c = search needs
@@ -49,12 +48,12 @@ add-t17 c = search needs
 
 returns : tie.Need-returns
 returns c = (λ i.
-      record {
-        kind = getD (c .before .before .before .before .before .before .before .before .args .trace .now) (c .before .before .before .before .before .before .before .before .args .at) 0;
-        width = getD (c .before .before .before .before .before .before .before .before .args .trace .now) (c .before .before .before .before .before .before .before .before .args .at + 1) 0;
-        address = c .before .before .before .before .two-at .ensures i;
-        value = ap₂ (λ (x y : ℕ). x + 65536 * y) (c .before .before .widen .ensures .0 ∙ c .before .before .before .two-at2 .ensures) (c .widen2 .ensures .0 ∙ c .before .two-at3 .ensures) i
-      })
+    record {
+      kind = getD (c .before .before .before .before .before .before .before .before .args .trace .now) (c .before .before .before .before .before .before .before .before .args .at) 0;
+      width = getD (c .before .before .before .before .before .before .before .before .args .trace .now) (c .before .before .before .before .before .before .before .before .args .at + 1) 0;
+      address = c .before .before .before .before .two-at .ensures i;
+      value = ap₂ (λ (x y : ℕ). x + 65536 * y) (c .before .before .widen .ensures .0 ∙ c .before .before .before .two-at2 .ensures) (c .widen2 .ensures .0 ∙ c .before .two-at3 .ensures) i;
+    })
     ∙ sym (record-there (c .before .before .before .before .before .before .before .before .args .trace .now) (c .before .before .before .before .before .before .before .before .args .at))
 
 pub record-at-spec : {M : Type 1} → statement M

@@ -1,0 +1,19 @@
+-- `byte_or_zero` meets its contract. Assumes nothing.
+use mathlib.Core.Path.{sym}
+use native.Mathlib.Omega.{arith}
+use Rattle.access.proofs.Bytes.{past-end}
+use borrow.Author.Needs.{needs}
+use Rattle.access.proofs.running.byte_or_zero.Statement.{statement}
+use Rattle.access.proofs.running.byte_or_zero.Tie as tie
+
+shared-slice-read-result : tie.Need-shared-slice-read-result
+shared-slice-read-result c = search needs
+
+returns : tie.Need-returns
+returns c = search needs
+
+returns-2 : tie.Need-returns-2
+returns-2 c = sym (past-end (c .before .args .trace .now) (c .before .args .at) (omega (arith, c .if1 .left)))
+
+pub byte-or-zero-spec : {M : Type 1} → statement M
+byte-or-zero-spec = tie.close (tie.spec shared-slice-read-result returns returns-2)

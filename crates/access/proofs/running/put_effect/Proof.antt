@@ -1,0 +1,93 @@
+-- `put_effect` meets its contract: each arm is a law about the parts put back. Assumes nothing.
+use mathlib.Core.Path.{refl}
+use Rattle.access.proofs.Parted.{by-told, nothing-put, store-put, flip-put, toggle-put, move-put, paint-put}
+use borrow.Author.Needs.{needs}
+use Rattle.access.proofs.running.put_effect.Statement.{statement}
+use Rattle.access.proofs.running.put_effect.Tie as tie
+
+enum-told : tie.Need-enum-told
+enum-told c = search needs
+
+enum-known-effect : tie.Need-enum-known-effect
+enum-known-effect c = search needs
+
+store-in-requires : tie.Need-store-in-requires
+store-in-requires c κs = search needs
+
+enum-known-effect-2 : tie.Need-enum-known-effect-2
+enum-known-effect-2 c = search needs
+
+store-in-requires-2 : tie.Need-store-in-requires-2
+store-in-requires-2 c κs = search needs
+
+enum-known-effect-3 : tie.Need-enum-known-effect-3
+enum-known-effect-3 c = search needs
+
+enum-known-effect-4 : tie.Need-enum-known-effect-4
+enum-known-effect-4 c = search needs
+
+enum-known-effect-5 : tie.Need-enum-known-effect-5
+enum-known-effect-5 c = search needs
+
+pick-requires : tie.Need-pick-requires
+pick-requires c κs = search needs
+
+pick-requires-2 : tie.Need-pick-requires-2
+pick-requires-2 c κs = search needs
+
+returns : tie.Need-returns
+returns c = (
+  (refl, refl),
+  λ f p l. by-told f _ (c .before .before .args .before) p _ _ _ (c .enum-told .given .1) (nothing-put f _ (c .before .before .args .before) p) l,
+)
+
+returns-2 : tie.Need-returns-2
+returns-2 c = (
+  (refl, refl),
+  λ f p l. by-told f _ (c .before .before .before .before .before .args .before) p _ _ _ (c .before .before .before .effect .given .1) (store-put f _ (c .before .before .before .before .before .args .before) p _ _ _ _ (c .store-in .ensures)) l,
+)
+
+returns-3 : tie.Need-returns-3
+returns-3 c = (
+  (refl, refl),
+  λ f p l. by-told f _ (c .before .before .before .before .before .before .args .before) p _ _ _ (c .before .before .before .before .effect2 .given .1) (flip-put f _ (c .before .before .before .before .before .before .args .before) p _ _ _ _ (c .before .store-in2 .ensures)) l,
+)
+
+returns-4 : tie.Need-returns-4
+returns-4 c = (
+  (refl, refl),
+  λ f p l. by-told f _ (c .before .before .before .args .before) p _ _ _ (c .before .effect3 .given .1) (toggle-put f _ (c .before .before .before .args .before) p _) l,
+)
+
+returns-5 : tie.Need-returns-5
+returns-5 c = (
+  (refl, refl),
+  λ f p l. by-told f _ (c .before .before .before .args .before) p _ _ _ (c .before .effect4 .given .1) (move-put f _ (c .before .before .before .args .before) p _) l,
+)
+
+returns-6 : tie.Need-returns-6
+returns-6 c = (
+  (refl, refl),
+  λ f p l. by-told f _ (c .before .before .before .before .before .args .before) p _ _ _ (c .before .before .before .effect5 .given .1) (paint-put f _ (c .before .before .before .before .before .args .before) p _ _ _ _ _ _ (c .pick2 .ensures) (c .before .pick .ensures)) l,
+)
+
+pub put-effect-spec : {M : Type 1} → statement M
+put-effect-spec =
+    tie.close
+    (tie.spec
+    enum-told
+    enum-known-effect
+    store-in-requires
+    enum-known-effect-2
+    store-in-requires-2
+    enum-known-effect-3
+    enum-known-effect-4
+    enum-known-effect-5
+    pick-requires
+    pick-requires-2
+    returns
+    returns-2
+    returns-3
+    returns-4
+    returns-5
+    returns-6)

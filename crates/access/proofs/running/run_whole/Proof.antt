@@ -1,0 +1,145 @@
+-- `run_whole` meets its contract: the loop keeps `Held`. Assumes nothing.
+use Prim.Native.Nat.{ℕ, _+_, _*_, _-_}
+use mathlib.Core.Path.{_≡_, refl, sym, ap, _∙_, subst}
+use mathlib.Core.List.{_++_}
+use native.Mathlib.Omega.{arith}
+use borrow.Author.Needs.{needs}
+use lib.Dec.{T}
+use lib.ListN.{getD, drop}
+use Rattle.file.specs.declared.registers.File.{File}
+use Rattle.file.specs.File.{black}
+use Rattle.file.specs.Sound.{sound}
+use Rattle.file.proofs.Soundness.{registers-sound, pointer-sound}
+use Rattle.access.specs.Records.{items}
+use Rattle.access.specs.Run.{fileAfter, replies}
+use Rattle.access.proofs.Loop.{together, Held, buffer-long, held-step}
+use Rattle.access.proofs.Runs.{run-sound}
+use Rattle.access.proofs.running.run_whole.Statement.{statement}
+use Rattle.access.proofs.running.run_whole.Tie as tie
+
+abbrev Inv-loop : tie.InvT-loop
+Inv-loop trace replies₀ count registers₀ palette₀ bank₀ pointer₀ toggle₀ n₀ replies registers palette bank pointer toggle n =
+    Held (together registers₀ palette₀ bank₀ pointer₀ toggle₀) trace replies₀ count replies registers palette bank pointer toggle n
+
+abbrev μ-loop : tie.MeasureT-loop
+μ-loop trace replies₀ count registers₀ palette₀ bank₀ pointer₀ toggle₀ n₀ replies registers palette bank pointer toggle n =
+    count - n
+
+loop-holds : tie.Need-loop-holds Inv-loop μ-loop
+unfolding fileAfter items replies
+loop-holds c = record { reached = omega arith; file = refl; said = refl }
+
+mul-record-at : tie.Need-mul-record-at Inv-loop μ-loop
+mul-record-at c = search needs
+
+record-at-requires : tie.Need-record-at-requires Inv-loop μ-loop
+record-at-requires c κs = search needs
+
+palette-entry-requires : tie.Need-palette-entry-requires Inv-loop μ-loop
+palette-entry-requires c κs = search needs
+
+bank-entry-requires : tie.Need-bank-entry-requires Inv-loop μ-loop
+bank-entry-requires c κs = search needs
+
+mul-t19 : tie.Need-mul-t19 Inv-loop μ-loop
+mul-t19 c = record { fits = omega (arith, c .before .palette-entry .ensures .1) }
+
+array-copy-out-t22 : tie.Need-array-copy-out-t22 Inv-loop μ-loop
+array-copy-out-t22 c = omega (arith, c .before .palette-entry .ensures .1)
+
+mul-t23 : tie.Need-mul-t23 Inv-loop μ-loop
+mul-t23 c = record { fits = omega (arith, c .before .bank-entry .ensures .1) }
+
+array-copy-out-t26 : tie.Need-array-copy-out-t26 Inv-loop μ-loop
+array-copy-out-t26 c = omega (arith, c .before .bank-entry .ensures .1)
+
+serve-requires : tie.Need-serve-requires Inv-loop μ-loop
+serve-requires c κs =
+    let s = (subst (λ (f : File). T (sound f)) (sym (c .before .before .before .before .before .before .before .loop .inv .file)) (run-sound (c .before .before .before .before .before .before .before .before .before .before .before .before .before .before .args .whole) _ (c .before .before .before .before .before .before .before .before .before .before .before .before .before .before .pre .0))) in
+    (registers-sound (together (c .before .before .before .before .before .before .before .loop .registers) (c .before .before .before .before .before .before .before .loop .palette) (c .before .before .before .before .before .before .before .loop .bank) (c .before .before .before .before .before .before .before .loop .pointer) (c .before .before .before .before .before .before .before .loop .toggle)) s, pointer-sound (together (c .before .before .before .before .before .before .before .loop .registers) (c .before .before .before .before .before .before .before .loop .palette) (c .before .before .before .before .before .before .before .loop .bank) (c .before .before .before .before .before .before .before .loop .pointer) (c .before .before .before .before .before .before .before .loop .toggle)) s)
+
+mul-put-reply : tie.Need-mul-put-reply Inv-loop μ-loop
+mul-put-reply c = record { fits = mul-record-at (c .before .before .before .before .before .before .before .before) .fits }
+
+put-reply-requires : tie.Need-put-reply-requires Inv-loop μ-loop
+put-reply-requires c κs = omega (arith, buffer-long _ _ _ (c .before .before .before .before .before .before .before .before .before .loop .inv) (c .before .before .before .before .before .before .before .before .before .before .before .before .before .before .before .before .pre .1 .1), c .before .before .before .before .before .before .before .before .loop-test .taken, c .before .before .before .before .before .before .before .before .before .before .before .before .before .before .before .before .pre .1 .1)
+
+mul-palette : tie.Need-mul-palette Inv-loop μ-loop
+mul-palette c = record { fits = omega (arith, c .before .before .before .before .before .before .before .before .before .before .palette-entry .ensures .1) }
+
+array-set-from-palette : tie.Need-array-set-from-palette Inv-loop μ-loop
+array-set-from-palette c = omega (arith, c .before .before .before .before .before .before .before .before .before .before .palette-entry .ensures .1)
+
+mul-bank : tie.Need-mul-bank Inv-loop μ-loop
+mul-bank c = record { fits = omega (arith, c .before .before .before .before .before .before .before .before .before .before .bank-entry .ensures .1) }
+
+array-set-from-bank : tie.Need-array-set-from-bank Inv-loop μ-loop
+array-set-from-bank c = omega (arith, c .before .before .before .before .before .before .before .before .before .before .bank-entry .ensures .1)
+
+add-n : tie.Need-add-n Inv-loop μ-loop
+add-n c = record { fits = omega (arith, mul-record-at (c .before .before .before .before .before .before .before .before .before .before .before .before .before .before) .fits) }
+
+loop-less : tie.Need-loop-less Inv-loop μ-loop
+loop-less c = omega (arith, c .before .before .before .before .before .before .before .before .before .before .before .before .before .before .loop-test .taken)
+
+loop-again : tie.Need-loop-again Inv-loop μ-loop
+unfolding black
+loop-again c =
+    let start = c .before .before .before .before .before .before .before .before .before .before .before .before .before .before .before .before .before .before .before .before .before .before in
+    let turn = c .before .before .before .before .before .before .before .before .before .before .before .before .before .before .before .loop in
+    let inv = turn .inv in
+    let at = c .before .before .before .before .before .before .before .before .before .before .before .before .palette-entry in
+    let within = c .before .before .before .before .before .before .before .before .before .before .before .bank-entry in
+    let now = together (turn .registers) (turn .palette) (turn .bank) (turn .pointer) (turn .toggle) in
+    let still = subst (λ (f : File). T (sound f)) (sym (inv .file)) (run-sound (start .args .whole) _ (start .pre .0)) in
+    let served = c .before .before .before .before .before .before .before .serve .ensures now still
+    (record {
+      same-registers = refl;
+      same-pointer = refl;
+      same-toggle = refl;
+      same-palette = ap (λ (i : ℕ). getD (turn .palette) i black) (sym (at .ensures .0));
+      same-bank = ap (λ (i : ℕ). getD (turn .bank) i black) (sym (within .ensures .0));
+    }) in
+    held-step _ _ _ inv (c .before .before .before .before .before .before .before .before .before .before .before .before .before .before .loop-test .taken) (omega (arith, c .before .before .before .before .before .before .before .before .before .before .before .before .before .before .loop-test .taken, start .pre .1 .0))
+    (c .before .before .before .before .before .before .before .before .before .before .before .before .before .record-at .result) (c .before .before .before .before .before .before .before .before .before .before .before .before .before .record-at .ensures) _ (c .before .before .before .before .before .before .before .serve .result) served
+    (at .result) (within .result) (at .ensures .0) (within .ensures .0) _ (c .before .before .before .before .before .put-reply .ensures)
+
+same-length : tie.Need-same-length Inv-loop μ-loop
+same-length c = buffer-long _ _ _ (c .before .loop .inv) (c .before .before .before .before .before .before .before .before .pre .1 .1)
+
+returns : tie.Need-returns Inv-loop μ-loop
+returns c =
+    let start = c .before .before .before .before .before .before .before .before in
+    let inv = c .before .loop .inv in
+    let all : c .before .loop .n ≡ start .args .count = omega (arith, c .loop-test .left, inv .reached) in (
+      inv .file ∙ ap (λ (k : ℕ). fileAfter (start .args .whole) (items k (start .args .trace .now))) all,
+      inv .said ∙ ap (λ (k : ℕ). replies (start .args .whole) (items k (start .args .trace .now)) ++ drop (8 * k) (start .args .replies .now)) all,
+    )
+
+pub run-whole-spec : {M : Type 1} → statement M
+run-whole-spec =
+    tie.close
+    (tie.spec
+    Inv-loop
+    μ-loop
+    loop-holds
+    mul-record-at
+    record-at-requires
+    palette-entry-requires
+    bank-entry-requires
+    mul-t19
+    array-copy-out-t22
+    mul-t23
+    array-copy-out-t26
+    serve-requires
+    mul-put-reply
+    put-reply-requires
+    mul-palette
+    array-set-from-palette
+    mul-bank
+    array-set-from-bank
+    add-n
+    loop-less
+    loop-again
+    same-length
+    returns)

@@ -1,0 +1,297 @@
+// A run over a trace: the file's parts are locals, and an access changes one of them.
+ghost use mathlib.Core.Path.{_≡_};
+ghost use mathlib.Core.Bool.{cond};
+ghost use mathlib.Core.List.{_++_};
+ghost use Prim.Native.Nat.{_+_, _*_, _%_, _<_, _≤_};
+ghost use lib.Dec.{T};
+ghost use lib.ListN.{length, getD, take, drop, set};
+ghost use Rattle.bits.specs.Store.{store as storeBits};
+ghost use Rattle.file.specs.Sound.{allWithin, sound};
+ghost use Rattle.access.specs.Access.{replyTo};
+ghost use Rattle.access.specs.Records.{two, recordOf, replyBytes, items};
+ghost use Rattle.file.specs.declared.answer.Answer.the-variants.{Done as DoneAnswer, Malformed as MalformedAnswer};
+ghost use Rattle.file.specs.Effects.{apply as applyTo};
+ghost use Rattle.file.specs.declared.registers.File.{File as FileOf};
+ghost use Rattle.file.specs.Palette.{pointerSound};
+ghost use Rattle.file.specs.Registers.{storedTable};
+ghost use Rattle.access.specs.Run.{fileAfter, replies as repliesOf, runCount, run as runOf};
+ghost use Rattle.access.specs.Served.{Parts, putBack, lands, Serves};
+use crate::engine;
+use crate::record::Record;
+use file::Answer;
+use file::Colour;
+use file::Effect;
+use file::File;
+use file::Pointer;
+use file::is_sound;
+
+// What a run hands back: its answer, the new file and the count of replies. What is left of the trace begins at 8 times the count.
+pub struct Ran {
+    pub answer: Answer,
+    pub file: File,
+    pub count: usize,
+}
+
+fn narrow(x: u8) -> u16
+    ensures { λ r. ⌜ (r ≡ x) × (r < 256) ⌝ }
+{
+    x as u16
+}
+
+fn widen(x: u16) -> u32
+    ensures { λ r. ⌜ (r ≡ x) × (r < 65536) ⌝ }
+{
+    x as u32
+}
+
+// Two bytes of a trace, little-endian.
+fn two_at(trace: &[u8], at: usize) -> u16
+    requires { ⌜ at + 2 ≤ length (now trace) ⌝ }
+    ensures { λ r. ⌜ r ≡ two (now (trace .entry)) at ⌝ }
+{
+    narrow(trace[at]) + 256 * narrow(trace[at + 1])
+}
+
+// The whole record of a trace from a place on.
+fn record_at(trace: &[u8], at: usize) -> Record
+    requires { ⌜ at + 8 ≤ length (now trace) ⌝ }
+    ensures { λ r. ⌜ r ≡ recordOf (take 8 (drop at (now (trace .entry)))) ⌝ }
+{
+    Record {
+        kind: trace[at],
+        width: trace[at + 1],
+        address: two_at(trace, at + 2),
+        value: widen(two_at(trace, at + 4)) + 65536 * widen(two_at(trace, at + 6)),
+    }
+}
+
+// A reply's 8 bytes, from a place of the buffer on.
+fn put_reply(replies: &mut [u8], at: usize, kind: u8, address: u16, code: u8, value: u16)
+    requires { ⌜ at + 8 ≤ length (now replies) ⌝ }
+    ensures { λ _. ⌜ now (replies .exit) ≡ take at (now (replies .entry)) ++ replyBytes (record { code = code; kind = kind; address = address; value = value }) ++ drop (at + 8) (now (replies .entry)) ⌝ }
+{
+    replies[at] = code;
+    replies[at + 1] = kind;
+    replies[at + 2] = (address % 256) as u8;
+    replies[at + 3] = (address / 256) as u8;
+    replies[at + 4] = (value % 256) as u8;
+    replies[at + 5] = (value / 256) as u8;
+    replies[at + 6] = 0;
+    replies[at + 7] = 0;
+}
+
+// One of two colours.
+fn pick(first: bool, a: Colour, b: Colour) -> Colour
+    ensures { λ r. ⌜ r ≡ cond first a b ⌝ }
+{
+    if first { a } else { b }
+}
+
+// The entry of the palette that the pointer names, and that of the bank.
+fn palette_entry(pointer: Pointer) -> usize
+    ensures { λ r. ⌜ (r ≡ pointer .address) × (r < 256) ⌝ }
+{
+    pointer.address as usize
+}
+
+fn bank_entry(pointer: Pointer) -> usize
+    ensures { λ r. ⌜ (r ≡ pointer .address % 16) × (r < 16) ⌝ }
+{
+    (pointer.address % 16) as usize
+}
+
+// One register stored where it stands.
+fn store_in(registers: &mut [u16; 100], number: usize, reach: u16, value: u16)
+    ensures { λ _. ⌜ (number < 100 → now (registers .exit) ≡ set (now (registers .entry)) number (storeBits reach (getD (now (registers .entry)) number 0) value)) ⌝ }
+{
+    if number < 100 {
+        registers[number] = bits::store(reach, registers[number], value);
+    }
+}
+
+// What an access leaves beside the registers: its reply's code and value, pointer, toggle, and the two entries that the pointer named.
+pub struct Served {
+    pub code: u8,
+    pub value: u16,
+    pub pointer: Pointer,
+    pub toggle: bool,
+    pub palette: Colour,
+    pub bank: Colour,
+}
+
+// An effect on the registers where they stand, and on the other parts by value.
+fn put_effect(registers: &mut [u16; 100], before: Served, effect: Effect) -> Served
+    ensures { λ r. ⌜ (r .code ≡ before .code) × (r .value ≡ before .value) ⌝ }
+    ensures { λ r. ⌜ ((f : FileOf) → Parts f (now (registers .entry)) before → T (lands (before .pointer) effect) → applyTo effect f ≡ putBack f (before .pointer) (now (registers .exit)) r) ⌝ }
+{
+    let mut after = before;
+    match effect {
+        Effect::Nothing => {}
+        Effect::Store {
+            register,
+            reach,
+            value,
+        } => {
+            store_in(registers, register, reach, value);
+        }
+        Effect::StoreAndFlip {
+            register,
+            reach,
+            value,
+        } => {
+            store_in(registers, register, reach, value);
+            after.toggle = !before.toggle;
+        }
+        Effect::Toggle(state) => {
+            after.toggle = state;
+        }
+        Effect::Move(next) => {
+            after.pointer = next;
+        }
+        Effect::Paint {
+            bank,
+            entry: _,
+            colour,
+            pointer: next,
+        } => {
+            after.bank = pick(bank, colour, before.bank);
+            after.palette = pick(bank, before.palette, colour);
+            after.pointer = next;
+        }
+    }
+    after
+}
+
+// One access: the registers where they stand, the other parts by value.
+fn serve(registers: &mut [u16; 100], before: Served, asked: Record) -> Served
+    requires { ⌜ T (allWithin storedTable (now registers)) ⌝ }
+    requires { ⌜ T (pointerSound (before .pointer)) ⌝ }
+    ensures { λ r. ⌜ ((f : FileOf) → T (sound f) → Parts f (now (registers .entry)) before → Serves f asked (before .pointer) (now (registers .exit)) r) ⌝ }
+{
+    let pointer = before.pointer;
+    let named = pick(engine::is_in_bank(registers), before.bank, before.palette);
+    let shown = named.component(pointer.next);
+    let decision = engine::decide(registers, before.toggle, pointer, shown, asked);
+    let answer = decision.answer;
+    let mut said = before;
+    said.code = answer.code();
+    said.value = answer.value();
+    let effect = decision.effect;
+    put_effect(registers, said, effect)
+}
+
+// The first `count` whole records of a trace, which has them, into as many places of a reply buffer, which has them.
+fn run_whole(whole: File, trace: &[u8], replies: &mut [u8], count: usize) -> File
+    requires { ⌜ T (sound whole) ⌝ }
+    requires { ⌜ 8 * count ≤ length (now trace) ⌝ }
+    requires { ⌜ 8 * count ≤ length (now replies) ⌝ }
+    ensures { λ r. ⌜ r ≡ fileAfter whole (items count (now (trace .entry))) ⌝ }
+    ensures { λ _. ⌜ now (replies .exit) ≡ repliesOf whole (items count (now (trace .entry))) ++ drop (8 * count) (now (replies .entry)) ⌝ }
+{
+    let mut registers = whole.registers;
+    let mut palette = whole.palette;
+    let mut bank = whole.bank;
+    let mut pointer = whole.pointer;
+    let mut toggle = whole.toggle;
+    let mut n: usize = 0;
+    while n < count {
+        let asked = record_at(trace, 8 * n);
+        let at = palette_entry(pointer);
+        let within = bank_entry(pointer);
+        let before = Served {
+            code: 0,
+            value: 0,
+            pointer,
+            toggle,
+            palette: palette[at],
+            bank: bank[within],
+        };
+        let after = serve(&mut registers, before, asked);
+        put_reply(
+            replies,
+            8 * n,
+            asked.kind,
+            asked.address,
+            after.code,
+            after.value,
+        );
+        let entry = after.palette;
+        palette[at] = entry;
+        let colour = after.bank;
+        bank[within] = colour;
+        pointer = after.pointer;
+        toggle = after.toggle;
+        n += 1;
+    }
+    File {
+        registers,
+        palette,
+        bank,
+        pointer,
+        toggle,
+    }
+}
+
+// A byte of a trace; a missing one counts as zero.
+fn byte_or_zero(trace: &[u8], at: usize) -> u8
+    ensures { λ r. ⌜ r ≡ getD (now (trace .entry)) at 0 ⌝ }
+{
+    if at < trace.len() { trace[at] } else { 0 }
+}
+
+// The reply to the fragment at the end of a trace: code 2.
+fn put_fragment(trace: &[u8], replies: &mut [u8], at: usize)
+    requires { ⌜ at < length (now trace) ⌝ }
+    requires { ⌜ at + 8 ≤ length (now replies) ⌝ }
+    ensures { λ _. ⌜ now (replies .exit) ≡ take at (now (replies .entry)) ++ replyBytes (replyTo (recordOf (take 8 (drop at (now (trace .entry))))) MalformedAnswer) ++ drop (at + 8) (now (replies .entry)) ⌝ }
+{
+    let low = narrow(byte_or_zero(trace, at + 2));
+    let high = narrow(byte_or_zero(trace, at + 3));
+    put_reply(replies, at, trace[at], low + 256 * high, 2, 0);
+}
+
+// A run from a sound file.
+fn run_sound(whole: File, trace: &[u8], replies: &mut [u8]) -> Ran
+    requires { ⌜ T (sound whole) ⌝ }
+    ensures { λ r. ⌜ (r .answer ≡ DoneAnswer 0) × (r .file ≡ fileAfter whole (items (runCount (now (trace .entry)) (now (replies .entry))) (now (trace .entry)))) × (r .count ≡ runCount (now (trace .entry)) (now (replies .entry))) ⌝ }
+    ensures { λ _. ⌜ now (replies .exit) ≡ repliesOf whole (items (runCount (now (trace .entry)) (now (replies .entry))) (now (trace .entry))) ++ drop (8 * runCount (now (trace .entry)) (now (replies .entry))) (now (replies .entry)) ⌝ }
+{
+    let places = replies.len() / 8;
+    let full = trace.len() / 8;
+    if places <= full {
+        return Ran {
+            answer: Answer::Done(0),
+            file: run_whole(whole, trace, replies, places),
+            count: places,
+        };
+    }
+    let file = run_whole(whole, trace, replies, full);
+    if trace.len() % 8 == 0 {
+        return Ran {
+            answer: Answer::Done(0),
+            file,
+            count: full,
+        };
+    }
+    put_fragment(trace, replies, 8 * full);
+    Ran {
+        answer: Answer::Done(0),
+        file,
+        count: full + 1,
+    }
+}
+
+// A run over a trace: replies into whole 8-byte places of a buffer until records or places end.
+pub fn run(whole: File, trace: &[u8], replies: &mut [u8]) -> Ran
+    ensures { λ r. ⌜ (r .answer ≡ runOf whole (now (trace .entry)) (now (replies .entry)) .answer) × (r .file ≡ runOf whole (now (trace .entry)) (now (replies .entry)) .file) × (r .count ≡ runOf whole (now (trace .entry)) (now (replies .entry)) .count) ⌝ }
+    ensures { λ _. ⌜ now (replies .exit) ≡ runOf whole (now (trace .entry)) (now (replies .entry)) .buffer ⌝ }
+{
+    if is_sound(whole) {
+        return run_sound(whole, trace, replies);
+    }
+    Ran {
+        answer: Answer::NotSound,
+        file: whole,
+        count: 0,
+    }
+}
