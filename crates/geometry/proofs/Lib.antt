@@ -1,3 +1,2 @@
-pub mod Eleven
 pub mod Signed
 pub mod Twelve

@@ -1,17 +1,10 @@
 // Numbers of the cursor and of window 2.
 ghost use mathlib.Core.Bool.{_||_};
 ghost use mathlib.Core.Path.{_≡_};
-ghost use Prim.Native.Nat.{_+_, _-_, _*_, _%_, _<_};
+ghost use Prim.Native.Nat.{_-_, _<_};
 ghost use Prim.Native.Nat.{min as smallerOf};
 ghost use lib.Dec.{leb};
 ghost use lib.IntN.{subℕ};
-
-// Three lowest bits and a byte, high bits first: a scanline number of 11 bits.
-pub fn eleven(high: u16, middle: u16, low: u16, byte: u16) -> u16
-    ensures { λ r. ⌜ (r ≡ high % 2 * 1024 + middle % 2 * 512 + low % 2 * 256 + byte % 256) × (r < 2048) ⌝ }
-{
-    high % 2 * 1024 + middle % 2 * 512 + low % 2 * 256 + byte % 256
-}
 
 // A cursor edge less its preset, signed.
 pub fn less_preset(edge: u16, preset: u16) -> i16

@@ -8,7 +8,6 @@ use crate::Cursor;
 use crate::Geometry;
 use crate::Pixels;
 use crate::Window;
-use crate::edge::eleven;
 use crate::edge::is_empty;
 use crate::edge::less_preset;
 use crate::edge::shown;
@@ -17,16 +16,9 @@ use file::Answer;
 use file::File;
 use file::is_sound;
 use timing::Scanlines;
+use timing::read_timing;
 
 // The registers that are read here, by their numbers in the table of stored bits.
-const CR6: usize = 31;
-
-const CR7: usize = 32;
-
-const CR12: usize = 43;
-
-const CR1E: usize = 54;
-
 const CC: usize = 89;
 
 const CE: usize = 90;
@@ -54,10 +46,11 @@ pub fn read_geometry(file: File) -> Geometry
     ensures { λ r. ⌜ r ≡ readGeometry file ⌝ }
 {
     if is_sound(file) {
+        let timing = read_timing(file).timing;
         Geometry {
             answer: Answer::Done(0),
             cursor: cursor_in(file),
-            window: window_in(file, v_total(file), v_display(file)),
+            window: window_in(file, timing.v_total.0, timing.v_display.0),
         }
     } else {
         Geometry {
@@ -121,28 +114,6 @@ fn window_in(file: File, total: u16, display: u16) -> Window
         start: Scanlines(64 * (marks % 64)),
         stop: Scanlines(64 * (file.registers[D5] % 64)),
     }
-}
-
-// The number V total.
-fn v_total(file: File) -> u16
-    ensures { λ r. ⌜ r ≡ timingIn file .«v_total» .0 ⌝ }
-{
-    let cr7 = file.registers[CR7];
-    eleven(file.registers[CR1E] / 8, cr7 / 32, cr7, file.registers[CR6]) + 2
-}
-
-// The number V display.
-fn v_display(file: File) -> u16
-    ensures { λ r. ⌜ r ≡ timingIn file .«v_display» .0 ⌝ }
-{
-    let cr7 = file.registers[CR7];
-    eleven(
-        file.registers[CR1E] / 4,
-        cr7 / 64,
-        cr7 / 2,
-        file.registers[CR12],
-    )
-        + 1
 }
 
 // No window: the marks off, every number 0, empty.

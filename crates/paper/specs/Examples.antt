@@ -103,7 +103,7 @@ mode12 =
     ∷ opened
 
 -- the timing of mode 12h, its horizontal blanking of so many clocks
-abbrev blanked : ℕ → List ℕ
+abbrev pub blanked : ℕ → List ℕ
 blanked clocks =
     100 ∷ 80 ∷ 80 ∷ (80 + clocks) ∷ 84 ∷ 96 ∷ 525 ∷ 480 ∷ 487 ∷ 516 ∷ 490 ∷ 492 ∷ 1023 ∷ 40 ∷ 0 ∷ []
 

@@ -5,7 +5,6 @@ ghost use Prim.Native.Nat.{_+_, _≤_};
 ghost use lib.ListN.{length};
 ghost use Rattle.text.specs.Lent.{Wrote, placed, behind};
 ghost use Rattle.text.specs.Text.{decimal, decimalPlaces, numbersLine, space, spaced, timingLine};
-ghost use Rattle.timing.specs.Timing.{numbersOf};
 use crate::number::byte;
 use crate::number::places;
 use crate::number::spell;
@@ -16,7 +15,7 @@ pub fn timing_line(buffer: &mut [u8], at: usize, timing: Timing) -> usize
     ensures { λ r. ⌜ now (buffer .exit) ≡ placed (now (buffer .entry)) at (timingLine timing) ⌝ }
     ensures { λ r. ⌜ r ≡ behind (now (buffer .entry)) at (timingLine timing) ⌝ }
 {
-    let numbers = in_order(timing);
+    let numbers = timing.numbers();
     numbers_line(buffer, at, &numbers)
 }
 
@@ -36,29 +35,6 @@ fn numbers_line(buffer: &mut [u8], at: usize, numbers: &[u32; 15]) -> usize
     let at = copy(b"timing", buffer, at);
     let at = spell_each(numbers, buffer, at);
     byte(b'\n', buffer, at)
-}
-
-// The numbers of a timing, in table order.
-fn in_order(t: Timing) -> [u32; 15]
-    ensures { λ r. ⌜ r ≡ numbersOf t ⌝ }
-{
-    [
-        t.h_total.0 as u32,
-        t.h_display.0 as u32,
-        t.h_blank_start.0 as u32,
-        t.h_blank_end.0 as u32,
-        t.h_sync_start.0 as u32,
-        t.h_sync_end.0 as u32,
-        t.v_total.0 as u32,
-        t.v_display.0 as u32,
-        t.v_blank_start.0 as u32,
-        t.v_blank_end.0 as u32,
-        t.v_sync_start.0 as u32,
-        t.v_sync_end.0 as u32,
-        t.line_compare.0 as u32,
-        t.offset as u32,
-        t.screen_start,
-    ]
 }
 
 // How many bytes the numbers take, each behind a space.

@@ -98,7 +98,7 @@ impl Timing {
     }
 
     // A timing's numbers, in table order.
-    fn numbers(self) -> [u32; 15]
+    pub fn numbers(self) -> [u32; 15]
         ensures { λ r. ⌜ r ≡ numbersOf self ⌝ }
     {
         [

@@ -1,7 +1,11 @@
 -- `reader::read_geometry` meets its contract. Assumes nothing.
-use mathlib.Core.Path.{sym, _∙_}
+use mathlib.Core.Bool.{true}
+use mathlib.Core.Path.{_≡_, refl, ap, sym, _∙_}
 use borrow.Author.Needs.{needs}
 use Rattle.bits.proofs.Test.{passes}
+use Rattle.file.specs.Sound.{sound}
+use Rattle.timing.specs.declared.Read.{Read}
+use Rattle.timing.specs.Timing.{readTiming, timingIn}
 use Rattle.geometry.specs.Geometry.{readGeometry}
 use Rattle.geometry.proofs.reader.read_geometry.Statement.{statement}
 use Rattle.geometry.proofs.reader.read_geometry.Tie as tie
@@ -9,17 +13,23 @@ use Rattle.geometry.proofs.reader.read_geometry.Tie as tie
 is-sound-requires : tie.Need-is-sound-requires
 is-sound-requires c κs = search needs
 
+read-timing-requires : tie.Need-read-timing-requires
+read-timing-requires c κs = search needs
+
+-- past the test the file is sound
+is-sound : (c : tie.Then1) → sound (c .before .before .args .file) ≡ true
+is-sound c = sym (c .before .is-sound .ensures) ∙ c .if1 .taken
+
+-- the numbers read are the file's
+timing-read : (c : tie.After-read-timing) → c .read-timing .result .timing ≡ timingIn (c .before .before .before .args .file)
+unfolding readTiming
+timing-read c = ap (λ (r : Read). r .timing) (c .read-timing .ensures) ∙ rw (is-sound (c .before)) refl
+
 cursor-in-requires : tie.Need-cursor-in-requires
-cursor-in-requires c κs = passes _ (sym (c .before .is-sound .ensures) ∙ c .if1 .taken)
-
-v-total-requires : tie.Need-v-total-requires
-v-total-requires c κs = search needs
-
-v-display-requires : tie.Need-v-display-requires
-v-display-requires c κs = search needs
+cursor-in-requires c κs = passes _ (is-sound (c .before .before))
 
 window-in-requires : tie.Need-window-in-requires
-window-in-requires c κs = search needs
+window-in-requires c κs = rw (timing-read (c .before .before)) (refl, refl)
 
 no-cursor-requires : tie.Need-no-cursor-requires
 no-cursor-requires c κs = search needs
@@ -30,8 +40,7 @@ no-window-requires c κs = search needs
 returns : tie.Need-returns
 unfolding readGeometry
 returns c =
-    let tested = c .before .before .before .before in
-    rw (sym (tested .before .is-sound .ensures) ∙ tested .if1 .taken, c .before .before .before .cursor-in .ensures, c .window-in .ensures)
+    rw (is-sound (c .before .before .before .before), c .before .cursor-in .ensures, c .window-in .ensures)
 
 returns-2 : tie.Need-returns-2
 unfolding readGeometry
@@ -44,9 +53,8 @@ read-geometry-spec =
     tie.close
     (tie.spec
     is-sound-requires
+    read-timing-requires
     cursor-in-requires
-    v-total-requires
-    v-display-requires
     window-in-requires
     no-cursor-requires
     no-window-requires
