@@ -1,19 +1,13 @@
 -- The bytes of a record that stands in a trace. Assumes nothing.
-use Prim.Native.Nat.{ℕ, zero, suc, _+_, _*_, _≤_, _<_}
-use mathlib.Core.Path.{_≡_, refl, sym, ap, ap₂, _∙_}
-use mathlib.Core.List.{List, [], _∷_}
-use native.Mathlib.Nat.{add-zero, add-assoc, not-suc-le-zero, le-of-suc-le-suc}
+use Prim.Native.Nat.{ℕ, _+_, _*_, _<_}
+use mathlib.Core.Path.{_≡_, sym, ap, ap₂, _∙_}
+use mathlib.Core.List.{List}
+use native.Mathlib.Nat.{add-zero, add-assoc}
 use native.Mathlib.Omega.{arith}
 use lib.Dec.{lit<}
-use lib.ListN.{length, getD, take, drop}
+use lib.ListN.{getD, take, drop}
 use lib.Seq.{getD-take, getD-drop}
 use Rattle.access.specs.Records.{two, four, recordOf}
-
--- a missing byte counts as zero
-pub past-end : (l : List ℕ) (i : ℕ) → length l ≤ i → getD l i 0 ≡ 0
-past-end [] i h = refl
-past-end (x ∷ xs) zero h = absurd (not-suc-le-zero h)
-past-end (x ∷ xs) (suc i) h = past-end xs i (le-of-suc-le-suc h)
 
 module _ (trace : List ℕ) (at : ℕ) where
   byte-there : (i : ℕ) → i < 8 → getD (take 8 (drop at trace)) i 0 ≡ getD trace (at + i) 0

@@ -14,14 +14,14 @@ pub enum Next {
 }
 
 // A byte; one that is missing counts as zero.
-fn byte_at(bytes: &[u8], at: usize) -> u8
+pub fn byte_at(bytes: &[u8], at: usize) -> u8
     ensures { λ r. ⌜ r ≡ getD (now (bytes .entry)) at 0 ⌝ }
 {
     if at < bytes.len() { bytes[at] } else { 0 }
 }
 
 // The number of two bytes, and of two such numbers, the low one first.
-fn two(low: u8, high: u8) -> u16
+pub fn two(low: u8, high: u8) -> u16
     ensures { λ r. ⌜ r ≡ low + 256 * high ⌝ }
 {
     low as u16 + 256 * (high as u16)

@@ -17,6 +17,7 @@ ghost use Rattle.file.specs.Registers.{storedTable};
 ghost use Rattle.access.specs.Run.{fileAfter, replies as repliesOf, runCount, run as runOf};
 ghost use Rattle.access.specs.Served.{Parts, putBack, lands, Serves};
 use crate::engine;
+use crate::reader;
 use crate::record::Record;
 use file::Answer;
 use file::Colour;
@@ -232,22 +233,15 @@ fn run_whole(whole: File, trace: &[u8], replies: &mut [u8], count: usize) -> Fil
     }
 }
 
-// A byte of a trace; a missing one counts as zero.
-fn byte_or_zero(trace: &[u8], at: usize) -> u8
-    ensures { λ r. ⌜ r ≡ getD (now (trace .entry)) at 0 ⌝ }
-{
-    if at < trace.len() { trace[at] } else { 0 }
-}
-
 // The reply to the fragment at the end of a trace: code 2.
 fn put_fragment(trace: &[u8], replies: &mut [u8], at: usize)
     requires { ⌜ at < length (now trace) ⌝ }
     requires { ⌜ at + 8 ≤ length (now replies) ⌝ }
     ensures { λ _. ⌜ now (replies .exit) ≡ take at (now (replies .entry)) ++ replyBytes (replyTo (recordOf (take 8 (drop at (now (trace .entry))))) MalformedAnswer) ++ drop (at + 8) (now (replies .entry)) ⌝ }
 {
-    let low = narrow(byte_or_zero(trace, at + 2));
-    let high = narrow(byte_or_zero(trace, at + 3));
-    put_reply(replies, at, trace[at], low + 256 * high, 2, 0);
+    let low = reader::byte_at(trace, at + 2);
+    let high = reader::byte_at(trace, at + 3);
+    put_reply(replies, at, trace[at], reader::two(low, high), 2, 0);
 }
 
 // A run from a sound file.
