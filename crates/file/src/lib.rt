@@ -2,6 +2,7 @@
 mod answer;
 mod effect;
 mod palette;
+mod readers;
 mod registers;
 mod sound;
 
@@ -10,5 +11,8 @@ pub use effect::Effect;
 pub use effect::Reach;
 pub use palette::Colour;
 pub use palette::Pointer;
+pub use readers::EntryRead;
+pub use readers::PointerRead;
+pub use readers::ToggleRead;
 pub use registers::File;
 pub use sound::is_sound;
