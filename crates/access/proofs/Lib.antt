@@ -10,3 +10,5 @@ pub mod Looks
 pub mod Shown
 pub mod Decided
 pub mod Bytes
+pub mod Wire
+pub mod Handed
