@@ -16,3 +16,5 @@ pub mod Runs
 pub mod Loop
 pub mod Parted
 pub mod Ends
+pub mod Wire
+pub mod Handed

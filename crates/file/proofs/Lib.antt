@@ -3,3 +3,4 @@ pub mod Soundness
 pub mod Reached
 pub mod Typed
 pub mod Colours
+pub mod Named

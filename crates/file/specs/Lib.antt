@@ -6,3 +6,4 @@ pub mod File
 pub mod Sound
 pub mod Effects
 pub mod Reached
+pub mod Readers

@@ -3,6 +3,7 @@ mod answer;
 mod effect;
 mod palette;
 mod pointer;
+mod readers;
 mod registers;
 mod sound;
 
@@ -14,5 +15,8 @@ pub use palette::Pointer;
 pub use pointer::read_pixel;
 pub use pointer::write_address;
 pub use pointer::write_pixel;
+pub use readers::EntryRead;
+pub use readers::PointerRead;
+pub use readers::ToggleRead;
 pub use registers::File;
 pub use sound::is_sound;

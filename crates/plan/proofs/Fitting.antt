@@ -1,6 +1,6 @@
 -- An accepted record's fields fit their bytes, so that a plan's bytes are a trace of its records.
 -- Assumes nothing.
-use Prim.Native.Nat.{ℕ, zero, suc, _+_, _*_, _/_, _%_, _^_, _≤_, _<_}
+use Prim.Native.Nat.{ℕ, zero, suc, _+_, _^_, _≤_, _<_}
 use mathlib.Core.Path.{_≡_, refl, sym, ap₂, subst}
 use mathlib.Core.Bool.{Bool, true, false, cond, not, _&&_, _||_}
 use mathlib.Core.List.{List, [], _∷_, _++_, map}
@@ -21,9 +21,10 @@ use Rattle.access.specs.Access.{answerAt, answer, access, accessItem}
 use Rattle.access.specs.Checks.{Check, isWrite, checks, firstRefusal, notSound, malformed, noRow, notHeld}
 use Rattle.access.specs.Lookup.{fits, rowOf, placeOf}
 use Rattle.access.specs.Places.{Row, places, each, attributePorts, generalPorts, crtcPorts, pipelinePlace, mmioPlaces, pciPlaces}
-use Rattle.access.specs.Records.{two, four, recordOf, bytesOf, itemOf, items}
+use Rattle.access.specs.Records.{bytesOf, itemOf, items}
 use Rattle.access.specs.Run.{answers}
 use Rattle.access.proofs.Rows.{every, Passes, row-passes}
+use Rattle.access.proofs.Wire.{record-of-bytes}
 use Rattle.plan.specs.Restores.{accepted, allAccepted, inBytes, allInBytes, traceOf}
 
 -- ---- what an accepted record passed
@@ -110,17 +111,6 @@ run-fits (r ∷ rs) f t =
     (run-fits rs (access f r .file) (right (accepted (answer f r)) (allAccepted (answers (access f r .file) (map Whole rs))) t))
 
 -- ---- bytes and records
-
--- the bytes of a record mean the record
-pub record-of-bytes : (r : Record) → recordOf (bytesOf r) ≡ r
-unfolding recordOf bytesOf two four
-record-of-bytes r = λ i. record { kind = r .kind; width = r .width; address = address i; value = value i }
-  where
-    address : r .address % 256 + 256 * (r .address / 256) ≡ r .address
-    address = omega arith
-
-    value : r .value % 256 + 256 * (r .value / 256 % 256) + 65536 * (r .value / 65536 % 256 + 256 * (r .value / 16777216)) ≡ r .value
-    value = omega arith
 
 -- a trace of records is read as those records, whatever stands behind it
 pub trace-items : (rs : List Record) (rest : List ℕ) → items (length rs) (traceOf rs ++ rest) ≡ map Whole rs

@@ -6,7 +6,8 @@ use native.Mathlib.Numerals.{add-one}
 use native.Mathlib.Omega.{arith}
 use lib.ListN.{length, drop, getD, length-append, drop-of-length-le}
 use lib.Seq.{drop-cons}
-use Rattle.text.specs.Text.{ascii, decimal, decimalPlaces, newline, numbersLine, space, spaced}
+use Rattle.file.specs.Readers.{ascii}
+use Rattle.text.specs.Text.{decimal, decimalPlaces, newline, numbersLine, space, spaced}
 use Rattle.text.proofs.Spelled.{digits-length}
 
 pub behind-length : (n : ℕ) → length (space ++ decimal n) ≡ 1 + decimalPlaces n n

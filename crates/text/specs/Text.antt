@@ -1,8 +1,6 @@
 -- 01, 'The replay program': the text that it prints, as bytes.
 -- Assumes nothing.
-use Prim.Native.Char.{code}
 use Prim.Native.Nat.{ℕ, zero, suc, _+_, _/_, _%_}
-use Prim.Native.String.{String, [] as empty, _∷_ as _then_}
 use mathlib.Core.Bool.{true, false, cond}
 use mathlib.Core.List.{List, [], _∷_, _++_}
 use lib.Dec.{ltb}
@@ -15,13 +13,9 @@ use Rattle.file.specs.declared.answer.Answer.{Answer}
 use Rattle.file.specs.declared.registers.File.{File}
 use Rattle.file.specs.Answers.{codeOf, valueOf}
 use Rattle.file.specs.File.{powerOn}
+use Rattle.file.specs.Readers.{ascii}
 use Rattle.timing.specs.declared.Timing.{Timing}
 use Rattle.timing.specs.Timing.{numbersOf, timingIn}
-
--- a text as its bytes
-unfoldable pub ascii : String → List ℕ
-ascii empty = []
-ascii (c then s) = code c ∷ ascii s
 
 -- how many decimal digits a number has; the first argument bounds how far it is looked at
 unfoldable pub decimalPlaces : ℕ → ℕ → ℕ

@@ -2,7 +2,8 @@
 use native.Mathlib.Omega.{arith}
 use borrow.Author.Needs.{needs}
 use denote.Ref.{now}
-use Rattle.text.specs.Text.{ascii, newline, numbersLine}
+use Rattle.file.specs.Readers.{ascii}
+use Rattle.text.specs.Text.{newline, numbersLine}
 use Rattle.text.proofs.Spaced.{numbers-length}
 use Rattle.text.proofs.Stores.{then-text, unplaced, whole}
 use Rattle.text.proofs.numbers.numbers_line.Statement.{statement}

@@ -1,0 +1,61 @@
+-- `number_named` meets its contract. Invariant: the rows from the number on decide. Assumes nothing.
+use Prim.Native.Nat.{_+_, _-_, _≤_}
+use mathlib.Core.Path.{_≡_, sym, _∙_}
+use native.Mathlib.Omega.{arith}
+use borrow.Author.Needs.{needs}
+use lib.ListN.{drop}
+use Rattle.file.specs.Readers.{ascii, nameTable, numberOf, position}
+use Rattle.file.specs.Registers.{registers, singles, sequencer, crtc, graphics, attribute, pipeline}
+use Rattle.file.proofs.Named.{found, passed, ended, rows-count}
+use Rattle.file.proofs.readers.number_named.Statement.{statement}
+use Rattle.file.proofs.readers.number_named.Tie as tie
+
+abbrev Inv-loop : tie.InvT-loop
+Inv-loop name number₀ number = (number ≤ 100) × (number + position name (drop number nameTable) ≡ numberOf name)
+
+abbrev μ-loop : tie.MeasureT-loop
+μ-loop name number₀ number = 100 - number
+
+loop-holds : tie.Need-loop-holds Inv-loop μ-loop
+unfolding numberOf
+loop-holds c = (omega arith, omega arith)
+
+is-name-requires : tie.Need-is-name-requires Inv-loop μ-loop
+is-name-requires c κs = search needs
+
+returns : tie.Need-returns Inv-loop μ-loop
+returns c =
+    omega
+    (arith, c .before .before .before .loop .inv .1, found nameTable _ (c .before .before .before .loop .number) (omega (arith, rows-count, c .before .before .loop-test .taken)) (sym (c .before .is-name .ensures) ∙ c .if1 .taken))
+
+add-number : tie.Need-add-number Inv-loop μ-loop
+add-number c = search needs
+
+loop-less : tie.Need-loop-less Inv-loop μ-loop
+loop-less c = search needs
+
+loop-again : tie.Need-loop-again Inv-loop μ-loop
+loop-again c = (
+  omega arith,
+  omega
+      (arith, c .before .before .before .loop .inv .1, passed nameTable _ (c .before .before .before .loop .number) (omega (arith, rows-count, c .before .before .loop-test .taken)) (sym (c .before .is-name .ensures) ∙ c .if1 .left)),
+)
+
+returns-2 : tie.Need-returns-2 Inv-loop μ-loop
+returns-2 c =
+    omega
+    (arith, c .before .loop .inv .0, c .before .loop .inv .1, c .loop-test .left, ended nameTable (c .before .before .before .args .name .now) (c .before .loop .number) (omega (arith, rows-count, c .loop-test .left)))
+
+pub number-named-spec : {M : Type 1} → statement M
+number-named-spec =
+    tie.close
+    (tie.spec
+    Inv-loop
+    μ-loop
+    loop-holds
+    is-name-requires
+    returns
+    add-number
+    loop-less
+    loop-again
+    returns-2)

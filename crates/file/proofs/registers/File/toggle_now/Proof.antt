@@ -1,0 +1,20 @@
+-- `File::toggle_now` meets its contract. Assumes nothing.
+use mathlib.Core.Path.{sym, _∙_}
+use Rattle.file.specs.Readers.{readToggle}
+use borrow.Author.Needs.{needs}
+use Rattle.file.proofs.registers.File.toggle_now.Statement.{statement}
+use Rattle.file.proofs.registers.File.toggle_now.Tie as tie
+
+is-sound-requires : tie.Need-is-sound-requires
+is-sound-requires c κs = search needs
+
+returns : tie.Need-returns
+unfolding readToggle
+returns c = rw (sym (c .before .is-sound .ensures) ∙ c .if1 .taken)
+
+returns-2 : tie.Need-returns-2
+unfolding readToggle
+returns-2 c = rw (sym (c .before .is-sound .ensures) ∙ c .if1 .left)
+
+pub toggle-now-spec : {M : Type 1} → statement M
+toggle-now-spec = tie.close (tie.spec is-sound-requires returns returns-2)

@@ -1,0 +1,75 @@
+-- 01, 'Accesses and replies': 'all other readers of a file answer 12 with all numbers 0, marks off'. What a host reads of a file without an access.
+-- Assumes nothing.
+use Prim.Native.Char.{code}
+use Prim.Native.Nat.{ℕ, zero, suc}
+use Prim.Native.String.{String, [] as empty, _∷_ as _then_}
+use mathlib.Core.Bool.{Bool, true, false, cond, _&&_}
+use mathlib.Core.List.{List, [], _∷_, map}
+use lib.Dec.{eqb, ltb}
+use lib.ListN.{getD}
+use Rattle.file.specs.declared.answer.Answer.{Answer}
+use Rattle.file.specs.declared.answer.Answer.the-variants.{Done, NoRegister, NotSound}
+use Rattle.file.specs.declared.palette.Colour.{Colour}
+use Rattle.file.specs.declared.readers.EntryRead.{EntryRead}
+use Rattle.file.specs.declared.readers.PointerRead.{PointerRead}
+use Rattle.file.specs.declared.readers.ToggleRead.{ToggleRead}
+use Rattle.file.specs.declared.registers.File.{File}
+use Rattle.file.specs.File.{register, black}
+use Rattle.file.specs.Palette.{addressed}
+use Rattle.file.specs.Registers.{Register, registers, singles, sequencer, crtc, graphics, attribute, pipeline}
+use Rattle.file.specs.Sound.{sound}
+
+-- a text as its bytes
+unfoldable pub ascii : String → List ℕ
+ascii empty = []
+ascii (c then s) = code c ∷ ascii s
+
+-- 01, 'Stored bits': the names of the registers, by their numbers
+unfoldable pub nameTable : List (List ℕ)
+unfolding registers singles sequencer crtc graphics attribute pipeline ascii
+nameTable = map (λ (r : Register). ascii (r .name)) registers
+
+unfoldable pub same : List ℕ → List ℕ → Bool
+same [] [] = true
+same [] (y ∷ ys) = false
+same (x ∷ xs) [] = false
+same (x ∷ xs) (y ∷ ys) = eqb x y && same xs ys
+
+-- the place of the first row that is the name; the number of rows if none is
+unfoldable pub position : List ℕ → List (List ℕ) → ℕ
+position name [] = 0
+position name (row ∷ rows) = cond (same row name) 0 (suc (position name rows))
+
+unfoldable pub numberOf : List ℕ → ℕ
+numberOf name = position name nameTable
+
+-- 01, 'Stored bits': a register by its number; code 1 as of an index that names no held register
+unfoldable pub readRegister : File → ℕ → Answer
+readRegister f number = cond (sound f) (cond (ltb number 100) (Done (register f number)) NoRegister) NotSound
+
+-- and by its name
+unfoldable pub readNamed : File → List ℕ → Answer
+readNamed f name = readRegister f (numberOf name)
+
+unfoldable pub noEntry : Answer → EntryRead
+noEntry a = record { answer = a; colour = black }
+
+-- 01, 'The palette pointer': 'a bank of 16 cursor and border colours, else one of 256'
+unfoldable pub readEntry : File → ℕ → List Colour → ℕ → EntryRead
+readEntry f count entries n =
+    cond (sound f) (cond (ltb n count) (record { answer = Done 0; colour = getD entries n black }) (noEntry NoRegister)) (noEntry NotSound)
+
+unfoldable pub readPalette : File → ℕ → EntryRead
+readPalette f n = readEntry f 256 (f .palette) n
+
+unfoldable pub readBank : File → ℕ → EntryRead
+readBank f n = readEntry f 16 (f .bank) n
+
+-- 01, 'The palette pointer': 'An address, a mode, a next colour .. and two held bytes'
+unfoldable pub readPointer : File → PointerRead
+readPointer f =
+    cond (sound f) (record { answer = Done 0; pointer = f .pointer }) (record { answer = NotSound; pointer = addressed false 0 })
+
+-- 01, 'Places': the toggle says whether the next 3C0h write is data
+unfoldable pub readToggle : File → ToggleRead
+readToggle f = cond (sound f) (record { answer = Done 0; toggle = f .toggle }) (record { answer = NotSound; toggle = false })
