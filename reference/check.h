@@ -1,0 +1,115 @@
+/* What examples.c and points.c share: short ways to make an access and to compare files. */
+#ifndef CHECK_H
+#define CHECK_H
+
+#include <stdio.h>
+#include <stdlib.h>
+#include <string.h>
+
+#include "sedgecoil.h"
+
+static inline bool same_file(const struct sc_file *a, const struct sc_file *b)
+{
+    return a->pci04 == b->pci04 && a->misc == b->misc && a->srx == b->srx && a->crx == b->crx
+        && a->grx == b->grx && a->arx == b->arx && a->pixel_mask == b->pixel_mask
+        && a->data_next == b->data_next
+        && !memcmp(a->sr, b->sr, sizeof a->sr) && !memcmp(a->cr, b->cr, sizeof a->cr)
+        && !memcmp(a->gr, b->gr, sizeof a->gr) && !memcmp(a->ar, b->ar, sizeof a->ar)
+        && !memcmp(a->pipe, b->pipe, sizeof a->pipe)
+        && a->pointer.address == b->pointer.address && a->pointer.reading == b->pointer.reading
+        && a->pointer.colour == b->pointer.colour
+        && !memcmp(a->pointer.held, b->pointer.held, sizeof a->pointer.held)
+        && !memcmp(a->palette, b->palette, sizeof a->palette)
+        && !memcmp(a->bank, b->bank, sizeof a->bank);
+}
+
+/* The value if the access is done, else minus its code. A refusal must leave the file as it was. */
+static inline int ask(struct sc_file *f, int kind, int width, int address, uint32_t value)
+{
+    struct sc_record r = { (uint8_t)kind, (uint8_t)width, (uint16_t)address, value };
+    struct sc_file before = *f;
+    struct sc_reply reply = sc_access(f, &r);
+    bool kept = reply.code < 2 || same_file(&before, f);
+    bool copied = reply.kind == r.kind && reply.address == r.address;
+    bool quiet = (reply.code == 0 && !(kind & 1)) || reply.value == 0;
+
+    if (kept && copied && quiet)
+        return reply.code ? -reply.code : reply.value;
+    printf("FAILED: the reply to kind %d address %04Xh breaks a general rule\n", kind, address);
+    exit(1);
+}
+
+static inline int in(struct sc_file *f, int port)
+{
+    return ask(f, SC_PORT_READ, 1, port, 0);
+}
+
+static inline int out(struct sc_file *f, int port, int value)
+{
+    return ask(f, SC_PORT_WRITE, 1, port, (uint32_t)value);
+}
+
+static inline int peek(struct sc_file *f, int address)
+{
+    return ask(f, SC_MMIO_READ, 1, address, 0);
+}
+
+static inline int poke(struct sc_file *f, int address, int value)
+{
+    return ask(f, SC_MMIO_WRITE, 1, address, (uint32_t)value);
+}
+
+static inline int peek16(struct sc_file *f, int address)
+{
+    return ask(f, SC_MMIO_READ, 2, address, 0);
+}
+
+static inline int poke16(struct sc_file *f, int address, int value)
+{
+    return ask(f, SC_MMIO_WRITE, 2, address, (uint32_t)value);
+}
+
+/* Index and data; -code of the data access. */
+static inline int in_at(struct sc_file *f, int index_port, int index)
+{
+    return out(f, index_port, index) < 0 ? -99 : in(f, index_port + 1);
+}
+
+static inline int out_at(struct sc_file *f, int index_port, int index, int value)
+{
+    return out(f, index_port, index) < 0 ? -99 : out(f, index_port + 1, value);
+}
+
+/* 01 "Marked examples": from power-on with PCI04=0003h. */
+static inline struct sc_file opened(void)
+{
+    struct sc_file f;
+
+    sc_power_on(&f);
+    if (ask(&f, SC_CONFIG_WRITE, 2, 0x04, 3) != 0) {
+        printf("FAILED: PCI04 can't be written\n");
+        exit(1);
+    }
+    return f;
+}
+
+struct check {
+    const char *name;
+    const char *text;
+    bool (*holds)(void);
+};
+
+/* Prints a line for each; 1 if one failed, else 0. */
+static inline int run_checks(const struct check *check, size_t count)
+{
+    int failed = 0;
+
+    for (size_t i = 0; i < count; i++) {
+        bool ok = check[i].holds();
+        failed |= !ok;
+        printf("%-9s %-6s %s\n", check[i].name, ok ? "ok" : "FAILED", check[i].text);
+    }
+    return failed;
+}
+
+#endif

@@ -1,0 +1,979 @@
+/*
+ * The open points of 01 as they were settled, one check each (1 to 31; 6 is checked by
+ * examples.c and tests/compare, 32 to 35 concern plans), then checks over many files.
+ */
+#include "check.h"
+
+#define LENGTH(array) (sizeof (array) / sizeof (array)[0])
+
+/* ---- Chance ---- */
+
+static uint32_t chance_state = 1;
+
+/* xorshift32 */
+static uint32_t chance(void)
+{
+    chance_state ^= chance_state << 13;
+    chance_state ^= chance_state >> 17;
+    chance_state ^= chance_state << 5;
+    return chance_state;
+}
+
+static uint32_t below(uint32_t limit)
+{
+    return chance() % limit;
+}
+
+/* ---- 01 "Places" once more, as lists ---- */
+
+static const uint16_t port_reads[] = {
+    0x3C0, 0x3C1, 0x3CC, 0x3C4, 0x3C5, 0x3C6, 0x3C7, 0x3C8, 0x3C9, 0x3CE, 0x3CF,
+    0x3B4, 0x3B5, 0x3D4, 0x3D5, 0x3BA, 0x3DA,
+};
+static const uint16_t port_writes[] = {
+    0x3C0, 0x3C2, 0x3C4, 0x3C5, 0x3C6, 0x3C7, 0x3C8, 0x3C9, 0x3CE, 0x3CF,
+    0x3B4, 0x3B5, 0x3D4, 0x3D5,
+};
+static const uint16_t mmio8[] = {
+    0x00, 0x04, 0x08, 0x0C, 0x10, 0x14, 0x18, 0x1C, 0x20, 0x24, 0x28, 0x2C, 0x30, 0x34, 0x38, 0x3C,
+    0x40, 0x44, 0x48, 0x4C, 0x50, 0x54, 0x58, 0x5C, 0x60, 0x64, 0x68, 0x6C, 0x74, 0x78,
+    0x80, 0x84, 0x88, 0xA0, 0xA4, 0xA8, 0xAC, 0xB0, 0xB8, 0xBC, 0xD4, 0xD5,
+};
+static const uint16_t mmio16[] = {
+    0xC0, 0xCC, 0xCE, 0xD0, 0xD2, 0xE0, 0xE2, 0xE4, 0xE6, 0xE8, 0x300, 0x302, 0x304,
+};
+static const uint16_t config16[] = { 0x00, 0x02, 0x04 };
+
+static bool listed(uint32_t address, const uint16_t *list, size_t count)
+{
+    for (size_t i = 0; i < count; i++)
+        if (list[i] == address)
+            return true;
+    return false;
+}
+
+/* The width held at an address of a space in a direction; 0 if none. */
+static int held_width(int kind, uint32_t address)
+{
+    switch (kind) {
+    case SC_PORT_READ: return listed(address, port_reads, LENGTH(port_reads));
+    case SC_PORT_WRITE: return listed(address, port_writes, LENGTH(port_writes));
+    case SC_MMIO_READ: case SC_MMIO_WRITE:
+        return listed(address, mmio8, LENGTH(mmio8)) ? 1
+            : listed(address, mmio16, LENGTH(mmio16)) ? 2 : 0;
+    default: return listed(address, config16, LENGTH(config16)) ? 2 : 0;
+    }
+}
+
+/* A sound file out of random accesses; all spaces open and the lock off at the end. */
+static struct sc_file random_file(void)
+{
+    struct sc_file f = opened();
+
+    for (int i = 0; i < 600; i++) {
+        bool wide = below(4) == 0;
+        bool mmio = wide || below(2);
+        uint16_t address = wide ? mmio16[below(LENGTH(mmio16))]
+            : mmio ? mmio8[below(LENGTH(mmio8))] : port_writes[below(LENGTH(port_writes))];
+        struct sc_record r = { mmio ? SC_MMIO_WRITE : SC_PORT_WRITE, wide ? 2 : 1, address,
+                               wide ? chance() & 0xFFFF : chance() & 0xFF };
+        sc_access(&f, &r);
+        f.pci04 |= 3;
+    }
+    f.cr[0x11] &= 0x7F;
+    return f;
+}
+
+static struct sc_pointer pointer(int address, bool reading, int colour, int red, int green)
+{
+    return (struct sc_pointer){ (uint8_t)address, reading, (uint8_t)colour,
+                                { (uint8_t)red, (uint8_t)green } };
+}
+
+static bool points_at(const struct sc_file *f, int address, bool reading, int colour, int red,
+                      int green)
+{
+    struct sc_pointer p = pointer(address, reading, colour, red, green);
+
+    return !memcmp(&f->pointer, &p, sizeof p);
+}
+
+static bool entry_is(const uint8_t entry[SC_COLOURS], int red, int green, int blue)
+{
+    return entry[0] == red && entry[1] == green && entry[2] == blue;
+}
+
+static struct sc_file unsound(void)
+{
+    struct sc_file f = opened();
+
+    f.sr[0x05] = 1;
+    return f;
+}
+
+/* ---- Replies and runs ---- */
+
+static bool point1(void)
+{
+    static const uint8_t trace[] = {
+        0x00, 0x02, 0x00, 0x00, 0x00, 0x00, 0x00, 0x00,     /* PCI00 reads 1013h */
+        0xFE, 0x01, 0x34, 0x12, 0x78, 0x56, 0x34, 0x12,     /* kind FEh: 2 */
+    };
+    static const uint8_t wanted[] = {
+        0x00, 0x00, 0x00, 0x00, 0x13, 0x10, 0x00, 0x00,
+        0x02, 0xFE, 0x34, 0x12, 0x00, 0x00, 0x00, 0x00,
+    };
+    uint8_t replies[16];
+    struct sc_file f = opened(), u = unsound();
+
+    memset(replies, 0xEE, sizeof replies);
+    return sc_run(&f, trace, 16, replies, 16).count == 2 && !memcmp(replies, wanted, 16)
+        && ask(&u, 0xFE, 1, 0x1234, 0) == -12;
+}
+
+static bool point2(void)
+{
+    static const uint8_t trace[7] = { 0x02, 0x01, 0xCC, 0x03 };
+    struct sc_file f = opened(), before = f;
+
+    for (size_t length = 1; length <= 7; length++) {
+        uint8_t reply[8] = { 9, 9, 9, 9, 9, 9, 9, 9 };
+        uint8_t wanted[8] = { 2, 0x02, length > 2 ? 0xCC : 0, length > 3 ? 0x03 : 0 };
+        struct sc_progress p = sc_run(&f, trace, length, reply, 8);
+        if (p.code != 0 || p.count != 1 || p.rest_length != 0 || p.rest != trace + length)
+            return false;
+        if (memcmp(reply, wanted, 8) || !same_file(&f, &before))
+            return false;
+    }
+    return true;
+}
+
+static bool point3(void)
+{
+    static const uint8_t trace[20] = { 0, 2, 0, 0, 0, 0, 0, 0, 0, 2, 2, 0, 0, 0, 0, 0, 0, 2, 4, 0 };
+    uint8_t replies[24];
+    struct sc_file f = opened();
+    struct sc_progress two = sc_run(&f, trace, 20, replies, 16);
+    struct sc_progress three = sc_run(&f, trace, 20, replies, 24);
+
+    return two.count == 2 && two.rest == trace + 16 && two.rest_length == 4
+        && three.count == 3 && three.rest_length == 0 && replies[16] == 2 && replies[18] == 4;
+}
+
+static bool point4(void)
+{
+    static const uint8_t trace[16] = { 0x01, 0x02, 0x04, 0x00, 0x07 };
+    uint8_t replies[15];
+    struct sc_file f = opened(), before = f;
+
+    memset(replies, 0xEE, sizeof replies);
+    struct sc_progress none = sc_run(&f, trace, 16, replies, 7);
+    if (none.code != 0 || none.count != 0 || none.rest != trace || none.rest_length != 16)
+        return false;
+    if (replies[0] != 0xEE || !same_file(&f, &before))
+        return false;
+    struct sc_progress one = sc_run(&f, trace, 16, replies, 15);
+    return one.count == 1 && one.rest_length == 8 && replies[7] == 0 && replies[8] == 0xEE
+        && replies[14] == 0xEE && f.pci04 == 7;
+}
+
+static bool point5(void)
+{
+    static const uint8_t bad[8] = { 9 };
+    uint8_t reply[8];
+    struct sc_file f = opened(), u = unsound(), before = u;
+    struct sc_progress p;
+
+    if (sc_run(&f, bad, 8, reply, 8).code != 0 || reply[0] != 2)
+        return false;
+    memset(reply, 0xEE, sizeof reply);
+    p = sc_run(&u, bad, 8, reply, 8);
+    if (p.code != 12 || p.count != 0 || p.rest != bad || p.rest_length != 8 || reply[0] != 0xEE)
+        return false;
+    return sc_run(&u, bad, 0, reply, 8).code == 12 && sc_run(&u, bad, 8, reply, 0).code == 12
+        && same_file(&u, &before);
+}
+
+/* ---- The order of checks, and codes ---- */
+
+static bool point7(void)
+{
+    struct sc_file f;
+
+    sc_power_on(&f);
+    for (int address = 0; address < 0x10000; address++)
+        if (in(&f, address) != -3 || poke(&f, address, 0) != -3 || ask(&f, 2, 2, address, 0) != -3)
+            return false;
+    if (ask(&f, SC_CONFIG_READ, 1, 0x08, 0) != -4 || in(&f, 0x3CC) != -3)
+        return false;
+    ask(&f, SC_CONFIG_WRITE, 2, 4, 1);
+    if (in(&f, 0x3CC) != 0 || peek(&f, 0x80) != -3)
+        return false;
+    ask(&f, SC_CONFIG_WRITE, 2, 4, 2);
+    return in(&f, 0x3CC) == -3 && peek(&f, 0x80) == 0
+        && ask(&f, SC_PORT_READ, 1, 0, 1) == -2;
+}
+
+static bool point8(void)
+{
+    struct sc_file f = opened();
+
+    for (int misc = 0; misc < 2; misc++) {
+        out(&f, 0x3C2, misc);
+        if (in(&f, 0x3C2) != -4 || out(&f, 0x3CC, 0) != -4 || out(&f, 0x3C1, 0) != -4)
+            return false;
+        if (out(&f, 0x3BA, 0) != -4 || out(&f, 0x3DA, 0) != -4)
+            return false;
+        if (in(&f, 0x3CA) != -4 || out(&f, 0x3CA, 0) != -4)
+            return false;
+    }
+    return true;
+}
+
+static bool point9(void)
+{
+    struct sc_file f = opened();
+
+    for (int address = 0; address <= 2; address += 2) {
+        if (ask(&f, SC_CONFIG_WRITE, 1, address, 0) != -6 || poke(&f, 0x300 + address, 0) != -6)
+            return false;
+        if (ask(&f, SC_CONFIG_WRITE, 2, address, 0) != -7 || poke16(&f, 0x300 + address, 0) != -7)
+            return false;
+    }
+    return peek16(&f, 0x300) == 0x1013 && peek16(&f, 0x302) == 0x00D4 && peek16(&f, 0x304) == 3;
+}
+
+static bool point10(void)
+{
+    struct sc_file f = opened();
+
+    out(&f, 0x3C0, 0x11);
+    if (in(&f, 0x3DA) != -5 || !f.data_next || in(&f, 0x3BA) != 0 || f.data_next)
+        return false;
+    out(&f, 0x3C2, 0x01);
+    out(&f, 0x3C0, 0x11);
+    return in(&f, 0x3BA) == -5 && f.data_next && in(&f, 0x3DA) == 0 && !f.data_next;
+}
+
+static bool point11(void)
+{
+    struct sc_file f = opened();
+
+    out(&f, 0x3C4, 0x05);
+    return ask(&f, SC_PORT_WRITE, 2, 0x3C5, 0xFFFF) == -6
+        && ask(&f, SC_PORT_WRITE, 2, 0x3C4, 0x0F02) == -6 && f.srx == 5
+        && ask(&f, SC_PORT_WRITE, 2, 0x3C4, 0x10000) == -2
+        && ask(&f, SC_PORT_WRITE, 1, 0x3C4, 0x100) == -2
+        && ask(&f, SC_PORT_READ, 2, 0x3D4, 0) == -5 && ask(&f, SC_PORT_READ, 2, 0x3CA, 0) == -4
+        && ask(&f, SC_PORT_READ, 2, 0x3C4, 0) == -6 && ask(&f, SC_PORT_READ, 2, 0x3C4, 1) == -2
+        && ask(&f, SC_PORT_READ, 0, 0x3C4, 0) == -2 && ask(&f, SC_PORT_READ, 3, 0x3C4, 0) == -2;
+}
+
+static bool point12(void)
+{
+    static const uint16_t wide[] = { 0xC0, 0xCC, 0xCE, 0xD0, 0xD2, 0xE0, 0xE2, 0xE4, 0xE6, 0xE8,
+                                     0x300, 0x302, 0x304 };
+    struct sc_file f = opened();
+
+    for (size_t i = 0; i < LENGTH(wide); i++)
+        if (peek(&f, wide[i]) != -6 || poke(&f, wide[i], 0) != -6
+            || peek(&f, wide[i] + 1) != -4 || poke(&f, wide[i] + 1, 0) != -4)
+            return false;
+    return ask(&f, SC_CONFIG_READ, 1, 5, 0) == -4 && ask(&f, SC_CONFIG_READ, 1, 4, 0) == -6
+        && peek16(&f, 0xD4) == -6 && poke16(&f, 0xD4, 0) == -6 && peek(&f, 0xD5) == 0;
+}
+
+/* Every address of every space, width and direction, under both MISC[0]. */
+static bool point13(void)
+{
+    for (int misc = 0; misc < 2; misc++)
+        for (int kind = 0; kind < 6; kind++)
+            for (int width = 1; width <= 2; width++)
+                for (int address = 0; address < 0x10000; address++) {
+                    struct sc_file f = opened();
+                    f.misc = (uint8_t)misc;
+                    int held = held_width(kind, (uint32_t)address);
+                    bool port = kind == SC_PORT_READ || kind == SC_PORT_WRITE;
+                    bool other = port && address >> 4 == (misc ? 0x3B : 0x3D);
+                    bool fixed = (kind == SC_CONFIG_WRITE && address < 4)
+                        || (kind == SC_MMIO_WRITE && address >= 0x300 && address < 0x304);
+                    int wanted = !held ? 4 : other ? 5 : held != width ? 6 : fixed ? 7 : 0;
+                    int got = ask(&f, kind, width, address, 0);
+                    if (wanted ? got != -wanted : got < 0)
+                        return false;
+                }
+    return true;
+}
+
+/* What an index answers; the lists are those of point 14 and 01 "Stored bits". */
+static bool index_answers(int port, int index, int mask, int constant, bool named)
+{
+    struct sc_file f = opened();
+
+    if (!named)
+        return out_at(&f, port, index, 0xFF) == -1 && in_at(&f, port, index) == -1
+            && out(&f, port + 1, 0xFF) == -1;
+    if (constant >= 0)
+        return out_at(&f, port, index, 0xFF) == -7 && in_at(&f, port, index) == constant;
+    return out_at(&f, port, index, 0xFF) == 0 && in_at(&f, port, index) == mask
+        && out(&f, port + 1, 0x55) == 0 && in(&f, port + 1) == (mask & 0x55)
+        && out(&f, port + 1, 0xAA) == 0 && in(&f, port + 1) == (mask & 0xAA);
+}
+
+static int sr_bits(int n)
+{
+    switch (n) {
+    case 0x00: return 0x03;
+    case 0x01: return 0x3D;
+    case 0x02: return 0x0F;
+    case 0x03: return 0x3F;
+    case 0x04: return 0x0E;
+    case 0x07: return 0x01;
+    case 0x09: case 0x0A: case 0x14: case 0x15: return 0xFF;
+    default: return n >= 0x0B && n <= 0x0E ? 0xFF : n >= 0x1B && n <= 0x1E ? 0x7F : 0;
+    }
+}
+
+static int cr_bits(int n)
+{
+    switch (n) {
+    case 0x08: case 0x0B: case 0x14: return 0x7F;
+    case 0x0A: return 0x3F;
+    case 0x17: return 0xEF;
+    case 0x1D: return 0x18;
+    default: return n <= 0x1E && n != 0x1C ? 0xFF : 0;
+    }
+}
+
+static int gr_bits(int n)
+{
+    static const uint8_t bits[] = { 0x0F, 0x0F, 0x0F, 0x1F, 0x03, 0x7B, 0x0F, 0x0F, 0xFF };
+
+    return n < 9 ? bits[n] : 0;
+}
+
+static int ar_bits(int n)
+{
+    return n <= 0x0F ? 0x3F : n == 0x10 ? 0xEF : n == 0x11 ? 0xFF : n == 0x12 ? 0x3F
+        : n <= 0x14 ? 0x0F : 0;
+}
+
+static bool attribute_answers(int index)
+{
+    struct sc_file f = opened();
+    int bits = ar_bits(index & 0x1F);
+    int done = bits ? 0 : -1;
+
+    return out(&f, 0x3C0, index) == 0 && f.data_next && in(&f, 0x3C0) == (index & 0x3F)
+        && out(&f, 0x3C0, 0xFF) == done && !f.data_next
+        && in(&f, 0x3C1) == (bits ? bits : -1) && !f.data_next;
+}
+
+static bool point14(void)
+{
+    for (int n = 0; n < 0x20; n++)
+        if (!index_answers(0x3C4, n, sr_bits(n), n == 6 ? 0x12 : -1, n == 6 || sr_bits(n)))
+            return false;
+    for (int n = 0; n < 0x40; n++) {
+        bool shows = n == 0x24 || n == 0x26;
+        if (!index_answers(0x3B4, n, cr_bits(n), shows ? 0 : -1, shows || cr_bits(n)))
+            return false;
+        if (!index_answers(0x3CE, n, gr_bits(n), -1, gr_bits(n)))
+            return false;
+    }
+    for (int n = 0; n < 0x100; n++)
+        if (!attribute_answers(n))
+            return false;
+    return true;
+}
+
+static bool point15(void)
+{
+    struct sc_file f = opened();
+
+    return out(&f, 0x3C4, 0x26) == 0 && in(&f, 0x3C5) == 0x12 && in(&f, 0x3C4) == 0x06
+        && poke(&f, 0x00, 0x5F) == 0 && out(&f, 0x3B4, 0x40) == 0 && in(&f, 0x3B5) == 0x5F
+        && out(&f, 0x3CE, 0xC8) == 0 && in(&f, 0x3CE) == 0x08
+        && out(&f, 0x3C0, 0xE3) == 0 && in(&f, 0x3C0) == 0x23 && out(&f, 0x3C0, 0x2A) == 0
+        && f.ar[3] == 0x2A;
+}
+
+static bool point16(void)
+{
+    struct sc_file f = opened();
+
+    out(&f, 0x3B4, 0x0A);
+    out(&f, 0x3C4, 0x02);
+    for (int misc = 0; misc < 2; misc++) {
+        poke(&f, 0x80, misc);
+        if (poke(&f, 4 * 0x0C, 0x34 + misc) != 0 || f.cr[0x0C] != 0x34 + misc)
+            return false;
+        if (poke(&f, 0x84, 0x91) != 0 || poke(&f, 0x88, 0xFF) != 0)
+            return false;
+    }
+    if (f.crx != 0x0A || f.srx != 0x02 || f.sr[0x0E] != 0x91 || f.sr[0x1E] != 0x7F)
+        return false;
+    poke(&f, 0x44, 0x80);
+    for (int n = 0; n <= 6; n++)
+        if (poke(&f, 4 * n, 1) != -8 || out_at(&f, 0x3D4, n, 1) != -8)
+            return false;
+    return poke(&f, 0x20, 0x7F) == 0 && poke(&f, 0x44, 0) == 0 && poke(&f, 0, 1) == 0;
+}
+
+static bool point17(void)
+{
+    for (int road = 0; road < 2; road++)
+        for (int old = 0; old < 256; old++)
+            for (int value = 0; value < 256; value += 17) {
+                struct sc_file f = opened();
+                f.cr[7] = (uint8_t)old;
+                if (poke(&f, 0x44, 0xFF) != 0)
+                    return false;
+                if (road ? out_at(&f, 0x3B4, 7, value) : poke(&f, 0x1C, value))
+                    return false;
+                if (f.cr[7] != ((old & 0xEF) | (value & 0x10)) || poke(&f, 0x44, 0x0F) != 0)
+                    return false;
+            }
+    return true;
+}
+
+static bool point18(void)
+{
+    struct sc_file f = opened();
+
+    return poke16(&f, 0x304, 0x0001) == 0 && peek16(&f, 0x304) == -3
+        && ask(&f, SC_CONFIG_READ, 2, 4, 0) == 1 && in(&f, 0x3CC) == 0;
+}
+
+/* Does a read at either width leave this file? */
+static bool read_leaves(const struct sc_file *file, int kind, int address)
+{
+    struct sc_file f = *file;
+
+    ask(&f, kind, 1, address, 0);
+    ask(&f, kind, 2, address, 0);
+    return same_file(&f, file);
+}
+
+/* All reads but those of 3?Ah and pixel data leave the file. */
+static bool point19(void)
+{
+    for (int round = 0; round < 100; round++) {
+        struct sc_file f = random_file();
+        for (int address = 0; address < 0x400; address++) {
+            bool moves = address == 0x3C9 || address == 0x3BA || address == 0x3DA;
+            if (!read_leaves(&f, SC_CONFIG_READ, address))
+                return false;
+            if (!moves && !read_leaves(&f, SC_PORT_READ, address))
+                return false;
+            if (address != 0xAC && !read_leaves(&f, SC_MMIO_READ, address))
+                return false;
+        }
+    }
+    return true;
+}
+
+/* ---- Attribute and palette ---- */
+
+static bool point20(void)
+{
+    struct sc_file f = opened();
+
+    out(&f, 0x3C0, 0x31);
+    if (in(&f, 0x3C0) != 0x31 || in(&f, 0x3C1) != 0 || in_at(&f, 0x3B4, 0x24) != 0x80)
+        return false;
+    if (in_at(&f, 0x3B4, 0x26) != 0x31 || out(&f, 0x3C0, 0x5A) != 0 || in(&f, 0x3C1) != 0x5A)
+        return false;
+    return in(&f, 0x3C0) == 0x31 && in_at(&f, 0x3B4, 0x24) == 0x00
+        && out_at(&f, 0x3B4, 0x24, 0) == -7 && out_at(&f, 0x3B4, 0x26, 0) == -7;
+}
+
+static bool point21(void)
+{
+    struct sc_file f = opened();
+
+    out(&f, 0x3C8, 0x2F);
+    out(&f, 0x3C9, 1);
+    out(&f, 0x3C9, 2);
+    if (poke(&f, 0xB0, 0x08) != 0 || !points_at(&f, 0x2F, false, SC_BLUE, 1, 2))
+        return false;
+    out(&f, 0x3C9, 3);
+    if (!entry_is(f.bank[0x0F], 1, 2, 3) || !entry_is(f.palette[0x2F], 0, 0, 0))
+        return false;
+    if (!points_at(&f, 0x30, false, SC_RED, 0, 0) || in(&f, 0x3C8) != 0x30)
+        return false;
+    memcpy(f.palette[0x1F], "\7\10\11", 3);
+    out(&f, 0x3C7, 0x1F);
+    if (in(&f, 0x3C9) != 1 || poke(&f, 0xB0, 0) != 0 || in(&f, 0x3C9) != 8)
+        return false;
+    return poke(&f, 0xB0, 8) == 0 && peek(&f, 0xAC) == 3 && peek(&f, 0xA8) == 0x20;
+}
+
+static bool point22(void)
+{
+    struct sc_file f = opened();
+
+    memcpy(f.palette[5], "\21\22\23", 3);
+    out(&f, 0x3C8, 5);
+    out(&f, 0x3C9, 0x61);
+    if (in(&f, 0x3C9) != 0x12 || !points_at(&f, 5, false, SC_BLUE, 0x61, 0))
+        return false;
+    if (out(&f, 0x3C9, 0x63) != 0 || !entry_is(f.palette[5], 0x61, 0, 0x63))
+        return false;
+    out(&f, 0x3C8, 5);
+    out(&f, 0x3C9, 0x71);
+    out(&f, 0x3C9, 0x72);
+    if (in(&f, 0x3C9) != 0x63 || !points_at(&f, 6, false, SC_RED, 0, 0))
+        return false;
+    out(&f, 0x3C8, 5);
+    out(&f, 0x3C9, 0x71);
+    return out(&f, 0x3C8, 9) == 0 && points_at(&f, 9, false, SC_RED, 0, 0)
+        && entry_is(f.palette[5], 0x61, 0, 0x63);
+}
+
+static bool point23(void)
+{
+    struct sc_file f = opened();
+
+    out(&f, 0x3C7, 0xFE);
+    for (int i = 0; i < 6; i++)
+        if (in(&f, 0x3C7) != 3 || peek(&f, 0xA4) != 3 || out(&f, 0x3C9, i) != 0)
+            return false;
+    if (!points_at(&f, 0, true, SC_RED, 0, 0) || !entry_is(f.palette[0xFF], 3, 4, 5))
+        return false;
+    if (in(&f, 0x3C8) != 0 || out(&f, 0x3C8, 0x44) != 0 || in(&f, 0x3C7) != 0)
+        return false;
+    return in(&f, 0x3C9) == 0 && in(&f, 0x3C7) == 0 && peek(&f, 0xA8) == 0x44
+        && poke(&f, 0xA4, 0x45) == 0 && peek(&f, 0xA8) == 0x45 && peek(&f, 0xA4) == 3;
+}
+
+static bool point24(void)
+{
+    struct sc_file f = opened();
+
+    out(&f, 0x3C8, 7);
+    out(&f, 0x3C9, 1);
+    poke(&f, 0xB0, 0x80);
+    if (in(&f, 0x3C9) != -9 || out(&f, 0x3C9, 2) != -9 || peek(&f, 0xAC) != -9
+        || poke(&f, 0xAC, 2) != -9 || !points_at(&f, 7, false, SC_GREEN, 1, 0))
+        return false;
+    return in(&f, 0x3C8) == 7 && out(&f, 0x3C7, 8) == 0 && out(&f, 0x3C6, 0x5A) == 0
+        && in(&f, 0x3C6) == 0x5A && peek(&f, 0xA0) == 0x5A && peek(&f, 0xB0) == 0x86
+        && poke(&f, 0xB0, 0) == 0 && in(&f, 0x3C9) == 0;
+}
+
+/* Every pointer with held bytes 0 or not; B0's low bits as 01 gives them. */
+static bool point25(void)
+{
+    for (int colour = 0; colour < 256; colour++)
+        for (int held = 0; held < 4; held++) {
+            struct sc_file f = opened();
+            int red = held & 1 ? 0x80 : 0, green = held & 2 ? 1 : 0;
+            bool sound = (colour == 0 && held == 0) || (colour == 1 && green == 0) || colour == 2;
+            f.pointer = pointer(3, true, colour, red, green);
+            if (sc_sound(&f) != sound)
+                return false;
+            if (sound ? peek(&f, 0xB0) != (4 | (colour + 2) % 3) : peek(&f, 0xB0) != -12)
+                return false;
+        }
+    return true;
+}
+
+/* ---- Timing, cursor, window ---- */
+
+/* 01 "Timing", read the slow way: pieces written out, ends found by counting up. */
+static uint32_t count_up(uint32_t start, uint32_t low, unsigned bits)
+{
+    uint32_t end = start + 1;
+
+    while (end % (1u << bits) != low)
+        end++;
+    return end;
+}
+
+static uint32_t bits_of(uint8_t byte, int high, int low)
+{
+    return (uint32_t)(byte >> low) % (2u << (high - low));
+}
+
+static struct sc_timing slow_timing(const struct sc_file *f)
+{
+    const uint8_t *cr = f->cr;
+    bool wide = bits_of(cr[0x1B], 5, 5) || bits_of(cr[0x1B], 7, 7);
+    uint32_t n[SC_NUMBERS];
+
+    n[0] = 256 * bits_of(cr[0x1E], 7, 7) + cr[0] + 5;
+    n[1] = 256 * bits_of(cr[0x1E], 6, 6) + cr[1] + 1;
+    n[2] = 256 * bits_of(cr[0x1E], 5, 5) + cr[2];
+    n[3] = 32 * bits_of(cr[5], 7, 7) + bits_of(cr[3], 4, 0);
+    n[3] = wide ? count_up(n[2], 64 * bits_of(cr[0x1A], 5, 4) + n[3], 8) : count_up(n[2], n[3], 6);
+    n[4] = 256 * bits_of(cr[0x1E], 4, 4) + cr[4];
+    n[5] = count_up(n[4], bits_of(cr[5], 4, 0), 5);
+    n[6] = 1024 * bits_of(cr[0x1E], 3, 3) + 512 * bits_of(cr[7], 5, 5) + 256 * bits_of(cr[7], 0, 0)
+        + cr[6] + 2;
+    n[7] = 1024 * bits_of(cr[0x1E], 2, 2) + 512 * bits_of(cr[7], 6, 6) + 256 * bits_of(cr[7], 1, 1)
+        + cr[0x12] + 1;
+    n[8] = 1024 * bits_of(cr[0x1E], 1, 1) + 512 * bits_of(cr[9], 5, 5) + 256 * bits_of(cr[7], 3, 3)
+        + cr[0x15];
+    n[9] = wide ? count_up(n[8], 256 * bits_of(cr[0x1A], 7, 6) + cr[0x16], 10)
+        : count_up(n[8], cr[0x16], 8);
+    n[10] = 1024 * bits_of(cr[0x1E], 0, 0) + 512 * bits_of(cr[7], 7, 7)
+        + 256 * bits_of(cr[7], 2, 2) + cr[0x10];
+    n[11] = count_up(n[10], bits_of(cr[0x11], 3, 0), 4);
+    n[12] = 512 * bits_of(cr[9], 6, 6) + 256 * bits_of(cr[7], 4, 4) + cr[0x18];
+    n[13] = 256 * bits_of(cr[0x1B], 4, 4) + cr[0x13];
+    n[14] = 524288 * bits_of(cr[0x1D], 4, 3) + 131072 * bits_of(cr[0x1B], 3, 2)
+        + 65536 * bits_of(cr[0x1B], 0, 0) + 256u * cr[0x0C] + cr[0x0D];
+
+    struct sc_timing t;
+    memcpy(t.number, n, sizeof n);
+    return t;
+}
+
+static struct sc_timing random_timing(bool wide)
+{
+    struct sc_timing t = { {
+        5 + below(512), 1 + below(512), below(512), 0, below(512), 0,
+        2 + below(2048), 1 + below(2048), below(2048), 0, below(2048), 0,
+        below(1024), below(512), below(2097152),
+    } };
+
+    t.number[3] = t.number[2] + 1 + below(wide ? 256 : 64);
+    t.number[5] = t.number[4] + 1 + below(32);
+    t.number[9] = t.number[8] + 1 + below(wide ? 1024 : 256);
+    t.number[11] = t.number[10] + 1 + below(16);
+    return t;
+}
+
+static bool is_wide(const struct sc_file *f)
+{
+    return f->cr[0x1B] & 0xA0;
+}
+
+static bool same_timing(const struct sc_timing *a, const struct sc_timing *b)
+{
+    return !memcmp(a, b, sizeof *a);
+}
+
+static bool timing_read(void)
+{
+    for (int round = 0; round < 4000; round++) {
+        struct sc_file f = random_file();
+        struct sc_timing t, slow = slow_timing(&f);
+        if (sc_timing_read(&f, &t) != 0 || !same_timing(&t, &slow))
+            return false;
+    }
+    return true;
+}
+
+static bool timing_kept(void)
+{
+    for (int round = 0; round < 4000; round++) {
+        struct sc_file f = random_file(), before = f;
+        struct sc_timing t, read;
+        sc_timing_read(&f, &t);
+        if (sc_timing_write(&f, &t) != 0 || !same_file(&f, &before))
+            return false;
+        t = random_timing(is_wide(&f));
+        if (sc_timing_write(&f, &t) != 0 || sc_timing_read(&f, &read) != 0)
+            return false;
+        if (!same_timing(&t, &read) || !sc_sound(&f) || is_wide(&f) != is_wide(&before))
+            return false;
+    }
+    return true;
+}
+
+/* Point 26: each number at its least and greatest is written, one beyond gives 10. */
+static bool point26(void)
+{
+    static const uint32_t least[SC_NUMBERS] = { 5, 1, 0, 1, 0, 1, 2, 1, 0, 1, 0, 1, 0, 0, 0 };
+    static const uint32_t narrow[SC_NUMBERS] = { 512, 512, 512, 64, 512, 32, 2048, 2048, 2048, 256,
+                                                 2048, 16, 1024, 512, 2097152 };
+
+    for (int round = 0; round < 400; round++)
+        for (int i = 0; i < SC_NUMBERS; i++) {
+            struct sc_file f = random_file();
+            bool wide = is_wide(&f), end = i == 3 || i == 5 || i == 9 || i == 11;
+            struct sc_timing t = random_timing(wide), read;
+            uint32_t low = least[i] + (end ? t.number[i - 1] : 0);
+            uint32_t values = wide && (i == 3 || i == 9) ? 4 * narrow[i] : narrow[i];
+            uint32_t tried[] = { low, low + values - 1, low - 1, low + values, 0xFFFFFFFF };
+            for (int k = 0; k < 5; k++) {
+                struct sc_file g = f;
+                if (i == 2 || i == 4 || i == 8 || i == 10)
+                    t.number[i + 1] = tried[k] + 1;
+                t.number[i] = tried[k];
+                int code = sc_timing_write(&g, &t);
+                sc_timing_read(&g, &read);
+                if (code != (k < 2 ? 0 : 10))
+                    return false;
+                if (code ? !same_file(&f, &g) : !same_timing(&t, &read))
+                    return false;
+            }
+        }
+    return true;
+}
+
+/* Point 27: the bits of each CR that the writer may move, narrow and wide. */
+static bool point27(void)
+{
+    static const uint8_t moved[0x1F] = {
+        0xFF, 0xFF, 0xFF, 0x1F, 0xFF, 0x9F, 0xFF, 0xFF,
+        0x00, 0x60, 0x00, 0x00, 0xFF, 0xFF, 0x00, 0x00,
+        0xFF, 0x0F, 0xFF, 0xFF, 0x00, 0xFF, 0xFF, 0x00,
+        0xFF, 0x00, 0xF0, 0x1D, 0x00, 0x18, 0xFF,
+    };
+
+    for (int round = 0; round < 4000; round++) {
+        struct sc_file f = random_file(), before = f;
+        struct sc_timing t = random_timing(is_wide(&f));
+        if (sc_timing_write(&f, &t) != 0)
+            return false;
+        for (int n = 0; n < 0x1F; n++)
+            if ((f.cr[n] ^ before.cr[n]) & ~(n == 0x1A && !is_wide(&f) ? 0 : moved[n]))
+                return false;
+        memcpy(f.cr, before.cr, sizeof f.cr);
+        if (!same_file(&f, &before))
+            return false;
+    }
+    return true;
+}
+
+static bool point28(void)
+{
+    struct sc_file f, before;
+    struct sc_timing t;
+
+    sc_power_on(&f);
+    sc_timing_read(&f, &t);
+    t.number[SC_OFFSET] = 40;
+    if (sc_timing_write(&f, &t) != 0 || f.cr[0x13] != 40)
+        return false;
+    f.cr[0x11] = 0x80;
+    before = f;
+    sc_timing_read(&f, &t);
+    if (sc_timing_write(&f, &t) != 8)
+        return false;
+    t.number[SC_H_TOTAL] = 4;
+    if (sc_timing_write(&f, &t) != 8 || !same_file(&f, &before))
+        return false;
+    f.cr[0x1F] = 1;
+    return sc_timing_write(&f, &t) == 12;
+}
+
+static bool point29(void)
+{
+    static const uint16_t presets[] = { 0x0000, 0x0A00, 0x3F3F, 0x4040, 0x7F7F, 0x007F, 0x7F00 };
+    struct sc_file f = opened();
+    struct sc_cursor c;
+
+    poke16(&f, 0xE0, 0x0FFF);
+    poke16(&f, 0xE8, 0xFFFF);
+    poke16(&f, 0xE6, 0xFFFE);
+    for (size_t i = 0; i < LENGTH(presets); i++) {
+        int x = presets[i] >> 8, y = presets[i] & 0xFF;
+        uint32_t width = x < 64 ? 64 - (uint32_t)x : 0, height = y < 64 ? 64 - (uint32_t)y : 0;
+        poke16(&f, 0xE4, presets[i] | 0x8080);
+        if (sc_cursor_read(&f, &c) != 0 || c.left != 4095 - x || c.top != -y || c.enabled)
+            return false;
+        if (c.width != width || c.height != height)
+            return false;
+    }
+    poke16(&f, 0xE6, 1);
+    return sc_cursor_read(&f, &c) == 0 && c.enabled && c.image == 8191u * 1024
+        && peek16(&f, 0xE8) == 0x7FFC && peek16(&f, 0xE6) == 1;
+}
+
+static bool point30(void)
+{
+    struct sc_file f = opened();
+    struct sc_window2 w;
+
+    if (sc_window2_read(&f, &w) != 0 || !w.empty || w.fault || w.enabled || w.bottom != 0)
+        return false;
+    poke(&f, 4 * 0x06, 98);     /* V total 100 */
+    poke(&f, 4 * 0x12, 79);     /* V display 80 */
+    poke16(&f, 0xCC, 10);
+    poke16(&f, 0xCE, 79);
+    poke16(&f, 0xD0, 11);
+    poke16(&f, 0xD2, 100);
+    poke(&f, 0xD4, 0xFF);
+    poke(&f, 0xD5, 0xC1);
+    if (sc_window2_read(&f, &w) != 0 || w.empty || w.fault || !w.enabled || !w.format)
+        return false;
+    if (w.left != 10 || w.top != 79 || w.right != 11 || w.bottom != 80)
+        return false;
+    if (w.blt_scanlines[0] != 64 * 63 || w.blt_scanlines[1] != 64)
+        return false;
+    poke16(&f, 0xD2, 101);
+    poke16(&f, 0xCE, 80);
+    poke(&f, 0xD4, 0x40);
+    if (sc_window2_read(&f, &w) != 0 || !w.empty || !w.fault || w.enabled || !w.format)
+        return false;
+    poke16(&f, 0xCE, 0);
+    poke16(&f, 0xD0, 10);
+    poke16(&f, 0xD2, 50);
+    return sc_window2_read(&f, &w) == 0 && w.empty && !w.fault && w.bottom == 50 && w.top == 0;
+}
+
+static bool point31(void)
+{
+    static const struct sc_timing zeros;
+    struct sc_file f = random_file();
+    struct sc_timing t;
+    struct sc_cursor c;
+    struct sc_window2 w;
+
+    f.pipe[SC_D4] = 0xFF;
+    f.pipe[SC_E6] = 0x1101;
+    f.pipe[SC_D2] = 0x1000;
+    if (sc_timing_read(&f, &t) != 12 || !same_timing(&t, &zeros))
+        return false;
+    if (sc_cursor_read(&f, &c) != 12 || c.enabled
+        || c.left || c.top || c.width || c.height || c.image)
+        return false;
+    return sc_window2_read(&f, &w) == 12 && !w.enabled && !w.format && !w.fault && w.empty
+        && !w.left && !w.top && !w.right && !w.bottom && !w.blt_scanlines[0] && !w.blt_scanlines[1];
+}
+
+/* ---- Soundness over many files ---- */
+
+/* Sets one bit of a byte; is the file sound exactly if the bit is in the table? */
+static bool bits_decide(size_t offset, int bits)
+{
+    for (int bit = 0; bit < 8; bit++) {
+        struct sc_file f = opened();
+        ((uint8_t *)&f)[offset] ^= (uint8_t)(1 << bit);
+        if (sc_sound(&f) != ((bits >> bit & 1) != 0))
+            return false;
+    }
+    return true;
+}
+
+static bool sound_bits(void)
+{
+    static const uint16_t pipe_bits[SC_PIPES] = {
+        [SC_B0] = 0x88, [SC_B8] = 0xFF, [SC_BC] = 0xFF, [SC_D4] = 0xFF, [SC_D5] = 0x3F,
+        [SC_C0] = 0x3F3F, [SC_CC] = 0x0FFF, [SC_CE] = 0x0FFF, [SC_D0] = 0x0FFF, [SC_D2] = 0x0FFF,
+        [SC_E0] = 0x0FFF, [SC_E2] = 0x0FFF, [SC_E4] = 0x7F7F, [SC_E6] = 0x1101, [SC_E8] = 0x7FFC,
+    };
+
+    for (int n = 0; n < SC_SRS; n++)
+        if (!bits_decide(offsetof(struct sc_file, sr) + (size_t)n, sr_bits(n)))
+            return false;
+    for (int n = 0; n < SC_CRS; n++)
+        if (!bits_decide(offsetof(struct sc_file, cr) + (size_t)n, cr_bits(n)))
+            return false;
+    for (int n = 0; n < SC_GRS; n++)
+        if (!bits_decide(offsetof(struct sc_file, gr) + (size_t)n, gr_bits(n)))
+            return false;
+    for (int n = 0; n < SC_ARS; n++)
+        if (!bits_decide(offsetof(struct sc_file, ar) + (size_t)n, ar_bits(n)))
+            return false;
+    for (int i = 0; i < SC_PIPES; i++)
+        for (int bit = 0; bit < 16; bit++) {
+            struct sc_file f = opened();
+            f.pipe[i] = (uint16_t)(1u << bit);
+            if (sc_sound(&f) != ((pipe_bits[i] >> bit & 1) != 0))
+                return false;
+        }
+    return bits_decide(offsetof(struct sc_file, misc), 0xEF)
+        && bits_decide(offsetof(struct sc_file, srx), 0x1F)
+        && bits_decide(offsetof(struct sc_file, crx), 0x3F)
+        && bits_decide(offsetof(struct sc_file, grx), 0x3F)
+        && bits_decide(offsetof(struct sc_file, arx), 0x3F)
+        && bits_decide(offsetof(struct sc_file, pixel_mask), 0xFF)
+        && bits_decide(offsetof(struct sc_file, palette) + 767, 0xFF)
+        && bits_decide(offsetof(struct sc_file, bank) + 47, 0xFF);
+}
+
+static bool sound_pci04(void)
+{
+    for (uint32_t value = 0; value < 0x10000; value++) {
+        struct sc_file f = opened();
+        f.pci04 = (uint16_t)value;
+        if (sc_sound(&f) != ((value & ~0x27u) == 0))
+            return false;
+    }
+    return true;
+}
+
+/* Accesses keep a file sound, and a run answers what single accesses do. */
+static bool sound_kept(void)
+{
+    static uint8_t trace[8 * 4096], replies[8 * 4096];
+
+    for (int round = 0; round < 200; round++) {
+        struct sc_file f = opened(), g = f;
+        for (size_t i = 0; i < 4096; i++) {
+            uint8_t *b = trace + 8 * i;
+            uint32_t kind = i % 64 ? below(7) : 1;
+            bool write = kind & 1, wide = below(4) == 0;
+            uint32_t address = i % 64 == 0 ? 4 : kind < 2 ? below(6) : kind < 4
+                ? 0x3B0 + below(0x30) : below(16) ? below(0x100) : 0x300 + below(6);
+            b[0] = (uint8_t)kind;
+            b[1] = i % 64 ? (uint8_t)(1 + wide) : 2;
+            b[2] = (uint8_t)address;
+            b[3] = (uint8_t)(address >> 8);
+            b[4] = i % 64 == 0 ? 3 : write ? (uint8_t)chance() : 0;
+            b[5] = write && wide ? (uint8_t)chance() : 0;
+            b[6] = b[7] = 0;
+        }
+        if (sc_run(&f, trace, sizeof trace, replies, sizeof replies).count != 4096 || !sc_sound(&f))
+            return false;
+        for (size_t i = 0; i < 4096; i++) {
+            struct sc_record r = sc_record_from(trace + 8 * i);
+            uint8_t bytes[8];
+            struct sc_reply reply = sc_access(&g, &r);
+            sc_reply_to(&reply, bytes);
+            if (reply.code > 9 || memcmp(bytes, replies + 8 * i, 8))
+                return false;
+        }
+        if (!same_file(&f, &g))
+            return false;
+    }
+    return true;
+}
+
+int main(void)
+{
+    static const struct check checks[] = {
+        { "point 1", "a reply's bytes", point1 },
+        { "point 2", "a fragment's reply", point2 },
+        { "point 3", "what a run hands back", point3 },
+        { "point 4", "places of a reply buffer", point4 },
+        { "point 5", "a run's own code", point5 },
+        { "point 7", "3 before 4, config never 3", point7 },
+        { "point 8", "4 by space, address and direction, before 5", point8 },
+        { "point 9", "PCI00 and PCI02 written", point9 },
+        { "point 10", "3?Ah of the other base", point10 },
+        { "point 11", "width 2 at a port", point11 },
+        { "point 12", "width 1 at 16 bits, odd halves, D4h", point12 },
+        { "point 13", "every address, no alias", point13 },
+        { "point 14", "every index, its bits or code 1", point14 },
+        { "point 15", "index registers drop high bits", point15 },
+        { "point 16", "CRs by MMIO", point16 },
+        { "point 17", "CR7 under the lock", point17 },
+        { "point 18", "MMIO closed through 304h", point18 },
+        { "point 19", "reads that move nothing", point19 },
+        { "point 20", "attribute reads, CR24, CR26", point20 },
+        { "point 21", "B0 chooses at the store and at each read", point21 },
+        { "point 22", "reads and writes mixed in one colour", point22 },
+        { "point 23", "the mode", point23 },
+        { "point 24", "power-down", point24 },
+        { "point 25", "pointers that are sound", point25 },
+        { "point 26", "every number's range", point26 },
+        { "point 27", "bits the timing writer leaves", point27 },
+        { "point 28", "the timing writer's order of codes", point28 },
+        { "point 29", "the cursor", point29 },
+        { "point 30", "window 2", point30 },
+        { "point 31", "readers of an unsound file", point31 },
+        { "timing", "reads as counted up from the table", timing_read },
+        { "timing", "written back changes nothing; written is read", timing_kept },
+        { "sound", "every bit by the table", sound_bits },
+        { "sound", "every PCI04", sound_pci04 },
+        { "sound", "kept by every access; a run is its accesses", sound_kept },
+    };
+
+    return run_checks(checks, LENGTH(checks));
+}

@@ -1,0 +1,147 @@
+"""Wrong copies of the reference: tests/compare must tell each from the right one.
+
+Each mistake is a name, a text that stands once in reference/sedgecoil.c, and what replaces it.
+The first five are those of 01 "Mistakes that look right" which a trace can show.
+"""
+
+MISTAKES = [
+    ("all of CR7 locked",
+     "if (locked && number <= 0x06)", "if (locked && number <= 0x07)"),
+    ("none of CR7 locked",
+     "if (locked && number == 0x07)", "if (false && number == 0x07)"),
+    ("an equal start and end as width 0",
+     "return start + 1 + ((low - start - 1) & (values - 1));",
+     "return start + ((low - start) & (values - 1));"),
+    ("an MMIO write moves CRX",
+     "    return is_write(r) ? write_place",
+     "    if (r->kind == SC_MMIO_WRITE && at.unit == CR)\n        f->crx = at.number;\n"
+     "    return is_write(r) ? write_place"),
+    ("a held red byte left when an address is written",
+     "*p = (struct sc_pointer){ .address = address, .reading = reading };",
+     "p->address = address, p->reading = reading, p->colour = SC_RED;"),
+
+    # The order of checks
+    ("3 before 2",
+     "    if (malformed(r))\n        return SC_MALFORMED;\n"
+     "    if (space_off(f, r))\n        return SC_SPACE_OFF;\n",
+     "    if (space_off(f, r))\n        return SC_SPACE_OFF;\n"
+     "    if (malformed(r))\n        return SC_MALFORMED;\n"),
+    ("4 before 3",
+     "    if (space_off(f, r))\n        return SC_SPACE_OFF;\n"
+     "    struct place at = place_of(f, r);\n",
+     "    struct place at = place_of(f, r);\n"
+     "    if (at.unit == NOWHERE)\n        return SC_NOT_HELD;\n"
+     "    if (space_off(f, r))\n        return SC_SPACE_OFF;\n"),
+    ("5 before 4",
+     "    if (at.unit == NOWHERE)\n        return SC_NOT_HELD;\n    if (other_base(f, r))\n",
+     "    if (other_base(f, r))\n        return SC_OTHER_BASE;\n"
+     "    if (at.unit == NOWHERE)\n        return SC_NOT_HELD;\n    if (other_base(f, r))\n"),
+    ("6 before 5",
+     "    if (other_base(f, r))\n        return SC_OTHER_BASE;\n"
+     "    if (r->width != at.width)\n        return SC_WRONG_WIDTH;\n",
+     "    if (r->width != at.width)\n        return SC_WRONG_WIDTH;\n"
+     "    if (other_base(f, r))\n        return SC_OTHER_BASE;\n"),
+    ("7 before 6",
+     "    if (r->width != at.width)\n",
+     "    if (is_write(r) && (at.unit == PCI00 || at.unit == PCI02))\n"
+     "        return SC_READ_ONLY;\n    if (r->width != at.width)\n"),
+    ("config shut by PCI04",
+     "    default: return false;\n    }\n}\n\n/* 01 \"Accesses and replies\", code 5",
+     "    default: return !(f->pci04 & 3);\n    }\n}\n\n/* 01 \"Accesses and replies\", code 5"),
+    ("a read's value not looked at",
+     "    return r->value != 0;\n}", "    return false;\n}"),
+    ("a wide value let through at width 1",
+     "return (r->value >> (8 * r->width)) != 0;", "return r->value >> 16 != 0;"),
+    ("a fragment run as a record",
+     "bool whole = p.rest_length >= SC_RECORD_BYTES;\n"
+     "        size_t taken = whole ? SC_RECORD_BYTES : p.rest_length;",
+     "bool whole = p.rest_length >= 4;\n"
+     "        size_t taken = p.rest_length >= SC_RECORD_BYTES ? SC_RECORD_BYTES : p.rest_length;"),
+
+    # Places
+    ("MMIO mirrored",
+     "static struct place mmio_place(uint16_t address)\n{\n",
+     "static struct place mmio_place(uint16_t address)\n{\n    address &= 0x7FFF;\n"),
+    ("ports decoded in ten bits",
+     "    switch (address) {\n    case 0x3C0:", "    switch (address & 0x3FF) {\n    case 0x3C0:"),
+    ("CR24 and CR26 by MMIO",
+     "address / 4 < SC_CRS && cr_mask[address / 4])",
+     "address / 4 < SC_CRS && (cr_mask[address / 4] || address == 0x90 || address == 0x98))"),
+    ("3C2h held for reads",
+     "return at8(write ? MISC : NOWHERE, 0);", "return at8(MISC, 0);"),
+    ("3CCh held for writes",
+     "return at8(write ? NOWHERE : MISC, 0);", "return at8(MISC, 0);"),
+    ("D4h of 16 bits",
+     "{ 0xD4, 1, 0x00FF }", "{ 0xD4, 2, 0x00FF }"),
+    ("84h is SR0D",
+     "case 0x84: return at8(SR, 0x0E);", "case 0x84: return at8(SR, 0x0D);"),
+
+    # Stored bits
+    ("MISC bit 4 kept", "MISC_MASK = 0xEF", "MISC_MASK = 0xFF"),
+    ("PCI04 bit 5 dropped", "PCI04_MASK = 0x0027", "PCI04_MASK = 0x0007"),
+    ("SRX bit 4 dropped", "SRX_MASK = 0x1F", "SRX_MASK = 0x0F"),
+    ("GRX bit 5 dropped", "GRX_MASK = 0x3F", "GRX_MASK = 0x1F"),
+    ("ARX bit 5 dropped", "ARX_MASK = 0x3F", "ARX_MASK = 0x1F"),
+    ("CR17 bit 4 kept", "[0x17] = 0xEF", "[0x17] = 0xFF"),
+    ("GR5 bit 2 kept", "[0x05] = 0x7B", "[0x05] = 0x7F"),
+    ("SR1 bit 1 kept", "[0x01] = 0x3D", "[0x01] = 0x3F"),
+    ("AR10 bit 4 kept", "[0x10] = 0xEF", "[0x10] = 0xFF"),
+    ("E6 bit 12 dropped", "0x1101", "0x0101"),
+    ("E8 bit 15 kept", "0x7FFC", "0xFFFC"),
+    ("SR6 reads 0", "SR6_READS = 0x12", "SR6_READS = 0x00"),
+
+    # The lock
+    ("CR6 not locked", "if (locked && number <= 0x06)", "if (locked && number <= 0x05)"),
+    ("locked CR7 loses its other bits",
+     "value = (f->cr[0x07] & ~CR7_UNLOCKED) | (value & CR7_UNLOCKED);", "value &= CR7_UNLOCKED;"),
+
+    # The attribute toggle
+    ("code 1 leaves the toggle",
+     "    f->data_next = !f->data_next;\n    if (!f->data_next)\n        return store(",
+     "    if (f->data_next && !ar_mask[f->arx & ARX_INDEX])\n        return SC_NO_REGISTER;\n"
+     "    f->data_next = !f->data_next;\n    if (!f->data_next)\n        return store("),
+    ("a 3?Ah read of the other base resets the toggle",
+     "    if (other_base(f, r))\n        return SC_OTHER_BASE;\n",
+     "    if (other_base(f, r)) {\n        if (at.unit == STATUS)\n"
+     "            f->data_next = false;\n        return SC_OTHER_BASE;\n    }\n"),
+    ("CR24 inverted", "f->data_next ? 0x80 : 0x00", "f->data_next ? 0x00 : 0x80"),
+    ("CR26 without bit 5", "*value = f->arx; return SC_DONE;",
+     "*value = f->arx & ARX_INDEX; return SC_DONE;"),
+
+    # The palette
+    ("components stored as they come",
+     "        p->held[p->colour] = value;",
+     "        entry(f)[p->colour] = p->held[p->colour] = value;"),
+    ("a read drops what is held",
+     "    *value = entry(f)[f->pointer.colour];",
+     "    f->pointer.held[0] = f->pointer.held[1] = 0;\n    *value = entry(f)[f->pointer.colour];"),
+    ("held bytes kept past blue",
+     "        point(p, p->address + 1, p->reading);", "        p->address++, p->colour = SC_RED;"),
+    ("write mode after blue",
+     "        point(p, p->address + 1, p->reading);", "        point(p, p->address + 1, false);"),
+    ("the bank's address wraps at 16",
+     "        return f->bank[f->pointer.address % SC_BANK_ENTRIES];",
+     "        return f->bank[f->pointer.address %= SC_BANK_ENTRIES];"),
+    ("the palette under B0[3]",
+     "if (f->pipe[SC_B0] & B0_BANK)", "if (false)"),
+    ("a read address of one more",
+     "point(&f->pointer, value, true)", "point(&f->pointer, value + 1, true)"),
+    ("B0[1:0] shows the colour",
+     "(f->pointer.colour + 2) % 3", "f->pointer.colour"),
+    ("the DAC state inverted",
+     "f->pointer.reading ? 3 : 0", "f->pointer.reading ? 0 : 3"),
+    ("power-down refuses writes alone",
+     "    if (f->pipe[SC_B0] & B0_POWER_DOWN)\n        return SC_POWERED_DOWN;\n    *value",
+     "    *value"),
+
+    # Timing
+    ("CR1A's pieces always counted",
+     "p->cr == 0x1A && !(f->cr[0x1B] & CR1B_WIDE) ? 0 : p->bits", "f ? p->bits : 0"),
+    ("CR1B[7] not looked at", "CR1B_WIDE = 0xA0", "CR1B_WIDE = 0x20"),
+    ("V total without its 2", "[SC_V_TOTAL] = { 2,", "[SC_V_TOTAL] = { 0,"),
+    ("V blank start's bits 9 and 8 exchanged",
+     "{ 0x09, 5, 1 }, { 0x07, 3, 1 }", "{ 0x07, 3, 1 }, { 0x09, 5, 1 }"),
+    ("screen start's bits from CR1B exchanged",
+     "{ 0x1B, 2, 2 }, { 0x1B, 0, 1 }", "{ 0x1B, 0, 1 }, { 0x1B, 2, 2 }"),
+    ("screen start's top bits from CR1D[7:6]", "{ 0x1D, 3, 2 }", "{ 0x1D, 6, 2 }"),
+]
