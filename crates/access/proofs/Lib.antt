@@ -18,3 +18,4 @@ pub mod Parted
 pub mod Ends
 pub mod Wire
 pub mod Handed
+pub mod Inside

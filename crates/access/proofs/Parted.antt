@@ -141,7 +141,7 @@ read-lands f ToggleReset = tt
 read-lands f NoRegister = tt
 read-lands f NoAttribute = tt
 
-place-in-file : (f : File) (r : Record) → T (inFile (placeOf f r))
+pub place-in-file : (f : File) (r : Record) → T (inFile (placeOf f r))
 unfolding every places each attributePorts generalPorts crtcPorts pipelinePlace mmioPlaces pciPlaces sequencer crtc graphics attribute pipeline inFile
 place-in-file f r = place-passes (λ (kind address : ℕ) (place : Place). inFile place) f r tt tt
 
