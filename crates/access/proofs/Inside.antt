@@ -14,10 +14,9 @@ use Rattle.file.specs.Effects.{apply, reachOf}
 use Rattle.file.specs.File.{register, withToggle}
 use Rattle.file.specs.Names.{B0}
 use Rattle.file.specs.Palette.{stores, mixed, afterWrite}
-use Rattle.file.specs.Registers.{storedTable, registers, singles, sequencer, crtc, graphics, attribute, pipeline}
 use Rattle.file.specs.Sound.{sound}
 use Rattle.file.proofs.Reached.{stored-inside}
-use Rattle.file.proofs.Soundness.{registers-sound, within-count}
+use Rattle.file.proofs.Soundness.{sound-count}
 use Rattle.access.specs.declared.place.Place.{Place}
 use Rattle.access.specs.declared.place.Place.the-variants.{Register, Attribute, Fixed, ToggleState, AttributeIndex, PaletteState, ReadAddress, WriteAddress, PixelData, ToggleReset, NoRegister, NoAttribute}
 use Rattle.access.specs.declared.record.Record.{Record}
@@ -72,15 +71,11 @@ module _ (f : File) (value i : ℕ) where
   read NoRegister = refl
   read NoAttribute = refl
 
-count : (f : File) → T (sound f) → length (f .registers) ≡ 100
-unfolding storedTable registers singles sequencer crtc graphics attribute pipeline
-count f s = within-count storedTable (f .registers) (registers-sound f s)
-
 -- with `outside-reach`: what an access to a sound file does to its registers, bit by bit
 pub inside-reach : (f : File) (r : Record) → T (sound f) → (i : ℕ) → bit i (reach f r .bits) ≡ 1
     → bit i (register (access f r .file) (reach f r .register)) ≡ bit i (r .value)
 unfolding reach access reachOf
 inside-reach f r s i =
     by-effect (Lands f (r .value) i) f r (none f (r .value) i Nothing refl)
-    (λ n w. written f (r .value) i (count f s) (placeOf f r) (place-in-file f r))
+    (λ n w. written f (r .value) i (sound-count f s) (placeOf f r) (place-in-file f r))
     (none f (r .value) i (readAt f (placeOf f r)) (read f (r .value) i (placeOf f r)))

@@ -18,6 +18,7 @@ use Rattle.file.specs.Names.{MISC}
 use Rattle.file.specs.Registers.{sequencer, crtc, graphics, attribute, pipeline}
 use Rattle.file.specs.Answers.{codeOf, refused}
 use Rattle.file.specs.Sound.{sound}
+use Rattle.file.proofs.Soundness.{sound-count}
 use Rattle.access.specs.declared.record.Item.{Item}
 use Rattle.access.specs.declared.record.Item.the-variants.{Whole}
 use Rattle.access.specs.Checks.{isOneOf}
@@ -32,7 +33,7 @@ use Rattle.plan.proofs.Along.{afterSelecting, afterRoads, brought, Brin
 use Rattle.plan.proofs.Composed.{then}
 use Rattle.plan.proofs.Counted.{plan-room}
 use Rattle.plan.proofs.Fitting.{run-fits, trace-items}
-use Rattle.plan.proofs.Ready.{Ready, count}
+use Rattle.plan.proofs.Ready.{Ready}
 use Rattle.plan.proofs.Opening.{opened, opening-runs, opened-ready, opened-up}
 use Rattle.plan.proofs.Stages.{coloured, colours-run, coloured-ready, registers-bring, indexed, indices-run, indexed-ready, closed, closing-runs}
 use Rattle.plan.proofs.Stored.{withRegister}
@@ -70,7 +71,7 @@ registers-as-wanted : (w : File) (xs : List ℕ) → T (sound w) → length xs �
     → afterRoads w (planRoads w) xs ≡ w .registers
 unfolding register
 registers-as-wanted w xs s many misc =
-    ext-getD 0 (afterRoads w (planRoads w) xs) (w .registers) (after-length w (planRoads w) xs ∙ many ∙ sym (count w s))
+    ext-getD 0 (afterRoads w (planRoads w) xs) (w .registers) (after-length w (planRoads w) xs ∙ many ∙ sym (sound-count w s))
     (λ n h.
     let small : n < 100 = omega (arith, after-length w (planRoads w) xs) in
     settled w (planRoads w) xs n (eqb n MISC) (omega arith)
@@ -107,7 +108,7 @@ module _ (w f : File) (ws : T (sound w)) (fs : T (sound f)) (wf : IsFile w) (red
   ends-in =
       ap (λ (rs : List ℕ). withRegisters rs w)
       (sym (after-append w registerRoads (lastRoads w) (afterColours .registers))
-      ∙ registers-as-wanted w (afterColours .registers) ws (count afterColours (colours-ready .isSound)) (colours-ready .misc))
+      ∙ registers-as-wanted w (afterColours .registers) ws (sound-count afterColours (colours-ready .isSound)) (colours-ready .misc))
 
   pub plan-restores : Runs f (planRecords w) w
   unfolding planRecords brought withRegisters coloured opened withToggle withRegister
