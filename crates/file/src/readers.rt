@@ -3,7 +3,7 @@ ghost use mathlib.Core.Path.{_≡_};
 ghost use mathlib.Core.List.{[]};
 ghost use Prim.Native.Nat.{_<_};
 ghost use lib.ListN.{getD};
-ghost use Rattle.file.specs.Readers.{nameTable, numberOf, same, readRegister, readNamed, readPalette, readBank, readPointer, readToggle, noEntry};
+ghost use Rattle.file.specs.Readers.{nameTable, numberOf, same, readRegister, readNamed, readPalette, readBank, readPointer, readToggle, noEntry, entryTold};
 use crate::answer::Answer;
 use crate::palette::Colour;
 use crate::palette::Pointer;
@@ -287,6 +287,24 @@ impl EntryRead {
             },
         }
     }
+
+    // An entry's colour, if the file is sound and there is the entry.
+    fn told(sound: bool, there: bool, colour: Colour) -> EntryRead
+        ensures { λ r. ⌜ r ≡ entryTold sound there colour ⌝ }
+    {
+        if sound {
+            if there {
+                EntryRead {
+                    answer: Answer::Done(0),
+                    colour,
+                }
+            } else {
+                EntryRead::none(Answer::NoRegister)
+            }
+        } else {
+            EntryRead::none(Answer::NotSound)
+        }
+    }
 }
 
 impl File {
@@ -311,40 +329,22 @@ impl File {
         self.register(number_named(name))
     }
 
-    // An entry of the palette.
+    // An entry of the palette. Past the last one another is looked up, and not told.
     pub fn palette_entry(self, entry: usize) -> EntryRead
         ensures { λ r. ⌜ r ≡ readPalette self entry ⌝ }
     {
-        if !is_sound(self) {
-            return EntryRead::none(Answer::NotSound);
-        }
-        if entry < 256 {
-            let colour = self.palette[entry];
-            EntryRead {
-                answer: Answer::Done(0),
-                colour,
-            }
-        } else {
-            EntryRead::none(Answer::NoRegister)
-        }
+        let at = entry % 256;
+        let colour = self.palette[at];
+        EntryRead::told(is_sound(self), entry < 256, colour)
     }
 
-    // An entry of the bank.
+    // The same for the bank.
     pub fn bank_entry(self, entry: usize) -> EntryRead
         ensures { λ r. ⌜ r ≡ readBank self entry ⌝ }
     {
-        if !is_sound(self) {
-            return EntryRead::none(Answer::NotSound);
-        }
-        if entry < 16 {
-            let colour = self.bank[entry];
-            EntryRead {
-                answer: Answer::Done(0),
-                colour,
-            }
-        } else {
-            EntryRead::none(Answer::NoRegister)
-        }
+        let at = entry % 16;
+        let colour = self.bank[at];
+        EntryRead::told(is_sound(self), entry < 16, colour)
     }
 
     // The palette pointer.
