@@ -1,15 +1,15 @@
 -- Demand 3: from every sound start, each record of the plan is accepted and the run ends in the wanted file.
 -- Assumes nothing.
-use Prim.Native.Nat.{ℕ, zero, suc, _*_, _<_}
+use Prim.Native.Nat.{ℕ, _*_, _<_}
 use mathlib.Core.Path.{_≡_, refl, sym, ap, ap₂, _∙_, subst}
-use mathlib.Core.Bool.{Bool, true, false, cond, not, true≢false, _&&_}
+use mathlib.Core.Bool.{Bool, true, false, cond, not, true≢false}
 use mathlib.Core.List.{List, [], _∷_, _++_, map}
 use native.Mathlib.Omega.{arith}
-use borrow.Author.Tests.{eqb-true, eqb-false}
+use borrow.Author.Tests.{eqb-true}
 use lib.Dec.{T, eqb, leb, T-not, eqb→eq}
 use lib.ListN.{getD, length, drop}
 use lib.Seq.{ext-getD}
-use Rattle.bits.proofs.Test.{left, right, by-test, passes, is-true, chosen}
+use Rattle.bits.proofs.Test.{by-test, passes, is-true, chosen, everyBelow, below}
 use Rattle.file.specs.declared.answer.Answer.{Answer}
 use Rattle.file.specs.declared.answer.Answer.the-variants.{Done, ShortBuffer, NotSound, NotBeforeRed}
 use Rattle.file.specs.declared.registers.File.{File}
@@ -47,19 +47,6 @@ lastRoads w = indexRoads w ++ toARX ∷ toB0 ∷ toCR11 ∷ toPCI04 ∷ []
 -- the roads after the colours, in the plan's order
 unfoldable pub planRoads : File → List Road
 planRoads w = registerRoads ++ lastRoads w
-
--- a test passes at every number below another
-unfoldable pub everyBelow : (ℕ → Bool) → ℕ → Bool
-everyBelow test zero = true
-everyBelow test (suc k) = test k && everyBelow test k
-
-below : (test : ℕ → Bool) (k : ℕ) → T (everyBelow test k) → (n : ℕ) → n < k → T (test n)
-unfolding everyBelow
-below test zero t n h = absurd (omega arith)
-below test (suc k) t n h =
-    by-test (eqb n k)
-    (λ e. rw (eqb-true n k e) (left (test k) (everyBelow test k) t))
-    (λ e. below test k (right (test k) (everyBelow test k) t) n (omega (arith, eqb-false n k e)))
 
 -- after them every register holds its wanted value, if MISC did before
 all-settle : (w : File) → T (everyBelow (λ (n : ℕ). settles (planRoads w) n (eqb n MISC)) 100)
