@@ -18,21 +18,12 @@ Inv-loop number name i₀ i =
 abbrev μ-loop : tie.MeasureT-loop
 μ-loop number name i₀ i = length name - i
 
-array-read-wide : tie.Need-array-read-wide Inv-loop μ-loop
-array-read-wide c = search needs
-
-wide-requires : tie.Need-wide-requires Inv-loop μ-loop
-wide-requires c κs = search needs
-
 returns : tie.Need-returns Inv-loop μ-loop
 unfolding lengths flat nameTable registers singles sequencer crtc graphics attribute pipeline ascii
 returns c = sym (other-length _ _ (λ e. c .if1 .taken (sym (c .before .wide .ensures ∙ length-row (c .before .before .before .args .number) ∙ e))))
 
 loop-holds : tie.Need-loop-holds Inv-loop μ-loop
 loop-holds c = (omega arith, refl)
-
-mul-if2 : tie.Need-mul-if2 Inv-loop μ-loop
-mul-if2 c = search needs
 
 add-if2 : tie.Need-add-if2 Inv-loop μ-loop
 unfolding lengths flat nameTable registers singles sequencer crtc graphics attribute pipeline ascii
@@ -42,18 +33,9 @@ array-read-if2 : tie.Need-array-read-if2 Inv-loop μ-loop
 unfolding lengths flat nameTable registers singles sequencer crtc graphics attribute pipeline ascii
 array-read-if2 c = omega (arith, c .loop-test .taken, row-length (c .before .before .before .before .before .args .number) _ _ (c .before .before .if1 .left) (c .before .before .before .wide .ensures), row-short (c .before .before .before .before .before .args .number))
 
-shared-slice-read-if2 : tie.Need-shared-slice-read-if2 Inv-loop μ-loop
-shared-slice-read-if2 c = search needs
-
 returns-2 : tie.Need-returns-2 Inv-loop μ-loop
 unfolding lengths flat nameTable registers singles sequencer crtc graphics attribute pipeline ascii
 returns-2 c = sym (sym (c .before .before .before .loop .inv .1) ∙ differs (c .before .before .before .before .before .before .before .args .number) (c .before .before .before .loop .i) _ (row-length (c .before .before .before .before .before .before .before .args .number) _ _ (c .before .before .before .before .if1 .left) (c .before .before .before .before .before .wide .ensures)) (c .before .before .loop-test .taken) (c .if2 .taken))
-
-add-i : tie.Need-add-i Inv-loop μ-loop
-add-i c = search needs
-
-loop-less : tie.Need-loop-less Inv-loop μ-loop
-loop-less c = search needs
 
 loop-again : tie.Need-loop-again Inv-loop μ-loop
 unfolding lengths flat nameTable registers singles sequencer crtc graphics attribute pipeline ascii
@@ -66,19 +48,5 @@ returns-3 c = sym (sym (c .before .loop .inv .1) ∙ same-end _ _ (c .before .lo
 pub is-name-spec : {M : Type 1} → statement M
 is-name-spec =
     tie.close
-    (tie.spec
-    Inv-loop
-    μ-loop
-    array-read-wide
-    wide-requires
-    returns
-    loop-holds
-    mul-if2
-    add-if2
-    array-read-if2
-    shared-slice-read-if2
-    returns-2
-    add-i
-    loop-less
-    loop-again
-    returns-3)
+    (tie.spec Inv-loop μ-loop (λ c. search needs) (λ c κs. search needs) returns loop-holds (λ c. search needs) add-if2 array-read-if2
+    (λ c. search needs) returns-2 (λ c. search needs) (λ c. search needs) loop-again returns-3)
