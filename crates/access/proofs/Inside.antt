@@ -24,6 +24,7 @@ use Rattle.access.specs.Access.{reachIn, inBank, entryNumber, pixelWrite
 use Rattle.access.specs.Looked.{inFile}
 use Rattle.access.specs.Lookup.{placeOf}
 use Rattle.access.proofs.Parted.{place-in-file}
+use Rattle.access.proofs.Sane.{by-read}
 use Rattle.access.proofs.Targets.{by-effect}
 
 module _ (f : File) (value i : ℕ) where
@@ -57,19 +58,8 @@ module _ (f : File) (value i : ℕ) where
     written NoAttribute l = none (writeAt f NoAttribute value) refl
 
   read : (place : Place) → reachOf (readAt f place) .bits ≡ 0
-  unfolding readAt reachOf
-  read (Register number) = refl
-  read (Attribute number) = refl
-  read (Fixed fixed) = refl
-  read ToggleState = refl
-  read AttributeIndex = refl
-  read PaletteState = refl
-  read ReadAddress = refl
-  read WriteAddress = refl
-  read PixelData = refl
-  read ToggleReset = refl
-  read NoRegister = refl
-  read NoAttribute = refl
+  unfolding reachOf
+  read place = by-read (λ (e : Effect). reachOf e .bits ≡ 0) f place refl refl (λ e. refl)
 
 -- with `outside-reach`: what an access to a sound file does to its registers, bit by bit
 pub inside-reach : (f : File) (r : Record) → T (sound f) → (i : ℕ) → bit i (reach f r .bits) ≡ 1

@@ -27,6 +27,7 @@ use Rattle.access.specs.Places.{places, each, attributePorts, generalPor
 use Rattle.file.specs.Registers.{sequencer, crtc, graphics, attribute, pipeline}
 use Rattle.access.specs.Served.{Parts, putBack, lands}
 use Rattle.access.proofs.Rows.{every, place-passes}
+use Rattle.access.proofs.Sane.{by-read}
 use Rattle.access.proofs.Targets.{by-effect}
 
 -- storing what is there changes nothing
@@ -127,19 +128,8 @@ write-lands f NoRegister value h = tt
 write-lands f NoAttribute value h = tt
 
 read-lands : (f : File) (place : Place) → T (lands (f .pointer) (readAt f place))
-unfolding readAt lands
-read-lands f (Register number) = tt
-read-lands f (Attribute number) = tt
-read-lands f (Fixed fixed) = tt
-read-lands f ToggleState = tt
-read-lands f AttributeIndex = tt
-read-lands f PaletteState = tt
-read-lands f ReadAddress = tt
-read-lands f WriteAddress = tt
-read-lands f PixelData = tt
-read-lands f ToggleReset = tt
-read-lands f NoRegister = tt
-read-lands f NoAttribute = tt
+unfolding lands
+read-lands f place = by-read (λ (e : Effect). T (lands (f .pointer) e)) f place tt tt (λ e. tt)
 
 pub place-in-file : (f : File) (r : Record) → T (inFile (placeOf f r))
 unfolding every places each attributePorts generalPorts crtcPorts pipelinePlace mmioPlaces pciPlaces sequencer crtc graphics attribute pipeline inFile
