@@ -18,7 +18,7 @@ use Rattle.file.specs.declared.palette.Colour.{Colour}
 use Rattle.file.specs.declared.palette.Pointer.{Pointer}
 use Rattle.file.specs.declared.registers.File.{File}
 use Rattle.file.specs.Effects.{apply, storeIn, paintIn}
-use Rattle.file.specs.File.{register, withRegisters, withPalette, withBank, withPointer, withToggle, powerOn, black}
+use Rattle.file.specs.File.{register, withRegisters, withPalette, withBank, withPointer, withToggle, powerOn}
 use Rattle.file.specs.Palette.{byColour, addressed, moved, afterWrite, afterRead, pointerSound}
 use Rattle.file.specs.Registers.{storedBits, storedTable, registers, singles, sequencer, crtc, graphics, attribute, pipeline}
 use Rattle.file.specs.Sound.{allWithin, sound}

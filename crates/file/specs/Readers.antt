@@ -1,7 +1,7 @@
 -- 01, 'Accesses and replies': 'all other readers of a file answer 12 with all numbers 0, marks off'. What a host reads of a file without an access.
 -- Assumes nothing.
 use Prim.Native.Char.{code}
-use Prim.Native.Nat.{ℕ, zero, suc}
+use Prim.Native.Nat.{ℕ, suc}
 use Prim.Native.String.{String, [] as empty, _∷_ as _then_}
 use mathlib.Core.Bool.{Bool, true, false, cond, _&&_}
 use mathlib.Core.List.{List, [], _∷_, map}

@@ -1,6 +1,5 @@
 -- `stored` meets its contract; beyond the last register nothing is stored. Assumes nothing.
 use Prim.Native.Nat.{_≤_}
-use mathlib.Core.Path.{sym, ap}
 use native.Mathlib.Omega.{arith}
 use lib.ListN.{length}
 use lib.Seq.{set-out}

@@ -4,8 +4,7 @@ use mathlib.Core.Path.{_≡_, sym, _∙_}
 use native.Mathlib.Omega.{arith}
 use borrow.Author.Needs.{needs}
 use lib.ListN.{drop}
-use Rattle.file.specs.Readers.{ascii, nameTable, numberOf, position}
-use Rattle.file.specs.Registers.{registers, singles, sequencer, crtc, graphics, attribute, pipeline}
+use Rattle.file.specs.Readers.{nameTable, numberOf, position}
 use Rattle.file.proofs.Named.{found, passed, ended, rows-count}
 use Rattle.file.proofs.readers.number_named.Statement.{statement}
 use Rattle.file.proofs.readers.number_named.Tie as tie
