@@ -21,4 +21,5 @@ returns-3 c = sym (before-dot (c .before .before .args .number) (c .before .befo
 pub ends-at-spec : {M : Type 1} → statement M
 ends-at-spec =
     tie.close
-    (tie.spec returns (λ c. search needs) (λ c. search needs) (λ c. search needs) returns-2 (λ c. search needs) (λ c. search needs) returns-3)
+    (tie.spec returns (λ c. search needs) (λ c. search needs) (λ c. search needs) returns-2 (λ c. search needs) (λ c. search needs)
+    returns-3)

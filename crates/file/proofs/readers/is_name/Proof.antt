@@ -43,5 +43,5 @@ returns-3 c = sym (sym (c .before .loop .inv .2) ∙ same-end _ _ (c .before .lo
 pub is-name-spec : {M : Type 1} → statement M
 is-name-spec =
     tie.close
-    (tie.spec Inv-loop μ-loop (λ c κs. search needs) returns loop-holds (λ c. search needs) (λ c. search needs) (λ c. search needs) array-read-if2
-    (λ c. search needs) returns-2 (λ c. search needs) loop-again returns-3)
+    (tie.spec Inv-loop μ-loop (λ c κs. search needs) returns loop-holds (λ c. search needs) (λ c. search needs) (λ c. search needs)
+    array-read-if2 (λ c. search needs) returns-2 (λ c. search needs) loop-again returns-3)

@@ -12,4 +12,5 @@ returns c = rw (← told-at, ← c .before .is-sound .ensures) (c .told .ensures
 
 pub bank-entry-spec : {M : Type 1} → statement M
 bank-entry-spec =
-    tie.close (tie.spec (λ c. search needs) (λ c. search needs) (λ c κs. search needs) (λ c κs. search needs) returns)
+    tie.close
+    (tie.spec (λ c. search needs) (λ c. search needs) (λ c κs. search needs) (λ c κs. search needs) returns)
