@@ -3,3 +3,4 @@ pub mod Stores
 pub mod Spelled
 pub mod Lines
 pub mod Spaced
+pub mod Replies
