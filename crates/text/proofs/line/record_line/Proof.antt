@@ -2,10 +2,9 @@
 use native.Mathlib.Omega.{arith}
 use borrow.Author.Needs.{needs}
 use denote.Ref.{now}
-use Rattle.text.specs.Text.{hexFour, lineOf}
-use Rattle.text.proofs.Lines.{line-length, line-made}
-use Rattle.text.proofs.Spelled.{spaced-length}
-use Rattle.text.proofs.Stores.{then-text, unplaced, whole}
+use Rattle.text.specs.Text.{lineOf}
+use Rattle.text.proofs.Lines.{line-length}
+use Rattle.text.proofs.Stores.{unplaced, whole}
 use Rattle.text.proofs.line.record_line.Statement.{statement}
 use Rattle.text.proofs.line.record_line.Tie as tie
 
@@ -24,10 +23,8 @@ add-size-2 c = search needs
 returns : tie.Need-returns
 returns c =
     let args = c .before .before .before .before .args in
-    let text = lineOf (args .number) (args .code) (args .value) in
-    let size =
-    line-length (args .number) (args .code) (args .value) _ _ (c .before .before .places .ensures .0) (c .before .places2 .ensures .0) in
-    unplaced (now (args .buffer)) (args .at) text (omega arith)
+    let size = line-length (args .number) (args .code) (args .value) _ _ (c .before .before .places .ensures .0) (c .before .places2 .ensures .0) in
+    unplaced (now (args .buffer)) (args .at) (lineOf (args .number) (args .code) (args .value)) (omega arith)
 
 sub-if2 : tie.Need-sub-if2
 sub-if2 c = search needs
@@ -35,56 +32,23 @@ sub-if2 c = search needs
 returns-2 : tie.Need-returns-2
 returns-2 c =
     let args = c .before .before .before .before .before .args in
-    let text = lineOf (args .number) (args .code) (args .value) in
-    let size =
-    line-length (args .number) (args .code) (args .value) _ _ (c .before .before .before .places .ensures .0) (c .before .before .places2 .ensures .0) in
-    unplaced (now (args .buffer)) (args .at) text (omega arith)
+    let size = line-length (args .number) (args .code) (args .value) _ _ (c .before .before .before .places .ensures .0) (c .before .before .places2 .ensures .0) in
+    unplaced (now (args .buffer)) (args .at) (lineOf (args .number) (args .code) (args .value)) (omega arith)
 
-spell-spaced-requires : tie.Need-spell-spaced-requires
-spell-spaced-requires c κs = search needs
-
-spell-spaced-requires-2 : tie.Need-spell-spaced-requires-2
-spell-spaced-requires-2 c κs =
-    let start = c .before .before .before .before .before .before .before .before in
-    omega (arith, spaced-length (start .places .result) (start .before .before .args .number))
-
-hex-requires : tie.Need-hex-requires
-hex-requires c κs =
-    let start = c .before .before .before .before .before .before .before .before .before .before .before .before in
-    omega (
-      arith,
-      spaced-length (start .places .result) (start .before .before .args .number),
-      spaced-length (c .before .before .before .before .before .before .before .before .before .before .before .places2 .result) (start .before .before .args .code),
-    )
-
-byte-requires : tie.Need-byte-requires
-unfolding hexFour
-byte-requires c κs =
-    let start = c .before .before .before .before .before .before .before .before .before .before .before .before .before .before .before .before in
-    omega (
-      arith,
-      spaced-length (start .places .result) (start .before .before .args .number),
-      spaced-length (c .before .before .before .before .before .before .before .before .before .before .before .before .before .before .before .places2 .result) (start .before .before .args .code),
-    )
+line-requires : tie.Need-line-requires
+line-requires c κs =
+    let args = c .before .before .before .before .before .before .args in
+    let size = line-length (args .number) (args .code) (args .value) _ _ (c .before .before .before .before .places .ensures .0) (c .before .before .before .places2 .ensures .0) in
+    omega arith
 
 same-length : tie.Need-same-length
 same-length c = search needs
 
 returns-3 : tie.Need-returns-3
 returns-3 c =
-    let start = c .before .before .before .before .before .before .before .before .before .before .before .before .before .before .before .before .before .before .before in
-    let args = start .before .before .args in
-    let first = start .places .ensures .0 in
-    let second = c .before .before .before .before .before .before .before .before .before .before .before .before .before .before .before .before .before .before .places2 .ensures .0 in
-    let made = line-made (args .number) (args .code) (args .value) _ _ first second in
-    let size = line-length (args .number) (args .code) (args .value) _ _ first second in
-    let wrote =
-    then-text
-    (then-text
-    (then-text (c .before .before .before .before .before .before .before .before .before .before .before .before .before .before .spell-spaced .ensures) (c .before .before .before .before .before .before .before .before .before .before .spell-spaced2 .ensures))
-    (c .before .before .before .before .before .before .hex .ensures))
-    (c .before .before .byte .ensures) in
-    whole (now (args .buffer)) (args .at) (lineOf (args .number) (args .code) (args .value)) (omega arith) (rw made at wrote)
+    let args = c .before .before .before .before .before .before .before .before .before .args in
+    let size = line-length (args .number) (args .code) (args .value) _ _ (c .before .before .before .before .before .before .before .places .ensures .0) (c .before .before .before .before .before .before .places2 .ensures .0) in
+    whole (now (args .buffer)) (args .at) (lineOf (args .number) (args .code) (args .value)) (omega arith) (c .before .before .line .ensures)
 
 pub record-line-spec : {M : Type 1} → statement M
 record-line-spec =
@@ -97,9 +61,6 @@ record-line-spec =
     returns
     sub-if2
     returns-2
-    spell-spaced-requires
-    spell-spaced-requires-2
-    hex-requires
-    byte-requires
+    line-requires
     same-length
     returns-3)
