@@ -1,26 +1,28 @@
 -- 01, 'The replay program': what a part of a trace leaves and prints.
 -- Assumes nothing.
-use Prim.Native.Nat.{ℕ, _*_, _≤_}
-use mathlib.Core.Bool.{Bool, cond, _&&_}
+use Prim.Native.Nat.{ℕ}
+use mathlib.Core.Bool.{Bool, cond}
 use mathlib.Core.List.{List, []}
 use mathlib.Core.Path.{_≡_}
-use lib.ListN.{length, take}
+use lib.ListN.{take}
 use Rattle.io.specs.Counts.{Counts}
 use Rattle.file.specs.declared.registers.File.{File}
-use Rattle.access.specs.Records.{items}
-use Rattle.access.specs.Run.{run}
-use Rattle.text.specs.Text.{linesFit, recordLines}
+use Rattle.access.specs.Records.{items, itemCount}
+use Rattle.access.specs.Run.{fileAfter}
+use Rattle.text.specs.Text.{recordLines}
 use Rattle.shell.specs.declared.course.Part.{Part}
 
--- the lines of the first records of a part, numbered from a number on, if they are asked for and there is room for them
-unfoldable pub partLines : Bool → ℕ → ℕ → File → ℕ → List ℕ → List ℕ
-partLines prints room number f count trace =
-    cond (prints && linesFit room 0 number count) (recordLines number f (items count trace)) []
+-- the file after a part of a trace
+unfoldable pub afterPart : File → List ℕ → File
+afterPart f part = fileAfter f (items (itemCount part) part)
 
--- a part that is run from a file, by what the buffer of its lines holds before and after
-pub record Parted (f : File) (number : ℕ) (prints : Bool) (trace replies before after : List ℕ) (r : Part) : Type 0 where
-  pub file : r .file ≡ run f trace replies .file
-  pub count : r .count ≡ run f trace replies .count
-  pub within : 8 * r .count ≤ length replies
+-- the lines of its records, numbered from a number on
+unfoldable pub partLines : ℕ → File → List ℕ → List ℕ
+partLines number f part = recordLines number f (items (itemCount part) part)
+
+-- a part that was run from a file, by what the buffer for its lines holds afterwards
+pub record Parted (f : File) (number : ℕ) (prints : Bool) (part after : List ℕ) (r : Part) : Type 0 where
+  pub file : r .file ≡ afterPart f part
+  pub count : r .count ≡ itemCount part
   pub end : Counts (r .end) after
-  pub lines : take (r .end) after ≡ partLines prints (length before) number f (r .count) trace
+  pub lines : take (r .end) after ≡ cond prints (partLines number f part) []

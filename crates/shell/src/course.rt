@@ -1,4 +1,10 @@
 // A trace on standard input, run from power-on, in fixed memory.
+ghost use mathlib.Core.Path.{_≡_};
+ghost use Prim.Native.Nat.{_+_, _*_, _^_, _≤_, _<_};
+ghost use lib.Dec.{T};
+ghost use lib.ListN.{length};
+ghost use Rattle.file.specs.Sound.{sound};
+ghost use Rattle.access.specs.Records.{itemCount};
 ghost use Rattle.shell.specs.Parts.{Parted};
 use crate::reading::fill;
 use crate::telling::tell;
@@ -33,7 +39,11 @@ fn run_part(
     replies: &mut [u8],
     lines: &mut [u8],
 ) -> Part
-    ensures { λ r. ⌜ Parted before number prints (now (trace .entry)) (now (replies .entry)) (now (lines .entry)) (now (lines .exit)) r ⌝ }
+    requires { ⌜ T (sound before) ⌝ }
+    requires { ⌜ 8 * itemCount (now trace) ≤ length (now replies) ⌝ }
+    requires { ⌜ 30 * itemCount (now trace) ≤ length (now lines) ⌝ }
+    requires { ⌜ number + itemCount (now trace) < 2 ^ 64 ⌝ }
+    ensures { λ r. ⌜ Parted before number prints (now (trace .entry)) (now (lines .exit)) r ⌝ }
 {
     let ran = access::run(before, trace, replies);
     let file = ran.file;
@@ -51,7 +61,9 @@ fn run_part(
 }
 
 // The end of a course at a failure.
-fn failed(before: Course) -> Course {
+fn failed(before: Course) -> Course
+    ensures { λ r. ⌜ r .file ≡ before .file ⌝ }
+{
     let mut after = before;
     after.more = false;
     after.failed = true;
@@ -66,7 +78,10 @@ fn run_some(
     trace: &mut [u8; 8192],
     replies: &mut [u8; 8192],
     lines: &mut [u8; 32768],
-) -> Course {
+) -> Course
+    requires { ⌜ T (sound (before .file)) ⌝ }
+    ensures { λ r. ⌜ T (sound (r .file)) ⌝ }
+{
     if before.number > LAST {
         tell(program, b": more records than there are numbers");
         return failed(before);
@@ -103,7 +118,9 @@ fn run_some(
 }
 
 // The whole of a trace. A proved loop has to end, so this one counts its turns down, from a number that no run uses up.
-pub fn run_input(program: &[u8], prints: bool) -> Course {
+pub fn run_input(program: &[u8], prints: bool) -> Course
+    ensures { λ r. ⌜ T (sound (r .file)) ⌝ }
+{
     let mut trace = [0u8; 8192];
     let mut replies = [0u8; 8192];
     let mut lines = [0u8; 32768];

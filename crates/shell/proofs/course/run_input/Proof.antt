@@ -1,11 +1,14 @@
--- `run_input` is safe and ends: the measure is the number of turns that are left. Nothing has to hold from turn to turn.
+-- `run_input` is safe and ends: the measure is the number of turns that are left. The file stays sound.
 -- Assumes nothing.
 use borrow.Author.Needs.{needs}
+use lib.Dec.{T}
+use Rattle.file.specs.Sound.{sound}
+use Rattle.file.proofs.Soundness.{powerOn-sound}
 use Rattle.shell.proofs.course.run_input.Statement.{statement}
 use Rattle.shell.proofs.course.run_input.Tie as tie
 
 abbrev Inv-loop : tie.InvT-loop
-Inv-loop program prints trace₀ replies₀ lines₀ course₀ turns₀ trace replies lines course turns = Unit {0}
+Inv-loop program prints trace₀ replies₀ lines₀ course₀ turns₀ trace replies lines course turns = T (sound (course .file))
 
 abbrev μ-loop : tie.MeasureT-loop
 μ-loop program prints trace₀ replies₀ lines₀ course₀ turns₀ trace replies lines course turns = turns
@@ -14,10 +17,10 @@ power-on-requires : tie.Need-power-on-requires Inv-loop μ-loop
 power-on-requires c κs = search needs
 
 loop-holds : tie.Need-loop-holds Inv-loop μ-loop
-loop-holds c = search needs
+loop-holds c = rw (c .power-on .ensures) powerOn-sound
 
 run-some-requires : tie.Need-run-some-requires Inv-loop μ-loop
-run-some-requires c κs = search needs
+run-some-requires c κs = c .before .before .before .before .before .loop .inv
 
 sub-turns : tie.Need-sub-turns Inv-loop μ-loop
 sub-turns c = search needs
@@ -26,13 +29,13 @@ loop-less : tie.Need-loop-less Inv-loop μ-loop
 loop-less c = search needs
 
 loop-again : tie.Need-loop-again Inv-loop μ-loop
-loop-again c = search needs
+loop-again c = c .run-some .ensures
 
 returns : tie.Need-returns Inv-loop μ-loop
-returns c = search needs
+returns c = c .before .before .loop .inv
 
 returns-2 : tie.Need-returns-2 Inv-loop μ-loop
-returns-2 c = search needs
+returns-2 c = c .before .loop .inv
 
 pub run-input-spec : {M : Type 1} → statement M
 run-input-spec =

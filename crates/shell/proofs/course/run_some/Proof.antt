@@ -1,5 +1,7 @@
 -- `run_some` stays within its buffers, and its numbers fit. Assumes nothing.
 use borrow.Author.Needs.{needs}
+use native.Mathlib.Omega.{arith}
+use Rattle.shell.proofs.Bounds.{part-sound, part-within}
 use Rattle.shell.proofs.course.run_some.Statement.{statement}
 use Rattle.shell.proofs.course.run_some.Tie as tie
 
@@ -13,7 +15,7 @@ failed-requires : tie.Need-failed-requires
 failed-requires c κs = search needs
 
 returns : tie.Need-returns
-returns c = search needs
+returns c = rw (c .failed .ensures) (c .before .before .before .before .before .before .pre)
 
 fill-requires : tie.Need-fill-requires
 fill-requires c κs = search needs
@@ -28,13 +30,15 @@ failed-requires-2 : tie.Need-failed-requires-2
 failed-requires-2 c κs = search needs
 
 returns-2 : tie.Need-returns-2
-returns-2 c = search needs
+returns-2 c = rw (c .failed2 .ensures) (c .before .before .before .before .before .before .before .before .before .pre)
 
 slice-aggregate-run-part : tie.Need-slice-aggregate-run-part
 slice-aggregate-run-part c = search needs
 
 run-part-requires : tie.Need-run-part-requires
-run-part-requires c κs = search needs
+run-part-requires c κs =
+    let few = part-within (c .before .before .before .before .before .before .fill .last .0) (c .before .before .before .before .before .before .fill .result .count) (omega (arith, c .before .before .before .before .before .before .fill .kept .0)) in
+    (c .before .before .before .before .before .before .before .before .before .before .before .pre, (omega (arith, few), (omega (arith, few), omega (arith, few))))
 
 slice-aggregate-write-all : tie.Need-slice-aggregate-write-all
 slice-aggregate-write-all c = search needs
@@ -52,13 +56,15 @@ failed-requires-3 : tie.Need-failed-requires-3
 failed-requires-3 c κs = search needs
 
 returns-3 : tie.Need-returns-3
-returns-3 c = search needs
+returns-3 c = rw (c .failed3 .ensures) (c .before .before .before .before .before .before .before .before .before .before .before .before .before .before .before .before .before .before .before .before .pre)
 
 add-t41 : tie.Need-add-t41
-add-t41 c = search needs
+add-t41 c =
+    let few = part-within (c .before .before .before .before .before .before .before .before .before .before .before .before .before .before .fill .last .0) (c .before .before .before .before .before .before .before .before .before .before .before .before .before .before .fill .result .count) (omega (arith, c .before .before .before .before .before .before .before .before .before .before .before .before .before .before .fill .kept .0)) in
+    omega (arith, few, c .before .before .before .before .before .before .before .run-part .ensures .count)
 
 returns-4 : tie.Need-returns-4
-returns-4 c = search needs
+returns-4 c = rw (c .before .before .before .before .before .before .before .run-part .ensures .file) (part-sound _ _ (c .before .before .before .before .before .before .before .before .before .before .before .before .before .before .before .before .before .before .before .pre))
 
 pub run-some-spec : {M : Type 1} → statement M
 run-some-spec =
