@@ -1,2 +1,4 @@
 pub mod Bounds
 pub mod Printed
+pub mod Joined
+pub mod Timed

@@ -1,15 +1,17 @@
 -- 01, 'The replay program': what a part of a trace leaves and prints.
 -- Assumes nothing.
-use Prim.Native.Nat.{ℕ}
-use mathlib.Core.Bool.{Bool, cond}
-use mathlib.Core.List.{List, []}
+use Prim.Native.Nat.{ℕ, _+_, _%_}
+use mathlib.Core.Bool.{Bool, true, cond, _&&_}
+use mathlib.Core.List.{List, [], _∷_, _++_}
 use mathlib.Core.Path.{_≡_}
-use lib.ListN.{take}
+use lib.Dec.{eqb}
+use lib.ListN.{length, take}
 use Rattle.io.specs.Counts.{Counts}
 use Rattle.file.specs.declared.registers.File.{File}
 use Rattle.access.specs.Records.{items, itemCount}
 use Rattle.access.specs.Run.{fileAfter}
-use Rattle.text.specs.Text.{recordLines}
+use Rattle.timing.specs.Timing.{timingIn}
+use Rattle.text.specs.Text.{recordLines, timingLine}
 use Rattle.shell.specs.declared.course.Part.{Part}
 
 -- the file after a part of a trace
@@ -26,3 +28,18 @@ pub record Parted (f : File) (number : ℕ) (prints : Bool) (part after : List �
   pub count : r .count ≡ itemCount part
   pub end : Counts (r .end) after
   pub lines : take (r .end) after ≡ cond prints (partLines number f part) []
+
+-- 'Last comes one line': what is printed of a trace that comes in parts, from a number and a file on
+unfoldable pub inParts : ℕ → File → List (List ℕ) → List ℕ
+inParts number f [] = timingLine (timingIn f)
+inParts number f (part ∷ parts) = partLines number f part ++ inParts (number + itemCount part) (afterPart f part) parts
+
+unfoldable pub joined : List (List ℕ) → List ℕ
+joined [] = []
+joined (part ∷ parts) = part ++ joined parts
+
+-- only the last part may end in a fragment
+unfoldable pub wholeButLast : List (List ℕ) → Bool
+wholeButLast [] = true
+wholeButLast (part ∷ []) = true
+wholeButLast (part ∷ next ∷ parts) = eqb (length part % 8) 0 && wholeButLast (next ∷ parts)

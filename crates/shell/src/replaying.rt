@@ -1,14 +1,25 @@
 // Replay: a line for each record of a trace, then the timing line.
+ghost use mathlib.Core.Path.{_≡_};
+ghost use Prim.Native.Nat.{_≤_};
+ghost use lib.Dec.{T};
+ghost use lib.ListN.{length, take};
+ghost use Rattle.io.specs.Counts.{Counts};
+ghost use Rattle.file.specs.Sound.{sound};
+ghost use Rattle.timing.specs.Timing.{timingIn};
+ghost use Rattle.text.specs.Text.{timingLine};
 use crate::course::run_input;
 use crate::telling::tell_failure;
 use file::File;
 use libc::STDOUT_FILENO;
 
-// The timing line of a file, and whether it was written.
-fn print_timing(file: File) -> bool {
-    let mut line = [0u8; 512];
-    let end = text::timing_line(&mut line, 0, timing::read_timing(file).timing);
-    io::write_all(STDOUT_FILENO, &line[..end])
+// The timing line of a file, from the start of a buffer on, and where it ends.
+fn timing_end(file: File, line: &mut [u8]) -> usize
+    requires { ⌜ T (sound file) ⌝ }
+    requires { ⌜ 172 ≤ length (now line) ⌝ }
+    ensures { λ r. ⌜ Counts r (now (line .exit)) ⌝ }
+    ensures { λ r. ⌜ take r (now (line .exit)) ≡ timingLine (timingIn file) ⌝ }
+{
+    text::timing_line(line, 0, timing::read_timing(file).timing)
 }
 
 // Runs the trace on standard input from power-on and prints what 01 says on standard output.
@@ -17,7 +28,9 @@ pub fn replay() {
     if course.failed {
         return;
     }
-    let is_written = print_timing(course.file);
+    let mut line = [0u8; 172];
+    let end = timing_end(course.file, &mut line);
+    let is_written = io::write_all(STDOUT_FILENO, &line[..end]);
     if !is_written {
         tell_failure(b"replay", b": standard output");
     }
