@@ -48,7 +48,7 @@ items-join (suc k) m part rest h =
     (ap (λ (is : List Item). itemOf (take 8 part) ∷ is) (items-join k m (drop 8 part) rest less))
 
 module _ (part rest : List ℕ) (whole : length part % 8 ≡ 0) where
-  all-count : itemCount (part ++ rest) ≡ itemCount part + itemCount rest
+  pub all-count : itemCount (part ++ rest) ≡ itemCount part + itemCount rest
   unfolding itemCount
   all-count = rw length-append (omega (arith, whole))
 
@@ -60,7 +60,7 @@ module _ (part rest : List ℕ) (whole : length part % 8 ≡ 0) where
   all-items = ap (λ (k : ℕ). items k (part ++ rest)) all-count ∙ items-join (itemCount part) (itemCount rest) part rest all-bytes
 
   module _ (f : File) where
-    file-parts : afterPart f (part ++ rest) ≡ afterPart (afterPart f part) rest
+    pub file-parts : afterPart f (part ++ rest) ≡ afterPart (afterPart f part) rest
     unfolding afterPart
     file-parts = ap (fileAfter f) all-items ∙ file-join f (items (itemCount part) part) (items (itemCount rest) rest)
 

@@ -1,16 +1,19 @@
 // A trace on standard input, run from power-on, in fixed memory.
 ghost use mathlib.Core.Path.{_≡_};
+ghost use mathlib.Core.Bool.{true, false};
 ghost use Prim.Native.Nat.{_+_, _*_, _^_, _≤_, _<_};
 ghost use lib.Dec.{T};
 ghost use lib.ListN.{length};
+ghost use Rattle.io.specs.Counts.{Counts};
 ghost use Rattle.file.specs.Sound.{sound};
 ghost use Rattle.access.specs.Records.{itemCount};
-ghost use Rattle.shell.specs.Parts.{Parted};
+ghost use Rattle.shell.specs.Parts.{Came, Parted, Turned};
+use crate::reading::Filled;
 use crate::reading::fill;
 use crate::telling::tell;
 use crate::telling::tell_failure;
+use crate::telling::write_out;
 use file::File;
-use libc::STDOUT_FILENO;
 
 // The last number at which a whole buffer of records still has numbers.
 const LAST: u64 = u64::MAX - 1024;
@@ -62,12 +65,31 @@ fn run_part(
 
 // The end of a course at a failure.
 fn failed(before: Course) -> Course
-    ensures { λ r. ⌜ r .file ≡ before .file ⌝ }
+    ensures { λ r. ⌜ r ≡ record { file = before .file; number = before .number; more = false; failed = true } ⌝ }
 {
     let mut after = before;
     after.more = false;
     after.failed = true;
     after
+}
+
+// The next buffer of a trace, of which so many records came before; what goes wrong is told.
+fn read_some(program: &[u8], number: u64, trace: &mut [u8]) -> Filled
+    ensures { λ r. ⌜ Counts (r .count) (now (trace .exit)) ⌝ }
+    ensures { λ r. ⌜ (r .failed ≡ false → number + 1024 < 2 ^ 64) ⌝ }
+{
+    if number > LAST {
+        tell(program, b": more records than there are numbers");
+        return Filled {
+            count: 0,
+            failed: true,
+        };
+    }
+    let read = fill(trace);
+    if read.failed {
+        tell_failure(program, b": standard input");
+    }
+    read
 }
 
 // One buffer of the trace: read, run, and its lines printed if they are asked for.
@@ -80,38 +102,26 @@ fn run_some(
     lines: &mut [u8; 32768],
 ) -> Course
     requires { ⌜ T (sound (before .file)) ⌝ }
-    ensures { λ r. ⌜ T (sound (r .file)) ⌝ }
+    ensures { λ r. ⌜ Turned before prints (now (trace .exit)) (now (lines .exit)) r ⌝ }
 {
-    if before.number > LAST {
-        tell(program, b": more records than there are numbers");
-        return failed(before);
-    }
-    let read = fill(trace);
-    let size = read.count;
+    let number = before.number;
+    let read = read_some(program, number, trace);
     if read.failed {
-        tell_failure(program, b": standard input");
         return failed(before);
     }
+    let size = read.count;
     let trace: &[u8] = trace;
-    let part = run_part(
-        before.file,
-        before.number,
-        prints,
-        &trace[..size],
-        replies,
-        lines,
-    );
+    let part = run_part(before.file, number, prints, &trace[..size], replies, lines);
     let end = part.end;
     let lines: &[u8] = lines;
-    let is_written = io::write_all(STDOUT_FILENO, &lines[..end]);
+    let is_written = write_out(program, &lines[..end]);
     if !is_written {
-        tell_failure(program, b": standard output");
         return failed(before);
     }
     let file = part.file;
     Course {
         file,
-        number: before.number + part.count as u64,
+        number: number + part.count as u64,
         more: size == 8192,
         failed: false,
     }
@@ -119,7 +129,7 @@ fn run_some(
 
 // The whole of a trace. A proved loop has to end, so this one counts its turns down, from a number that no run uses up.
 pub fn run_input(program: &[u8], prints: bool) -> Course
-    ensures { λ r. ⌜ T (sound (r .file)) ⌝ }
+    ensures { λ r. ⌜ Came r ⌝ }
 {
     let mut trace = [0u8; 8192];
     let mut replies = [0u8; 8192];

@@ -8,9 +8,8 @@ ghost use Rattle.file.specs.Sound.{sound};
 ghost use Rattle.timing.specs.Timing.{timingIn};
 ghost use Rattle.text.specs.Text.{timingLine};
 use crate::course::run_input;
-use crate::telling::tell_failure;
+use crate::telling::write_out;
 use file::File;
-use libc::STDOUT_FILENO;
 
 // The timing line of a file, from the start of a buffer on, and where it ends.
 fn timing_end(file: File, line: &mut [u8]) -> usize
@@ -30,8 +29,5 @@ pub fn replay() {
     }
     let mut line = [0u8; 172];
     let end = timing_end(course.file, &mut line);
-    let is_written = io::write_all(STDOUT_FILENO, &line[..end]);
-    if !is_written {
-        tell_failure(b"replay", b": standard output");
-    }
+    write_out(b"replay", &line[..end]);
 }

@@ -1,8 +1,7 @@
 // Snapshot: reads a trace and writes the plan of the file after it.
 use crate::course::run_input;
-use crate::telling::tell_failure;
+use crate::telling::write_out;
 use libc::STDERR_FILENO;
-use libc::STDOUT_FILENO;
 
 // A refusal in words, with its code.
 fn tell_refusal(code: u8) {
@@ -32,8 +31,5 @@ pub fn snapshot() {
         return;
     }
     let size = 8 * planned.count;
-    let is_written = io::write_all(STDOUT_FILENO, &buffer[..size]);
-    if !is_written {
-        tell_failure(b"snapshot", b": standard output");
-    }
+    write_out(b"snapshot", &buffer[..size]);
 }

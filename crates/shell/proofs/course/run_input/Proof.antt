@@ -1,14 +1,12 @@
--- `run_input` is safe and ends: the measure is the number of turns that are left. The file stays sound.
--- Assumes nothing.
+-- `run_input` is safe and ends: the measure is the number of turns that are left. Its file is that after what was read. Assumes nothing.
 use borrow.Author.Needs.{needs}
-use lib.Dec.{T}
-use Rattle.file.specs.Sound.{sound}
-use Rattle.file.proofs.Soundness.{powerOn-sound}
+use Rattle.shell.specs.Parts.{Came}
+use Rattle.shell.proofs.Turns.{came-none, came-on, came-sound}
 use Rattle.shell.proofs.course.run_input.Statement.{statement}
 use Rattle.shell.proofs.course.run_input.Tie as tie
 
 abbrev Inv-loop : tie.InvT-loop
-Inv-loop program prints trace₀ replies₀ lines₀ course₀ turns₀ trace replies lines course turns = T (sound (course .file))
+Inv-loop program prints trace₀ replies₀ lines₀ course₀ turns₀ trace replies lines course turns = Came course
 
 abbrev μ-loop : tie.MeasureT-loop
 μ-loop program prints trace₀ replies₀ lines₀ course₀ turns₀ trace replies lines course turns = turns
@@ -17,10 +15,10 @@ power-on-requires : tie.Need-power-on-requires Inv-loop μ-loop
 power-on-requires c κs = search needs
 
 loop-holds : tie.Need-loop-holds Inv-loop μ-loop
-loop-holds c = rw (c .power-on .ensures) powerOn-sound
+loop-holds c = came-none _ (c .power-on .ensures)
 
 run-some-requires : tie.Need-run-some-requires Inv-loop μ-loop
-run-some-requires c κs = c .before .before .before .before .before .loop .inv
+run-some-requires c κs = came-sound (c .before .before .before .before .before .loop .inv)
 
 sub-turns : tie.Need-sub-turns Inv-loop μ-loop
 sub-turns c = search needs
@@ -29,7 +27,7 @@ loop-less : tie.Need-loop-less Inv-loop μ-loop
 loop-less c = search needs
 
 loop-again : tie.Need-loop-again Inv-loop μ-loop
-loop-again c = c .run-some .ensures
+loop-again c = came-on _ _ (c .before .before .before .before .before .before .loop .inv) (c .before .before .before .before .if1 .taken) (c .run-some .ensures)
 
 returns : tie.Need-returns Inv-loop μ-loop
 returns c = c .before .before .loop .inv

@@ -32,29 +32,20 @@ returns-2 c = search needs
 mul-size : tie.Need-mul-size
 mul-size c = omega (arith, plan-within _ _ _ _ (c .before .before .before .before .plan .ensures))
 
+slice-aggregate-write-out : tie.Need-slice-aggregate-write-out
+slice-aggregate-write-out c = search needs
+
 array-share-prefix-buffer : tie.Need-array-share-prefix-buffer
-array-share-prefix-buffer c = omega (arith, plan-within _ _ _ _ (c .before .before .before .before .plan .ensures), c .before .before .before .before .plan .kept .1 .0)
+array-share-prefix-buffer c = omega (arith, plan-within _ _ _ _ (c .before .before .before .before .before .plan .ensures), c .before .before .before .before .before .plan .kept .1 .0)
 
-slice-aggregate-write-all : tie.Need-slice-aggregate-write-all
-slice-aggregate-write-all c = counts _ _ (array-share-prefix-buffer (c .before)) .1
+slice-aggregate-write-out-2 : tie.Need-slice-aggregate-write-out-2
+slice-aggregate-write-out-2 c = counts _ _ (array-share-prefix-buffer (c .before)) .1
 
-write-all-requires : tie.Need-write-all-requires
-write-all-requires c κs = search needs
-
-slice-aggregate-tell-failure : tie.Need-slice-aggregate-tell-failure
-slice-aggregate-tell-failure c = search needs
-
-slice-aggregate-tell-failure-2 : tie.Need-slice-aggregate-tell-failure-2
-slice-aggregate-tell-failure-2 c = search needs
-
-tell-failure-requires : tie.Need-tell-failure-requires
-tell-failure-requires c κs = search needs
+write-out-requires : tie.Need-write-out-requires
+write-out-requires c κs = search needs
 
 returns-3 : tie.Need-returns-3
 returns-3 c = search needs
-
-returns-4 : tie.Need-returns-4
-returns-4 c = search needs
 
 pub snapshot-spec : {M : Type 1} → statement M
 snapshot-spec =
@@ -69,11 +60,8 @@ snapshot-spec =
     tell-refusal-requires
     returns-2
     mul-size
+    slice-aggregate-write-out
     array-share-prefix-buffer
-    slice-aggregate-write-all
-    write-all-requires
-    slice-aggregate-tell-failure
-    slice-aggregate-tell-failure-2
-    tell-failure-requires
-    returns-3
-    returns-4)
+    slice-aggregate-write-out-2
+    write-out-requires
+    returns-3)
