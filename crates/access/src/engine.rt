@@ -10,7 +10,8 @@ ghost use Rattle.file.specs.Sound.{allWithin, sound};
 ghost use Rattle.access.specs.Access.{reachIn, lockedOut, paletteUp, inBank, answerAt, pixelWrite, writeAt, readAt};
 ghost use Rattle.access.specs.Cells.{cellAt, seen};
 ghost use Rattle.access.specs.Checks.{malformed, spaceOff, otherHalf};
-ghost use Rattle.access.specs.Looked.{lookedAt, inFile, holds, Shows, decision};
+ghost use Rattle.access.specs.Looked.{lookedAt, inFile, holds, Shows, shownIn, atPixels, decision};
+ghost use Rattle.access.specs.declared.place.Place.the-variants.{PixelData as PixelDataPlace};
 ghost use Rattle.file.specs.Answers.{refused};
 ghost use Rattle.file.specs.Palette.{pointerSound};
 ghost use Rattle.file.specs.declared.effect.Effect.the-variants.{Nothing};
@@ -192,7 +193,7 @@ fn answer_write(registers: &[u16; 100], place: Place) -> Answer
     }
 }
 
-// What a place answers to a read; `shown` is the component that pixel data would show.
+// What a place answers to a read; `shown` is the component that pixel data shows, and anything where the place is another.
 fn answer_read(
     registers: &[u16; 100],
     toggle: bool,
@@ -202,7 +203,7 @@ fn answer_read(
 ) -> Answer
     requires { ⌜ T (inFile place) ⌝ }
     requires { ⌜ T (allWithin storedTable (now registers)) ⌝ }
-    ensures { λ r. ⌜ ((f : FileOf) → Shows f (now (registers .entry)) toggle pointer shown → r ≡ answerAt false f place) ⌝ }
+    ensures { λ r. ⌜ ((f : FileOf) → Shows f (now (registers .entry)) toggle pointer → (place ≡ PixelDataPlace → shown ≡ shownIn f) → r ≡ answerAt false f place) ⌝ }
 {
     match place {
         Place::Register(number) => Answer::Done(registers[number]),
@@ -249,6 +250,16 @@ fn pixel_write(registers: &[u16; 100], pointer: Pointer, byte: u8) -> Effect
         colour: pointer.mixed(byte),
         pointer: after,
     }
+}
+
+// An address of pixel data.
+pub fn is_at_pixels(address: u16) -> bool
+    ensures { λ r. ⌜ r ≡ atPixels address ⌝ }
+{
+    if address == 0x3C9 {
+        return true;
+    }
+    address == 0xAC
 }
 
 // The number of the entry that an address names.
@@ -347,7 +358,7 @@ fn word(value: u32) -> u16
     value as u16
 }
 
-// Answer and effect of a record in a file of these registers, toggle and pointer. `shown` is the component that pixel data shows.
+// Answer and effect of a record in a file of these registers, toggle and pointer. `shown` is the component that pixel data shows, and anything at other addresses.
 pub fn decide(
     registers: &[u16; 100],
     toggle: bool,
@@ -357,7 +368,7 @@ pub fn decide(
 ) -> Decision
     requires { ⌜ T (allWithin storedTable (now registers)) ⌝ }
     requires { ⌜ T (pointerSound pointer) ⌝ }
-    ensures { λ r. ⌜ ((f : FileOf) → T (sound f) → Shows f (now (registers .entry)) toggle pointer shown → r ≡ decision f asked) ⌝ }
+    ensures { λ r. ⌜ ((f : FileOf) → T (sound f) → Shows f (now (registers .entry)) toggle pointer → (T (atPixels (asked .address)) → shown ≡ shownIn f) → r ≡ decision f asked) ⌝ }
 {
     match look(registers, asked) {
         Looked::Refused(answer) => Decision {

@@ -12,7 +12,7 @@ decide-requires : tie.Need-decide-requires
 decide-requires c κs = (registers-sound (c .before .before .before .args .whole) (c .before .before .before .pre), pointer-sound (c .before .before .before .args .whole) (c .before .before .before .pre))
 
 returns : tie.Need-returns
-returns c = c .decide .ensures (c .before .before .before .before .args .whole) (c .before .before .before .before .pre) (record { same-registers = refl; same-toggle = refl; same-pointer = refl; same-shown = sym (c .before .shown-in .ensures) })
+returns c = c .decide .ensures (c .before .before .before .before .args .whole) (c .before .before .before .before .pre) (record { same-registers = refl; same-toggle = refl; same-pointer = refl }) (λ h. c .before .shown-in .ensures)
 
 pub decide-spec : {M : Type 1} → statement M
 decide-spec = tie.close (tie.spec shown-in-requires decide-requires returns)

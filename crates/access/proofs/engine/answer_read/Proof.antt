@@ -85,59 +85,59 @@ enum-told-10 c = search needs
 
 returns : tie.Need-returns
 unfolding answerAt register
-returns c = λ f s. rw (c .before .before .place .given .1, s .same-registers)
+returns c = λ f s h. rw (c .before .before .place .given .1, s .same-registers)
 
 returns-2 : tie.Need-returns-2
 unfolding answerAt register
-returns-2 c = λ f s. rw (c .enum-told .given .1)
+returns-2 c = λ f s h. rw (c .enum-told .given .1)
 
 returns-3 : tie.Need-returns-3
 unfolding answerAt register
-returns-3 c = λ f s. rw (c .before .place2 .given .1)
+returns-3 c = λ f s h. rw (c .before .place2 .given .1)
 
 returns-4 : tie.Need-returns-4
 unfolding answerAt register
-returns-4 c = λ f s. rw (c .before .enum-told2 .given .1, s .same-toggle, c .if1 .taken)
+returns-4 c = λ f s h. rw (c .before .enum-told2 .given .1, s .same-toggle, c .if1 .taken)
 
 returns-5 : tie.Need-returns-5
 unfolding answerAt register
-returns-5 c = λ f s. rw (c .before .enum-told2 .given .1, s .same-toggle, c .if1 .left)
+returns-5 c = λ f s h. rw (c .before .enum-told2 .given .1, s .same-toggle, c .if1 .left)
 
 returns-6 : tie.Need-returns-6
 unfolding answerAt register
-returns-6 c = λ f s. rw (c .before .enum-told3 .given .1, s .same-registers)
+returns-6 c = λ f s h. rw (c .before .enum-told3 .given .1, s .same-registers)
 
 returns-7 : tie.Need-returns-7
 unfolding answerAt register
-returns-7 c = λ f s. rw (c .before .before .enum-told4 .given .1, s .same-registers, s .same-pointer, c .palette-state .ensures)
+returns-7 c = λ f s h. rw (c .before .before .enum-told4 .given .1, s .same-registers, s .same-pointer, c .palette-state .ensures)
 
 returns-8 : tie.Need-returns-8
 unfolding answerAt register
-returns-8 c = λ f s. rw (c .before .enum-told5 .given .1, s .same-pointer, c .dac-state .ensures)
+returns-8 c = λ f s h. rw (c .before .enum-told5 .given .1, s .same-pointer, c .dac-state .ensures)
 
 returns-9 : tie.Need-returns-9
 unfolding answerAt register
-returns-9 c = λ f s. rw (c .enum-told6 .given .1, s .same-pointer)
+returns-9 c = λ f s h. rw (c .enum-told6 .given .1, s .same-pointer)
 
 returns-10 : tie.Need-returns-10
-returns-10 c = λ f s.
-    rw (c .before .before .enum-told7 .given .1) (shown-up f (c .before .before .before .before .args .pointer) (c .before .before .before .before .args .shown) (s .same-pointer) (s .same-shown) (up-of f _ _ (s .same-registers) (sym (c .before .is-palette-up .ensures) ∙ c .if2 .taken)))
+returns-10 c = λ f s h.
+    rw (c .before .before .enum-told7 .given .1) (shown-up f (c .before .before .before .before .args .shown) (h (c .before .before .enum-told7 .given .1)) (up-of f _ _ (s .same-registers) (sym (c .before .is-palette-up .ensures) ∙ c .if2 .taken)))
 
 returns-11 : tie.Need-returns-11
 unfolding answerAt
-returns-11 c = λ f s. rw (c .before .before .enum-told7 .given .1, up-of f _ _ (s .same-registers) (sym (c .before .is-palette-up .ensures) ∙ c .if2 .left))
+returns-11 c = λ f s h. rw (c .before .before .enum-told7 .given .1, up-of f _ _ (s .same-registers) (sym (c .before .is-palette-up .ensures) ∙ c .if2 .left))
 
 returns-12 : tie.Need-returns-12
 unfolding answerAt register
-returns-12 c = λ f s. rw (c .enum-told8 .given .1)
+returns-12 c = λ f s h. rw (c .enum-told8 .given .1)
 
 returns-13 : tie.Need-returns-13
 unfolding answerAt register
-returns-13 c = λ f s. rw (c .enum-told9 .given .1)
+returns-13 c = λ f s h. rw (c .enum-told9 .given .1)
 
 returns-14 : tie.Need-returns-14
 unfolding answerAt register
-returns-14 c = λ f s. rw (c .enum-told10 .given .1)
+returns-14 c = λ f s h. rw (c .enum-told10 .given .1)
 
 pub answer-read-spec : {M : Type 1} → statement M
 answer-read-spec =

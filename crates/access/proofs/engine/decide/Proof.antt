@@ -11,7 +11,7 @@ use Rattle.file.specs.Answers.{refused}
 use Rattle.access.specs.Access.{writeAt, effectAt}
 use Rattle.access.specs.Checks.{isWrite}
 use Rattle.access.specs.Looked.{inFile, holds, decision}
-use Rattle.access.proofs.Decided.{answer-same, write-same, read-same, in-file, refused-answer, refused-effect, seen-holds, seen-word, decided}
+use Rattle.access.proofs.Decided.{answer-same, write-same, read-same, in-file, refused-answer, refused-effect, seen-holds, seen-word, place-here, pixels-there, decided}
 use borrow.Author.Needs.{needs}
 use Rattle.access.proofs.engine.decide.Statement.{statement}
 use Rattle.access.proofs.engine.decide.Tie as tie
@@ -55,24 +55,25 @@ settle-requires-2 c κs = search needs
 
 returns : tie.Need-returns
 unfolding decision
-returns c = λ f s parts. λ i. record { answer = sym (refused-answer f s _ _ _ _ parts (c .before .before .before .before .args .asked) _ (sym (c .before .before .before .look .ensures) ∙ c .before .answer .given .1)) i; effect = sym (refused-effect f s _ _ _ _ parts (c .before .before .before .before .args .asked) _ (sym (c .before .before .before .look .ensures) ∙ c .before .answer .given .1)) i }
+returns c = λ f s parts shows. λ i. record { answer = sym (refused-answer f s _ _ _ parts (c .before .before .before .before .args .asked) _ (sym (c .before .before .before .look .ensures) ∙ c .before .answer .given .1)) i; effect = sym (refused-effect f s _ _ _ parts (c .before .before .before .before .args .asked) _ (sym (c .before .before .before .look .ensures) ∙ c .before .answer .given .1)) i }
 
 returns-2 : tie.Need-returns-2
 unfolding effectAt isWrite
-returns-2 c = λ f s parts.
-    decided f s (c .before .before .before .before .before .before .before .before .before .before .before .args .registers .now) (c .before .before .before .before .before .before .before .before .before .before .before .args .toggle) (c .before .before .before .before .before .before .before .before .before .before .before .args .pointer) (c .before .before .before .before .before .before .before .before .before .before .before .args .shown) parts (c .before .before .before .before .before .before .before .before .before .before .before .args .asked) (c .before .before .before .before .before .before .before .before .cell .given .0 .0) (sym (c .before .before .before .before .before .before .before .before .before .before .look .ensures) ∙ c .before .before .before .before .before .before .before .before .cell .given .1)
+returns-2 c = λ f s parts shows.
+    decided f s (c .before .before .before .before .before .before .before .before .before .before .before .args .registers .now) (c .before .before .before .before .before .before .before .before .before .before .before .args .toggle) (c .before .before .before .before .before .before .before .before .before .before .before .args .pointer) parts (c .before .before .before .before .before .before .before .before .before .before .before .args .asked) (c .before .before .before .before .before .before .before .before .cell .given .0 .0) (sym (c .before .before .before .before .before .before .before .before .before .before .look .ensures) ∙ c .before .before .before .before .before .before .before .before .cell .given .1)
     (c .before .before .before .before .before .before .place-in .result) (c .before .before .before .before .before .before .place-in .ensures) true (eq-eqb _ _ (c .before .before .before .before .if1 .taken)) (c .settle .result) (c .before .effect-write .result)
-    (c .settle .ensures .0 ∙ c .before .before .answer-write .ensures ∙ sym (answer-same f (c .before .before .before .before .before .before .before .before .before .before .before .args .registers .now) (c .before .before .before .before .before .before .before .before .before .before .before .args .toggle) (c .before .before .before .before .before .before .before .before .before .before .before .args .pointer) (c .before .before .before .before .before .before .before .before .before .before .before .args .shown) parts (c .before .before .before .before .before .before .place-in .result)))
-    (c .before .effect-write .ensures ∙ ap (writeAt _ (c .before .before .before .before .before .before .place-in .result)) (c .before .before .before .word .ensures) ∙ sym (write-same f (c .before .before .before .before .before .before .before .before .before .before .before .args .registers .now) (c .before .before .before .before .before .before .before .before .before .before .before .args .toggle) (c .before .before .before .before .before .before .before .before .before .before .before .args .pointer) (c .before .before .before .before .before .before .before .before .before .before .before .args .shown) parts (c .before .before .before .before .before .before .place-in .result) (c .before .before .before .before .before .before .before .before .before .before .before .args .asked .value)))
+    (c .settle .ensures .0 ∙ c .before .before .answer-write .ensures ∙ sym (answer-same f (c .before .before .before .before .before .before .before .before .before .before .before .args .registers .now) (c .before .before .before .before .before .before .before .before .before .before .before .args .toggle) (c .before .before .before .before .before .before .before .before .before .before .before .args .pointer) parts (c .before .before .before .before .before .before .place-in .result)))
+    (c .before .effect-write .ensures ∙ ap (writeAt _ (c .before .before .before .before .before .before .place-in .result)) (c .before .before .before .word .ensures) ∙ sym (write-same f (c .before .before .before .before .before .before .before .before .before .before .before .args .registers .now) (c .before .before .before .before .before .before .before .before .before .before .before .args .toggle) (c .before .before .before .before .before .before .before .before .before .before .before .args .pointer) parts (c .before .before .before .before .before .before .place-in .result) (c .before .before .before .before .before .before .before .before .before .before .before .args .asked .value)))
     (c .settle .ensures .1 ∙ ap (λ (a : Answer). cond (refused a) Nothing (c .before .effect-write .result)) (sym (c .settle .ensures .0)))
 
 returns-3 : tie.Need-returns-3
 unfolding effectAt isWrite
-returns-3 c = λ f s parts.
-    decided f s (c .before .before .before .before .before .before .before .before .before .before .args .registers .now) (c .before .before .before .before .before .before .before .before .before .before .args .toggle) (c .before .before .before .before .before .before .before .before .before .before .args .pointer) (c .before .before .before .before .before .before .before .before .before .before .args .shown) parts (c .before .before .before .before .before .before .before .before .before .before .args .asked) (c .before .before .before .before .before .before .before .cell .given .0 .0) (sym (c .before .before .before .before .before .before .before .before .before .look .ensures) ∙ c .before .before .before .before .before .before .before .cell .given .1)
+returns-3 c = λ f s parts shows.
+    decided f s (c .before .before .before .before .before .before .before .before .before .before .args .registers .now) (c .before .before .before .before .before .before .before .before .before .before .args .toggle) (c .before .before .before .before .before .before .before .before .before .before .args .pointer) parts (c .before .before .before .before .before .before .before .before .before .before .args .asked) (c .before .before .before .before .before .before .before .cell .given .0 .0) (sym (c .before .before .before .before .before .before .before .before .before .look .ensures) ∙ c .before .before .before .before .before .before .before .cell .given .1)
     (c .before .before .before .before .before .place-in .result) (c .before .before .before .before .before .place-in .ensures) false (ne-eqb _ _ (c .before .before .before .if1 .left)) (c .settle2 .result) (c .before .effect-read .result)
-    (c .settle2 .ensures .0 ∙ c .before .before .answer-read .ensures f parts)
-    (c .before .effect-read .ensures ∙ sym (read-same f (c .before .before .before .before .before .before .before .before .before .before .args .registers .now) (c .before .before .before .before .before .before .before .before .before .before .args .toggle) (c .before .before .before .before .before .before .before .before .before .before .args .pointer) (c .before .before .before .before .before .before .before .before .before .before .args .shown) parts (c .before .before .before .before .before .place-in .result)))
+    (c .settle2 .ensures .0 ∙ c .before .before .answer-read .ensures f parts
+    (λ e. shows (pixels-there f (c .before .before .before .before .before .before .before .before .before .before .args .asked) (place-here f s (c .before .before .before .before .before .before .before .before .before .before .args .registers .now) (c .before .before .before .before .before .before .before .before .before .before .args .toggle) (c .before .before .before .before .before .before .before .before .before .before .args .pointer) parts (c .before .before .before .before .before .before .before .before .before .before .args .asked) (c .before .before .before .before .before .before .before .cell .given .0 .0) (sym (c .before .before .before .before .before .before .before .before .before .look .ensures) ∙ c .before .before .before .before .before .before .before .cell .given .1) ∙ sym (c .before .before .before .before .before .place-in .ensures) ∙ e))))
+    (c .before .effect-read .ensures ∙ sym (read-same f (c .before .before .before .before .before .before .before .before .before .before .args .registers .now) (c .before .before .before .before .before .before .before .before .before .before .args .toggle) (c .before .before .before .before .before .before .before .before .before .before .args .pointer) parts (c .before .before .before .before .before .place-in .result)))
     (c .settle2 .ensures .1 ∙ ap (λ (a : Answer). cond (refused a) Nothing (c .before .effect-read .result)) (sym (c .settle2 .ensures .0)))
 
 pub decide-spec : {M : Type 1} → statement M
