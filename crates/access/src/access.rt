@@ -3,6 +3,7 @@ ghost use lib.Dec.{T};
 ghost use Rattle.file.specs.Sound.{sound};
 ghost use Rattle.access.specs.Looked.{shownIn, decision};
 ghost use Rattle.access.specs.Access.{access as accessOf, reach as reachOfAccess};
+use crate::decode;
 use crate::engine;
 use crate::record::Record;
 use file::Answer;
@@ -39,7 +40,11 @@ fn decide(asked: Record, whole: File) -> engine::Decision
     ensures { λ r. ⌜ r ≡ decision whole asked ⌝ }
 {
     let registers = whole.registers;
+    let cells = decode::cells();
+    let stored = engine::stored();
     engine::decide(
+        &cells,
+        &stored,
         &registers,
         whole.toggle,
         whole.pointer,

@@ -5,10 +5,10 @@ ghost use mathlib.Core.Bool.{true, false, cond};
 ghost use lib.Dec.{T};
 ghost use Rattle.file.specs.declared.registers.File.{File as FileOf};
 ghost use Rattle.file.specs.File.{crtcLocked, withPointer, powerOn};
-ghost use Rattle.file.specs.Registers.{storedTable};
+ghost use Rattle.file.specs.Registers.{storedBits, storedTable};
 ghost use Rattle.file.specs.Sound.{allWithin, sound};
 ghost use Rattle.access.specs.Access.{reachIn, lockedOut, paletteUp, inBank, answerAt, pixelWrite, writeAt, readAt};
-ghost use Rattle.access.specs.Cells.{cellAt, seen};
+ghost use Rattle.access.specs.Cells.{cellAt, cellTable, seen};
 ghost use Rattle.access.specs.Checks.{malformed, spaceOff, otherHalf};
 ghost use Rattle.access.specs.Looked.{lookedAt, inFile, holds, Shows, shownIn, atPixels, decision};
 ghost use Rattle.access.specs.declared.place.Place.the-variants.{PixelData as PixelDataPlace};
@@ -94,7 +94,8 @@ fn is_other_half(registers: &[u16; 100], asked: Record) -> bool
 }
 
 // The checks that every record passes before its place is asked, in 01's order.
-pub fn look(registers: &[u16; 100], asked: Record) -> Looked
+pub fn look(cells: &[u8; 534], registers: &[u16; 100], asked: Record) -> Looked
+    requires { ⌜ now cells ≡ cellTable ⌝ }
     ensures { λ r. ⌜ r ≡ lookedAt (seen (now (registers .entry)) false) asked ⌝ }
 {
     if is_malformed(asked) {
@@ -103,7 +104,7 @@ pub fn look(registers: &[u16; 100], asked: Record) -> Looked
     if is_space_off(registers, asked) {
         return Looked::Refused(Answer::SpaceOff);
     }
-    let cell = decode::cell_at(asked.kind, asked.address);
+    let cell = decode::cell_at(cells, asked.kind, asked.address);
     if cell == decode::NOTHING {
         return Looked::Refused(Answer::NotHeld);
     }
@@ -134,17 +135,32 @@ fn is_locked(registers: &[u16; 100]) -> bool
     registers[42] / 128 % 2 == 1
 }
 
+// The stored bits of every register. They are made once and lent, as the cells are.
+pub fn stored() -> [u16; 100]
+    ensures { λ r. ⌜ r ≡ storedTable ⌝ }
+{
+    File::STORED
+}
+
+fn stored_bits(stored: &[u16; 100], number: usize) -> u16
+    requires { ⌜ now stored ≡ storedTable ⌝ }
+    ensures { λ r. ⌜ r ≡ storedBits number ⌝ }
+{
+    if number < 100 { stored[number] } else { 0 }
+}
+
 // The bits of a register that a write may change.
-pub fn reach_in(registers: &[u16; 100], number: usize) -> u16
+fn reach_in(stored: &[u16; 100], registers: &[u16; 100], number: usize) -> u16
+    requires { ⌜ now stored ≡ storedTable ⌝ }
     ensures { λ r. ⌜ r ≡ reachIn (seen (now (registers .entry)) false) number ⌝ }
 {
     if number != 32 {
-        return File::stored_bits(number);
+        return stored_bits(stored, number);
     }
     if is_locked(registers) {
         0x10
     } else {
-        File::stored_bits(number)
+        stored_bits(stored, number)
     }
 }
 
@@ -275,29 +291,31 @@ pub fn entry_number(bank: bool, address: u8) -> usize
 
 // What a write does at a place.
 fn effect_write(
+    stored: &[u16; 100],
     registers: &[u16; 100],
     toggle: bool,
     pointer: Pointer,
     place: Place,
     value: u16,
 ) -> Effect
+    requires { ⌜ now stored ≡ storedTable ⌝ }
     requires { ⌜ T (holds place value) ⌝ }
     ensures { λ r. ⌜ r ≡ writeAt (withPointer pointer (seen (now (registers .entry)) toggle)) place value ⌝ }
 {
     match place {
         Place::Register(number) => Effect::Store {
             register: number,
-            reach: reach_in(registers, number),
+            reach: reach_in(stored, registers, number),
             value,
         },
         Place::Attribute(number) => Effect::StoreAndFlip {
             register: number,
-            reach: reach_in(registers, number),
+            reach: reach_in(stored, registers, number),
             value,
         },
         Place::PaletteState => Effect::Store {
             register: 85,
-            reach: reach_in(registers, 85),
+            reach: reach_in(stored, registers, 85),
             value,
         },
         Place::ReadAddress => Effect::Move(Pointer::addressed(true, low(value))),
@@ -360,28 +378,32 @@ fn word(value: u32) -> u16
 
 // Answer and effect of a record in a file of these registers, toggle and pointer. `shown` is the component that pixel data shows, and anything at other addresses.
 pub fn decide(
+    cells: &[u8; 534],
+    stored: &[u16; 100],
     registers: &[u16; 100],
     toggle: bool,
     pointer: Pointer,
     shown: u8,
     asked: Record,
 ) -> Decision
+    requires { ⌜ now cells ≡ cellTable ⌝ }
+    requires { ⌜ now stored ≡ storedTable ⌝ }
     requires { ⌜ T (allWithin storedTable (now registers)) ⌝ }
     requires { ⌜ T (pointerSound pointer) ⌝ }
     ensures { λ r. ⌜ ((f : FileOf) → T (sound f) → Shows f (now (registers .entry)) toggle pointer → (T (atPixels (asked .address)) → shown ≡ shownIn f) → r ≡ decision f asked) ⌝ }
 {
-    match look(registers, asked) {
+    match look(cells, registers, asked) {
         Looked::Refused(answer) => Decision {
             answer,
             effect: Effect::Nothing,
         },
         Looked::At(cell) => {
-            let place = decode::place_in(registers, toggle, cell);
+            let place = decode::place_in(cells, registers, toggle, cell);
             if asked.kind % 2 == 1 {
                 let value = word(asked.value);
                 settle(
                     answer_write(registers, place),
-                    effect_write(registers, toggle, pointer, place, value),
+                    effect_write(stored, registers, toggle, pointer, place, value),
                 )
             } else {
                 settle(

@@ -17,6 +17,8 @@ ghost use Rattle.file.specs.Registers.{storedTable};
 ghost use Rattle.access.specs.Run.{fileAfter, replies as repliesOf, runCount, run as runOf};
 ghost use Rattle.access.specs.Served.{Parts, putBack, lands, Serves};
 ghost use Rattle.access.specs.Looked.{shownIn, atPixels};
+ghost use Rattle.access.specs.Cells.{cellTable};
+use crate::decode;
 use crate::engine;
 use crate::reader;
 use crate::record::Record;
@@ -186,13 +188,30 @@ fn put_effect(registers: &mut [u16; 100], before: Served, effect: Effect) -> Ser
 }
 
 // One access: the registers where they stand, the other parts by value. `shown` is the component that pixel data shows.
-fn serve(registers: &mut [u16; 100], before: Served, shown: u8, asked: Record) -> Served
+fn serve(
+    cells: &[u8; 534],
+    stored: &[u16; 100],
+    registers: &mut [u16; 100],
+    before: Served,
+    shown: u8,
+    asked: Record,
+) -> Served
+    requires { ⌜ now cells ≡ cellTable ⌝ }
+    requires { ⌜ now stored ≡ storedTable ⌝ }
     requires { ⌜ T (allWithin storedTable (now registers)) ⌝ }
     requires { ⌜ T (pointerSound (before .pointer)) ⌝ }
     ensures { λ r. ⌜ ((f : FileOf) → T (sound f) → Parts f (now (registers .entry)) before → (T (atPixels (asked .address)) → shown ≡ shownIn f) → Serves f asked (before .pointer) (now (registers .exit)) r) ⌝ }
 {
     let pointer = before.pointer;
-    let decision = engine::decide(registers, before.toggle, pointer, shown, asked);
+    let decision = engine::decide(
+        cells,
+        stored,
+        registers,
+        before.toggle,
+        pointer,
+        shown,
+        asked,
+    );
     let answer = decision.answer;
     let mut said = before;
     said.code = answer.code();
@@ -214,6 +233,8 @@ fn run_whole(whole: File, trace: &[u8], replies: &mut [u8], count: usize) -> Fil
     let mut bank = whole.bank;
     let mut pointer = whole.pointer;
     let mut toggle = whole.toggle;
+    let cells = decode::cells();
+    let stored = engine::stored();
     let mut n: usize = 0;
     while n < count {
         let asked = record_at(trace, 8 * n);
@@ -225,7 +246,7 @@ fn run_whole(whole: File, trace: &[u8], replies: &mut [u8], count: usize) -> Fil
             shown = named.component(pointer.next);
         }
         let before = unpainted(pointer, toggle);
-        let after = serve(&mut registers, before, shown, asked);
+        let after = serve(&cells, &stored, &mut registers, before, shown, asked);
         put_reply(
             replies,
             8 * n,

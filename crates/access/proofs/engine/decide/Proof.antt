@@ -30,22 +30,24 @@ place-in-requires c κs = search needs
 
 word-requires : tie.Need-word-requires
 unfolding isWrite
-word-requires c κs = seen-word (c .before .before .before .before .before .before .before .args .registers .now) (c .before .before .before .before .before .before .before .pre .0) (c .before .before .before .before .before .before .before .args .toggle) (c .before .before .before .before .before .before .before .args .asked) (c .before .before .before .before .cell .given .0 .0) (sym (c .before .before .before .before .before .before .look .ensures) ∙ c .before .before .before .before .cell .given .1) (eq-eqb _ _ (c .if1 .taken))
+word-requires c κs = seen-word (c .before .before .before .before .before .before .before .args .registers .now) (c .before .before .before .before .before .before .before .pre .1 .1 .0) (c .before .before .before .before .before .before .before .args .toggle) (c .before .before .before .before .before .before .before .args .asked) (c .before .before .before .before .cell .given .0 .0) (sym (c .before .before .before .before .before .before .look .ensures) ∙ c .before .before .before .before .cell .given .1) (eq-eqb _ _ (c .if1 .taken))
 
 answer-write-requires : tie.Need-answer-write-requires
 answer-write-requires c κs = search needs
 
 effect-write-requires : tie.Need-effect-write-requires
 unfolding isWrite
-effect-write-requires c κs =
-    subst₂ (λ (p : Place) (v : ℕ). T (holds p v)) (sym (c .before .before .before .before .place-in .ensures)) (sym (c .before .word .ensures))
-    (seen-holds (c .before .before .before .before .before .before .before .before .before .args .registers .now) (c .before .before .before .before .before .before .before .before .before .pre .0) (c .before .before .before .before .before .before .before .before .before .args .toggle) (c .before .before .before .before .before .before .before .before .before .args .asked) (c .before .before .before .before .before .before .cell .given .0 .0) (sym (c .before .before .before .before .before .before .before .before .look .ensures) ∙ c .before .before .before .before .before .before .cell .given .1) (eq-eqb _ _ (c .before .before .if1 .taken)))
+effect-write-requires c κs = (
+  c .before .before .before .before .before .before .before .before .before .pre .1 .0,
+  subst₂ (λ (p : Place) (v : ℕ). T (holds p v)) (sym (c .before .before .before .before .place-in .ensures)) (sym (c .before .word .ensures))
+      (seen-holds (c .before .before .before .before .before .before .before .before .before .args .registers .now) (c .before .before .before .before .before .before .before .before .before .pre .1 .1 .0) (c .before .before .before .before .before .before .before .before .before .args .toggle) (c .before .before .before .before .before .before .before .before .before .args .asked) (c .before .before .before .before .before .before .cell .given .0 .0) (sym (c .before .before .before .before .before .before .before .before .look .ensures) ∙ c .before .before .before .before .before .before .cell .given .1) (eq-eqb _ _ (c .before .before .if1 .taken))),
+)
 
 settle-requires : tie.Need-settle-requires
 settle-requires c κs = search needs
 
 answer-read-requires : tie.Need-answer-read-requires
-answer-read-requires c κs = (subst (λ (p : Place). T (inFile p)) (sym (c .before .before .place-in .ensures)) (in-file _ _), c .before .before .before .before .before .before .before .pre .0)
+answer-read-requires c κs = (subst (λ (p : Place). T (inFile p)) (sym (c .before .before .place-in .ensures)) (in-file _ _), c .before .before .before .before .before .before .before .pre .1 .1 .0)
 
 effect-read-requires : tie.Need-effect-read-requires
 effect-read-requires c κs = search needs

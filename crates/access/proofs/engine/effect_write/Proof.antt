@@ -33,7 +33,7 @@ enum-told-2 c = search needs
 
 low-requires : tie.Need-low-requires
 unfolding holds
-low-requires c κs = ltb→lt (c .before .before .args .value) 256 (subst (λ (p : Place). T (holds p (c .before .before .args .value))) (c .enum-told2 .given .1) (c .before .before .pre))
+low-requires c κs = ltb→lt (c .before .before .args .value) 256 (subst (λ (p : Place). T (holds p (c .before .before .args .value))) (c .enum-told2 .given .1) (c .before .before .pre .1))
 
 addressed-requires : tie.Need-addressed-requires
 addressed-requires c κs = search needs
@@ -43,7 +43,7 @@ enum-told-3 c = search needs
 
 low-requires-2 : tie.Need-low-requires-2
 unfolding holds
-low-requires-2 c κs = ltb→lt (c .before .before .args .value) 256 (subst (λ (p : Place). T (holds p (c .before .before .args .value))) (c .enum-told3 .given .1) (c .before .before .pre))
+low-requires-2 c κs = ltb→lt (c .before .before .args .value) 256 (subst (λ (p : Place). T (holds p (c .before .before .args .value))) (c .enum-told3 .given .1) (c .before .before .pre .1))
 
 addressed-requires-2 : tie.Need-addressed-requires-2
 addressed-requires-2 c κs = search needs
@@ -53,7 +53,7 @@ enum-told-4 c = search needs
 
 low-requires-3 : tie.Need-low-requires-3
 unfolding holds
-low-requires-3 c κs = ltb→lt (c .before .before .args .value) 256 (subst (λ (p : Place). T (holds p (c .before .before .args .value))) (c .enum-told4 .given .1) (c .before .before .pre))
+low-requires-3 c κs = ltb→lt (c .before .before .args .value) 256 (subst (λ (p : Place). T (holds p (c .before .before .args .value))) (c .enum-told4 .given .1) (c .before .before .pre .1))
 
 pixel-write-requires : tie.Need-pixel-write-requires
 pixel-write-requires c κs = search needs
