@@ -1,6 +1,6 @@
 -- From the engine's parts to 01's answer and effect, for every sound file with those parts. Assumes nothing.
 use Prim.Native.Nat.{ℕ, zero, suc, _-_, _%_, _≤_, _<_, _^_}
-use mathlib.Core.Path.{_≡_, refl, sym, ap, ap₂, _∙_, subst}
+use mathlib.Core.Path.{_≡_, refl, sym, ap, ap₂, _∙_, subst, subst₂}
 use mathlib.Core.Bool.{Bool, true, false, cond, true≢false, not, _&&_, _||_}
 use mathlib.Core.List.{List, [], _∷_}
 use mathlib.Core.Logic.{_⊎_, inl, inr, ⊎-elim}
@@ -30,7 +30,7 @@ use Rattle.access.specs.declared.record.Record.{Record}
 use Rattle.access.specs.Access.{lockedOut, paletteUp, reachIn, inBank, entryNumber, pixelWrite, answerAt, writeAt, readAt, effectAt, answer, effect}
 use Rattle.access.specs.Cells.{alone, plainPlace, cellAt, cellWidth, asAttribute, attributePlace, seen, indexedPlaces, cellPlace}
 use Rattle.access.specs.Checks.{isWrite, isPort, isMmio, isOneOf, malformed, spaceOff, otherHalf, wrongWidth}
-use Rattle.access.specs.Looked.{lookedAt, inFile, holds, Shows, atPixels, decision}
+use Rattle.access.specs.Looked.{lookedAt, inFile, holds, Shows, atPixels, Decides, decision}
 use Rattle.access.specs.Lookup.{attributeIndex, fits, rowOf, placeIn, placeOf}
 use Rattle.access.specs.Places.{Row, places, each, attributePorts, generalPorts, crtcPorts, pipelinePlace, mmioPlaces, pciPlaces}
 use Rattle.access.proofs.Cells.{Outcome, nothing, held, outcome, spoken, Indexed, decider, count, cell-names, samePlace, alone-unstored}
@@ -366,24 +366,27 @@ pixels-there f r e =
 
 -- ---- the whole decision
 
+pub decides-by : {a b : Answer} {o u : Effect} {d : Decision} → a ≡ b → o ≡ u → Decides a o d → Decides b u d
+decides-by {d = d} e h made = subst₂ (λ (x : Answer) (y : Effect). Decides x y d) e h made
+
 module _ (f : File) (s : T (sound f)) (values : List ℕ) (toggle : Bool) (pointer : Pointer) (parts-of : Shows f values toggle pointer)
     (r : Record) (cell : ℕ) (e : lookedAt (seen values false) r ≡ At cell) (place : Place) (p : place ≡ cellPlace (seen values toggle) cell)
-    (write : Bool) (w : isWrite r ≡ write) (d : Decision) (done : Effect)
-    (a : d .answer ≡ answerAt write f place) (does : done ≡ effectAt write f place (r .value)) (x : d .effect ≡ cond (refused (d .answer)) Nothing done) where
+    (write : Bool) (w : isWrite r ≡ write) (d : Decision) (made : Decides (answerAt write f place) (effectAt write f place (r .value)) d) where
   place-of : placeOf f r ≡ place
   place-of = place-here f s values toggle pointer parts-of r cell e ∙ sym p
 
-  answers : d .answer ≡ answer f r
-  answers =
-      a ∙ ap₂ (λ (b : Bool) (q : Place). answerAt b f q) (sym w) (sym place-of)
+  same-answer : answerAt write f place ≡ answer f r
+  same-answer =
+      ap₂ (λ (b : Bool) (q : Place). answerAt b f q) (sym w) (sym place-of)
       ∙ sym (place-answer f s values toggle pointer parts-of r cell e)
 
   effects : d .effect ≡ effect f r
   unfolding effect
   effects =
-      x ∙ ap₂ (λ (b : Answer) (o : Effect). cond (refused b) Nothing o) answers
-      (does ∙ ap₂ (λ (b : Bool) (q : Place). effectAt b f q (r .value)) (sym w) (sym place-of))
+      made .does
+      ∙ ap₂ (λ (b : Answer) (o : Effect). cond (refused b) Nothing o) same-answer
+      (ap₂ (λ (b : Bool) (q : Place). effectAt b f q (r .value)) (sym w) (sym place-of))
 
   pub decided : d ≡ decision f r
   unfolding decision
-  decided = λ i. record { answer = answers i; effect = effects i }
+  decided = λ i. record { answer = (made .answers ∙ same-answer) i; effect = effects i }

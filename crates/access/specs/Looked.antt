@@ -7,8 +7,11 @@ use mathlib.Core.List.{List}
 use lib.Dec.{eqb, ltb}
 use Rattle.file.specs.declared.answer.Answer.{Answer}
 use Rattle.file.specs.declared.answer.Answer.the-variants.{Malformed, SpaceOff, NotHeld, OtherHalf, WrongWidth}
+use Rattle.file.specs.declared.effect.Effect.{Effect}
+use Rattle.file.specs.declared.effect.Effect.the-variants.{Nothing}
 use Rattle.file.specs.declared.palette.Pointer.{Pointer}
 use Rattle.file.specs.declared.registers.File.{File}
+use Rattle.file.specs.Answers.{refused}
 use Rattle.file.specs.Palette.{component}
 use Rattle.access.specs.declared.engine.Decision.{Decision}
 use Rattle.access.specs.declared.engine.Looked.{Looked}
@@ -76,3 +79,8 @@ atPixels address = eqb address 0x3C9 || eqb address 0xAC
 -- answer and effect of a record, as the engine computes them together
 unfoldable pub decision : File → Record → Decision
 decision f r = record { answer = answer f r; effect = effect f r }
+
+-- a decision of this answer and, unless it is a refusal, this effect
+pub record Decides (a : Answer) (e : Effect) (d : Decision) : Type 0 where
+  pub answers : d .answer ≡ a
+  pub does : d .effect ≡ cond (refused a) Nothing e

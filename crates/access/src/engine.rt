@@ -10,11 +10,11 @@ ghost use Rattle.file.specs.Sound.{allWithin, sound};
 ghost use Rattle.access.specs.Access.{reachIn, lockedOut, paletteUp, inBank, answerAt, pixelWrite, writeAt, readAt};
 ghost use Rattle.access.specs.Cells.{cellAt, cellTable, seen};
 ghost use Rattle.access.specs.Checks.{malformed, spaceOff, otherHalf};
-ghost use Rattle.access.specs.Looked.{lookedAt, inFile, holds, Shows, shownIn, atPixels, decision};
-ghost use Rattle.access.specs.declared.place.Place.the-variants.{PixelData as PixelDataPlace};
-ghost use Rattle.file.specs.Answers.{refused};
-ghost use Rattle.file.specs.Palette.{pointerSound};
-ghost use Rattle.file.specs.declared.effect.Effect.the-variants.{Nothing};
+ghost use Rattle.access.specs.Looked.{lookedAt, inFile, holds, Shows, shownIn, atPixels, Decides, decision};
+ghost use Rattle.access.specs.declared.place.Place.the-variants.{PixelData as PixelDataPlace, Register as RegisterPlace};
+ghost use Rattle.file.specs.declared.answer.Answer.the-variants.{Done as DoneAnswer, PaletteDown as PaletteDownAnswer};
+ghost use Rattle.file.specs.Palette.{pointerSound, afterRead};
+ghost use Rattle.file.specs.declared.effect.Effect.the-variants.{Nothing, Move as MoveEffect};
 use crate::decode;
 use crate::place::Place;
 use crate::record::Record;
@@ -177,95 +177,11 @@ pub fn is_in_bank(registers: &[u16; 100]) -> bool
     registers[85] / 8 % 2 == 1
 }
 
-// What a place answers to a write.
-fn answer_write(registers: &[u16; 100], place: Place) -> Answer
-    ensures { λ r. ⌜ r ≡ answerAt true (seen (now (registers .entry)) false) place ⌝ }
-{
-    match place {
-        Place::Register(number) => {
-            if is_locked_out(registers, number) {
-                Answer::Locked
-            } else {
-                Answer::Done(0)
-            }
-        }
-        Place::Attribute(_) => Answer::Done(0),
-        Place::Fixed(_) => Answer::ReadOnly,
-        Place::ToggleState => Answer::ReadOnly,
-        Place::AttributeIndex => Answer::ReadOnly,
-        Place::PaletteState => Answer::Done(0),
-        Place::ReadAddress => Answer::Done(0),
-        Place::WriteAddress => Answer::Done(0),
-        Place::PixelData => {
-            if is_palette_up(registers) {
-                Answer::Done(0)
-            } else {
-                Answer::PaletteDown
-            }
-        }
-        Place::ToggleReset => Answer::Done(0),
-        Place::NoRegister => Answer::NoRegister,
-        Place::NoAttribute => Answer::NoRegister,
-    }
-}
-
-// What a place answers to a read; `shown` is the component that pixel data shows, and anything where the place is another.
-fn answer_read(
-    registers: &[u16; 100],
-    toggle: bool,
-    pointer: Pointer,
-    shown: u8,
-    place: Place,
-) -> Answer
-    requires { ⌜ T (inFile place) ⌝ }
-    requires { ⌜ T (allWithin storedTable (now registers)) ⌝ }
-    ensures { λ r. ⌜ ((f : FileOf) → Shows f (now (registers .entry)) toggle pointer → (place ≡ PixelDataPlace → shown ≡ shownIn f) → r ≡ answerAt false f place) ⌝ }
-{
-    match place {
-        Place::Register(number) => Answer::Done(registers[number]),
-        Place::Attribute(_) => Answer::Done(0),
-        Place::Fixed(value) => Answer::Done(value),
-        Place::ToggleState => Answer::Done(if toggle { 0x80 } else { 0 }),
-        Place::AttributeIndex => Answer::Done(registers[4]),
-        Place::PaletteState => Answer::Done(registers[85] + pointer.palette_state()),
-        Place::ReadAddress => Answer::Done(pointer.dac_state()),
-        Place::WriteAddress => Answer::Done(pointer.address as u16),
-        Place::PixelData => {
-            if is_palette_up(registers) {
-                Answer::Done(shown as u16)
-            } else {
-                Answer::PaletteDown
-            }
-        }
-        Place::ToggleReset => Answer::Done(0),
-        Place::NoRegister => Answer::NoRegister,
-        Place::NoAttribute => Answer::NoRegister,
-    }
-}
-
 fn low(value: u16) -> u8
     requires { ⌜ value < 256 ⌝ }
     ensures { λ r. ⌜ r ≡ value ⌝ }
 {
     value as u8
-}
-
-// A pixel data write: at blue it stores an entry.
-fn pixel_write(registers: &[u16; 100], pointer: Pointer, byte: u8) -> Effect
-    ensures { λ r. ⌜ r ≡ pixelWrite (withPointer pointer (seen (now (registers .entry)) false)) byte ⌝ }
-{
-    let after = pointer.after_write(byte);
-    if !pointer.stores() {
-        return Effect::Move(after);
-    }
-    let bank = is_in_bank(registers);
-    let entry = entry_number(bank, pointer.address);
-    Effect::Paint {
-        bank,
-        entry,
-        colour: pointer.mixed(byte),
-        pointer: after,
-    }
 }
 
 // An address of pixel data.
@@ -289,84 +205,152 @@ pub fn entry_number(bank: bool, address: u8) -> usize
     }
 }
 
-// What a write does at a place.
-fn effect_write(
-    stored: &[u16; 100],
-    registers: &[u16; 100],
-    toggle: bool,
-    pointer: Pointer,
-    place: Place,
-    value: u16,
-) -> Effect
-    requires { ⌜ now stored ≡ storedTable ⌝ }
-    requires { ⌜ T (holds place value) ⌝ }
-    ensures { λ r. ⌜ r ≡ writeAt (withPointer pointer (seen (now (registers .entry)) toggle)) place value ⌝ }
-{
-    match place {
-        Place::Register(number) => Effect::Store {
-            register: number,
-            reach: reach_in(stored, registers, number),
-            value,
-        },
-        Place::Attribute(number) => Effect::StoreAndFlip {
-            register: number,
-            reach: reach_in(stored, registers, number),
-            value,
-        },
-        Place::PaletteState => Effect::Store {
-            register: 85,
-            reach: reach_in(stored, registers, 85),
-            value,
-        },
-        Place::ReadAddress => Effect::Move(Pointer::addressed(true, low(value))),
-        Place::WriteAddress => Effect::Move(Pointer::addressed(false, low(value))),
-        Place::PixelData => pixel_write(registers, pointer, low(value)),
-        Place::NoAttribute => Effect::Toggle(!toggle),
-        Place::Fixed(_) => Effect::Nothing,
-        Place::ToggleState => Effect::Nothing,
-        Place::AttributeIndex => Effect::Nothing,
-        Place::ToggleReset => Effect::Nothing,
-        Place::NoRegister => Effect::Nothing,
-    }
-}
-
-// What a read does at a place.
-fn effect_read(pointer: Pointer, place: Place) -> Effect
-    ensures { λ r. ⌜ r ≡ readAt (withPointer pointer powerOn) place ⌝ }
-{
-    match place {
-        Place::PixelData => Effect::Move(pointer.after_read()),
-        Place::ToggleReset => Effect::Toggle(false),
-        Place::Register(_) => Effect::Nothing,
-        Place::Attribute(_) => Effect::Nothing,
-        Place::Fixed(_) => Effect::Nothing,
-        Place::ToggleState => Effect::Nothing,
-        Place::AttributeIndex => Effect::Nothing,
-        Place::PaletteState => Effect::Nothing,
-        Place::ReadAddress => Effect::Nothing,
-        Place::WriteAddress => Effect::Nothing,
-        Place::NoRegister => Effect::Nothing,
-        Place::NoAttribute => Effect::Nothing,
-    }
-}
-
 // What an access answers and what it does, both computed from the parts of a file that it looks at.
 pub struct Decision {
     pub answer: Answer,
     pub effect: Effect,
 }
 
-// A refusal, code 2 or more, does nothing.
-fn settle(answer: Answer, effect: Effect) -> Decision
-    ensures { λ r. ⌜ (r .answer ≡ answer) × (r .effect ≡ cond (refused answer) Nothing effect) ⌝ }
+// An answer that does nothing, as every refusal.
+fn only(answer: Answer) -> Decision
+    ensures { λ r. ⌜ (r .answer ≡ answer) × (r .effect ≡ Nothing) ⌝ }
 {
-    if 2 <= answer.code() {
+    Decision {
+        answer,
+        effect: Effect::Nothing,
+    }
+}
+
+// An access that is done and gives no value.
+fn done(effect: Effect) -> Decision
+    ensures { λ r. ⌜ (r .answer ≡ DoneAnswer 0) × (r .effect ≡ effect) ⌝ }
+{
+    Decision {
+        answer: Answer::Done(0),
+        effect,
+    }
+}
+
+// A write to a register: the lock refuses CR0 to CR6.
+fn write_register(
+    stored: &[u16; 100],
+    registers: &[u16; 100],
+    number: usize,
+    value: u16,
+) -> Decision
+    requires { ⌜ now stored ≡ storedTable ⌝ }
+    ensures { λ r. ⌜ Decides (answerAt true (seen (now (registers .entry)) false) (RegisterPlace number)) (writeAt (seen (now (registers .entry)) false) (RegisterPlace number) value) r ⌝ }
+{
+    if is_locked_out(registers, number) {
+        return only(Answer::Locked);
+    }
+    done(Effect::Store {
+        register: number,
+        reach: reach_in(stored, registers, number),
+        value,
+    })
+}
+
+// A pixel data write: at blue it stores an entry.
+fn write_pixel(registers: &[u16; 100], pointer: Pointer, byte: u8) -> Decision
+    ensures { λ r. ⌜ Decides (answerAt true (seen (now (registers .entry)) false) PixelDataPlace) (pixelWrite (withPointer pointer (seen (now (registers .entry)) false)) byte) r ⌝ }
+{
+    if !is_palette_up(registers) {
+        return only(Answer::PaletteDown);
+    }
+    let after = pointer.after_write(byte);
+    if !pointer.stores() {
+        return done(Effect::Move(after));
+    }
+    let bank = is_in_bank(registers);
+    let entry = entry_number(bank, pointer.address);
+    done(Effect::Paint {
+        bank,
+        entry,
+        colour: pointer.mixed(byte),
+        pointer: after,
+    })
+}
+
+// A write at a place.
+fn write_at(
+    stored: &[u16; 100],
+    registers: &[u16; 100],
+    toggle: bool,
+    pointer: Pointer,
+    place: Place,
+    value: u16,
+) -> Decision
+    requires { ⌜ now stored ≡ storedTable ⌝ }
+    requires { ⌜ T (holds place value) ⌝ }
+    ensures { λ r. ⌜ Decides (answerAt true (seen (now (registers .entry)) false) place) (writeAt (withPointer pointer (seen (now (registers .entry)) toggle)) place value) r ⌝ }
+{
+    match place {
+        Place::Register(number) => write_register(stored, registers, number, value),
+        Place::Attribute(number) => done(Effect::StoreAndFlip {
+            register: number,
+            reach: reach_in(stored, registers, number),
+            value,
+        }),
+        Place::PaletteState => done(Effect::Store {
+            register: 85,
+            reach: reach_in(stored, registers, 85),
+            value,
+        }),
+        Place::ReadAddress => done(Effect::Move(Pointer::addressed(true, low(value)))),
+        Place::WriteAddress => done(Effect::Move(Pointer::addressed(false, low(value)))),
+        Place::PixelData => write_pixel(registers, pointer, low(value)),
+        Place::NoAttribute => Decision {
+            answer: Answer::NoRegister,
+            effect: Effect::Toggle(!toggle),
+        },
+        Place::Fixed(_) => only(Answer::ReadOnly),
+        Place::ToggleState => only(Answer::ReadOnly),
+        Place::AttributeIndex => only(Answer::ReadOnly),
+        Place::ToggleReset => done(Effect::Nothing),
+        Place::NoRegister => only(Answer::NoRegister),
+    }
+}
+
+// A pixel data read, which moves the pointer; `shown` is the component that it shows.
+fn read_pixel(registers: &[u16; 100], pointer: Pointer, shown: u8) -> Decision
+    ensures { λ r. ⌜ Decides (cond (paletteUp (seen (now (registers .entry)) false)) (DoneAnswer shown) PaletteDownAnswer) (MoveEffect (afterRead pointer)) r ⌝ }
+{
+    if is_palette_up(registers) {
         return Decision {
-            answer,
-            effect: Effect::Nothing,
+            answer: Answer::Done(shown as u16),
+            effect: Effect::Move(pointer.after_read()),
         };
     }
-    Decision { answer, effect }
+    only(Answer::PaletteDown)
+}
+
+// A read at a place; `shown` is the component that pixel data shows, and anything where the place is another.
+fn read_at(
+    registers: &[u16; 100],
+    toggle: bool,
+    pointer: Pointer,
+    shown: u8,
+    place: Place,
+) -> Decision
+    requires { ⌜ T (inFile place) ⌝ }
+    requires { ⌜ T (allWithin storedTable (now registers)) ⌝ }
+    ensures { λ r. ⌜ ((f : FileOf) → Shows f (now (registers .entry)) toggle pointer → (place ≡ PixelDataPlace → shown ≡ shownIn f) → Decides (answerAt false f place) (readAt (withPointer pointer powerOn) place) r) ⌝ }
+{
+    match place {
+        Place::Register(number) => only(Answer::Done(registers[number])),
+        Place::Attribute(_) => only(Answer::Done(0)),
+        Place::Fixed(value) => only(Answer::Done(value)),
+        Place::ToggleState => only(Answer::Done(if toggle { 0x80 } else { 0 })),
+        Place::AttributeIndex => only(Answer::Done(registers[4])),
+        Place::PaletteState => only(Answer::Done(registers[85] + pointer.palette_state())),
+        Place::ReadAddress => only(Answer::Done(pointer.dac_state())),
+        Place::WriteAddress => only(Answer::Done(pointer.address as u16)),
+        Place::PixelData => read_pixel(registers, pointer, shown),
+        Place::ToggleReset => done(Effect::Toggle(false)),
+        Place::NoRegister => only(Answer::NoRegister),
+        Place::NoAttribute => only(Answer::NoRegister),
+    }
 }
 
 fn word(value: u32) -> u16
@@ -401,15 +385,9 @@ pub fn decide(
             let place = decode::place_in(cells, registers, toggle, cell);
             if asked.kind % 2 == 1 {
                 let value = word(asked.value);
-                settle(
-                    answer_write(registers, place),
-                    effect_write(stored, registers, toggle, pointer, place, value),
-                )
+                write_at(stored, registers, toggle, pointer, place, value)
             } else {
-                settle(
-                    answer_read(registers, toggle, pointer, shown, place),
-                    effect_read(pointer, place),
-                )
+                read_at(registers, toggle, pointer, shown, place)
             }
         }
     }
