@@ -251,25 +251,22 @@ fn write_register(
     })
 }
 
-// A pixel data write: at blue it stores an entry.
-fn write_pixel(registers: &[u16; 100], pointer: Pointer, byte: u8) -> Decision
-    ensures { λ r. ⌜ Decides (answerAt true (seen (now (registers .entry)) false) PixelDataPlace) (pixelWrite (withPointer pointer (seen (now (registers .entry)) false)) byte) r ⌝ }
+// What a pixel data write does: at blue it stores an entry.
+fn pixel_write(registers: &[u16; 100], pointer: Pointer, byte: u8) -> Effect
+    ensures { λ r. ⌜ r ≡ pixelWrite (withPointer pointer (seen (now (registers .entry)) false)) byte ⌝ }
 {
-    if !is_palette_up(registers) {
-        return only(Answer::PaletteDown);
-    }
     let after = pointer.after_write(byte);
     if !pointer.stores() {
-        return done(Effect::Move(after));
+        return Effect::Move(after);
     }
     let bank = is_in_bank(registers);
     let entry = entry_number(bank, pointer.address);
-    done(Effect::Paint {
+    Effect::Paint {
         bank,
         entry,
         colour: pointer.mixed(byte),
         pointer: after,
-    })
+    }
 }
 
 // A write at a place.
@@ -299,7 +296,13 @@ fn write_at(
         }),
         Place::ReadAddress => done(Effect::Move(Pointer::addressed(true, low(value)))),
         Place::WriteAddress => done(Effect::Move(Pointer::addressed(false, low(value)))),
-        Place::PixelData => write_pixel(registers, pointer, low(value)),
+        Place::PixelData => {
+            if is_palette_up(registers) {
+                done(pixel_write(registers, pointer, low(value)))
+            } else {
+                only(Answer::PaletteDown)
+            }
+        }
         Place::NoAttribute => Decision {
             answer: Answer::NoRegister,
             effect: Effect::Toggle(!toggle),

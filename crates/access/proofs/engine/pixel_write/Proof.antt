@@ -1,0 +1,44 @@
+-- `pixel_write` meets its contract. Assumes nothing.
+use mathlib.Core.Path.{sym, ap, _∙_}
+use borrow.Author.Tests.{not-true, not-false}
+use Rattle.file.specs.File.{register, withRegisters, withToggle, withPointer, powerOn}
+use Rattle.access.specs.Access.{inBank, entryNumber, pixelWrite}
+use Rattle.access.specs.Cells.{seen}
+use borrow.Author.Needs.{needs}
+use Rattle.access.proofs.engine.pixel_write.Statement.{statement}
+use Rattle.access.proofs.engine.pixel_write.Tie as tie
+
+after-write-requires : tie.Need-after-write-requires
+after-write-requires c κs = search needs
+
+stores-requires : tie.Need-stores-requires
+stores-requires c κs = search needs
+
+returns : tie.Need-returns
+unfolding pixelWrite seen register withRegisters withToggle withPointer
+returns c = rw (sym (c .before .stores .ensures) ∙ not-true _ (c .if1 .taken), c .before .before .after-write .ensures)
+
+is-in-bank-requires : tie.Need-is-in-bank-requires
+is-in-bank-requires c κs = search needs
+
+entry-number-requires : tie.Need-entry-number-requires
+entry-number-requires c κs = search needs
+
+mixed-requires : tie.Need-mixed-requires
+mixed-requires c κs = search needs
+
+returns-2 : tie.Need-returns-2
+unfolding pixelWrite entryNumber inBank seen register withRegisters withToggle withPointer
+returns-2 c = rw (sym (c .before .before .before .before .stores .ensures) ∙ not-false _ (c .before .before .before .if1 .left), c .mixed .ensures, c .before .entry-number .ensures, c .before .before .is-in-bank .ensures, c .before .before .before .before .before .after-write .ensures)
+
+pub pixel-write-spec : {M : Type 1} → statement M
+pixel-write-spec =
+    tie.close
+    (tie.spec
+    after-write-requires
+    stores-requires
+    returns
+    is-in-bank-requires
+    entry-number-requires
+    mixed-requires
+    returns-2)
