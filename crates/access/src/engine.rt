@@ -14,7 +14,7 @@ ghost use Rattle.access.specs.Looked.{lookedAt, inFile, holds, Shows, sh
 ghost use Rattle.access.specs.declared.place.Place.the-variants.{PixelData as PixelDataPlace, Register as RegisterPlace};
 ghost use Rattle.file.specs.declared.answer.Answer.the-variants.{Done as DoneAnswer, PaletteDown as PaletteDownAnswer};
 ghost use Rattle.file.specs.Palette.{pointerSound, afterRead};
-ghost use Rattle.file.specs.declared.effect.Effect.the-variants.{Nothing, Move as MoveEffect};
+ghost use Rattle.file.specs.declared.effect.Effect.the-variants.{Nothing, Store as StoreEffect, Move as MoveEffect};
 use crate::decode;
 use crate::place::Place;
 use crate::record::Record;
@@ -231,6 +231,18 @@ fn done(effect: Effect) -> Decision
     }
 }
 
+// What a write does to a register.
+fn store(stored: &[u16; 100], registers: &[u16; 100], number: usize, value: u16) -> Effect
+    requires { ⌜ now stored ≡ storedTable ⌝ }
+    ensures { λ r. ⌜ r ≡ StoreEffect number (reachIn (seen (now (registers .entry)) false) number) value ⌝ }
+{
+    Effect::Store {
+        register: number,
+        reach: reach_in(stored, registers, number),
+        value,
+    }
+}
+
 // A write to a register: the lock refuses CR0 to CR6.
 fn write_register(
     stored: &[u16; 100],
@@ -244,11 +256,7 @@ fn write_register(
     if is_locked_out(registers, number) {
         return only(Answer::Locked);
     }
-    done(Effect::Store {
-        register: number,
-        reach: reach_in(stored, registers, number),
-        value,
-    })
+    done(store(stored, registers, number, value))
 }
 
 // What a pixel data write does: at blue it stores an entry.
@@ -289,11 +297,7 @@ fn write_at(
             reach: reach_in(stored, registers, number),
             value,
         }),
-        Place::PaletteState => done(Effect::Store {
-            register: 85,
-            reach: reach_in(stored, registers, 85),
-            value,
-        }),
+        Place::PaletteState => done(store(stored, registers, 85, value)),
         Place::ReadAddress => done(Effect::Move(Pointer::addressed(true, low(value)))),
         Place::WriteAddress => done(Effect::Move(Pointer::addressed(false, low(value)))),
         Place::PixelData => {

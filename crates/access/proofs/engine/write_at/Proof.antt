@@ -30,8 +30,8 @@ done-requires c κs = search needs
 enum-told : tie.Need-enum-told
 enum-told c = search needs
 
-reach-in-requires-2 : tie.Need-reach-in-requires-2
-reach-in-requires-2 c κs = search needs
+store-requires : tie.Need-store-requires
+store-requires c κs = search needs
 
 done-requires-2 : tie.Need-done-requires-2
 done-requires-2 c κs = search needs
@@ -124,7 +124,7 @@ returns-2 c = rw (c .before .before .before .place2 .given .1) (record { answers
 
 returns-3 : tie.Need-returns-3
 unfolding answerAt writeAt refused codeOf reachIn crtcLocked pixelWrite entryNumber inBank seen register withRegisters withToggle withPointer
-returns-3 c = rw (c .before .before .enum-told .given .1) (record { answers = c .done2 .ensures .0; does = c .done2 .ensures .1 ∙ rw (c .before .reach-in2 .ensures) })
+returns-3 c = rw (c .before .before .enum-told .given .1) (record { answers = c .done2 .ensures .0; does = c .done2 .ensures .1 ∙ c .before .store .ensures })
 
 returns-4 : tie.Need-returns-4
 unfolding answerAt writeAt refused codeOf reachIn crtcLocked pixelWrite entryNumber inBank seen register withRegisters withToggle withPointer
@@ -176,7 +176,7 @@ write-at-spec =
     reach-in-requires
     done-requires
     enum-told
-    reach-in-requires-2
+    store-requires
     done-requires-2
     enum-told-2
     low-requires

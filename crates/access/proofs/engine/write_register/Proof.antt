@@ -17,15 +17,15 @@ returns : tie.Need-returns
 unfolding answerAt writeAt refused codeOf
 returns c = rw (sym (c .before .before .is-locked-out .ensures) ∙ c .before .if1 .taken) (record { answers = c .only .ensures .0; does = c .only .ensures .1 })
 
-reach-in-requires : tie.Need-reach-in-requires
-reach-in-requires c κs = search needs
+store-requires : tie.Need-store-requires
+store-requires c κs = search needs
 
 done-requires : tie.Need-done-requires
 done-requires c κs = search needs
 
 returns-2 : tie.Need-returns-2
 unfolding answerAt writeAt refused codeOf
-returns-2 c = rw (sym (c .before .before .before .is-locked-out .ensures) ∙ c .before .before .if1 .left) (record { answers = c .done .ensures .0; does = c .done .ensures .1 ∙ rw (c .before .reach-in .ensures) })
+returns-2 c = rw (sym (c .before .before .before .is-locked-out .ensures) ∙ c .before .before .if1 .left) (record { answers = c .done .ensures .0; does = c .done .ensures .1 ∙ c .before .store .ensures })
 
 pub write-register-spec : {M : Type 1} → statement M
 write-register-spec =
@@ -34,6 +34,6 @@ write-register-spec =
     is-locked-out-requires
     only-requires
     returns
-    reach-in-requires
+    store-requires
     done-requires
     returns-2)
