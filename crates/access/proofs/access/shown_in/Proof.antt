@@ -7,6 +7,7 @@ use Rattle.file.specs.Palette.{component}
 use Rattle.file.proofs.Typed.{address-byte, palette-count, bank-count}
 use Rattle.access.specs.Access.{inBank}
 use Rattle.access.specs.Cells.{seen}
+use Rattle.access.specs.Looked.{shownIn}
 use Rattle.access.proofs.Shown.{entry-in-bank, entry-in-palette}
 use borrow.Author.Needs.{needs}
 use Rattle.access.proofs.access.shown_in.Statement.{statement}
@@ -37,14 +38,14 @@ component-requires-2 : tie.Need-component-requires-2
 component-requires-2 c κs = search needs
 
 returns : tie.Need-returns
-unfolding inBank seen register withRegisters withToggle
+unfolding shownIn inBank seen register withRegisters withToggle
 returns c = c .component .ensures
     ∙ ap (λ (k : Colour). component k (c .before .before .before .before .before .before .before .before .args .t1 .pointer .next))
     (entry-in-bank (c .before .before .before .before .before .before .before .before .args .t1) (c .before .before .before .entry-number .result) _ (sym (c .before .before .before .before .is-in-bank .ensures) ∙ c .before .before .if1 .taken) (rw (c .before .before .if1 .taken) at (c .before .before .before .entry-number .ensures))
     (omega (arith, rw (c .before .before .if1 .taken) at (c .before .before .before .entry-number .ensures), bank-count (c .before .before .before .before .before .before .before .before .args .t1) _ (c .before .before .before .before .before .before .before .before .good .0))))
 
 returns-2 : tie.Need-returns-2
-unfolding inBank seen register withRegisters withToggle
+unfolding shownIn inBank seen register withRegisters withToggle
 returns-2 c = c .component2 .ensures
     ∙ ap (λ (k : Colour). component k (c .before .before .before .before .before .before .before .before .args .t1 .pointer .next))
     (entry-in-palette (c .before .before .before .before .before .before .before .before .args .t1) (c .before .before .before .entry-number .result) _ (sym (c .before .before .before .before .is-in-bank .ensures) ∙ c .before .before .if1 .left) (rw (c .before .before .if1 .left) at (c .before .before .before .entry-number .ensures))

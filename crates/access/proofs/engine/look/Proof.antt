@@ -25,7 +25,7 @@ returns-2 c = rw (sym (c .before .before .before .is-malformed .ensures) ∙ c .
 
 cell-at-requires : tie.Need-cell-at-requires
 unfolding malformed
-cell-at-requires c κs = kind-below powerOn (c .before .before .before .before .args .asked) (sym (c .before .before .before .is-malformed .ensures) ∙ c .before .before .if1 .left)
+cell-at-requires c κs = (c .before .before .before .before .pre, kind-below powerOn (c .before .before .before .before .args .asked) (sym (c .before .before .before .is-malformed .ensures) ∙ c .before .before .if1 .left))
 
 returns-3 : tie.Need-returns-3
 unfolding lookedAt malformed

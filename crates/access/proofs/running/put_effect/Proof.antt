@@ -29,12 +29,6 @@ enum-known-effect-4 c = search needs
 enum-known-effect-5 : tie.Need-enum-known-effect-5
 enum-known-effect-5 c = search needs
 
-pick-requires : tie.Need-pick-requires
-pick-requires c κs = search needs
-
-pick-requires-2 : tie.Need-pick-requires-2
-pick-requires-2 c κs = search needs
-
 returns : tie.Need-returns
 returns c = (
   (refl, refl),
@@ -68,7 +62,7 @@ returns-5 c = (
 returns-6 : tie.Need-returns-6
 returns-6 c = (
   (refl, refl),
-  λ f p l. by-told f _ (c .before .before .before .before .before .args .before) p _ _ _ (c .before .before .before .effect5 .given .1) (paint-put f _ (c .before .before .before .before .before .args .before) p _ _ _ _ _ _ (c .pick2 .ensures) (c .before .pick .ensures)) l,
+  λ f p l. by-told f _ (c .before .before .before .args .before) p _ _ _ (c .before .effect5 .given .1) (paint-put f _ (c .before .before .before .args .before) p _ _ _ _) l,
 )
 
 pub put-effect-spec : {M : Type 1} → statement M
@@ -83,8 +77,6 @@ put-effect-spec =
     enum-known-effect-3
     enum-known-effect-4
     enum-known-effect-5
-    pick-requires
-    pick-requires-2
     returns
     returns-2
     returns-3
