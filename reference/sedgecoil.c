@@ -682,7 +682,11 @@ uint8_t sc_window2_read(const struct sc_file *f, struct sc_window2 *w)
     return SC_DONE;
 }
 
-/* ---- Plan ---- */
+/*
+ * ---- Plan ----
+ * Written with the proved plan in sight: it is no measure of a plan's bytes, but what the wrong
+ * plans of tests/mistakes.py are copies of, and what bench/ counts beside the proved one.
+ */
 
 /* One record at the end of a plan; the plan's new end. */
 static uint8_t *put(uint8_t *end, uint8_t kind, uint8_t width, uint16_t address, uint16_t value)
