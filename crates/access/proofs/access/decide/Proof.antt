@@ -5,15 +5,6 @@ use borrow.Author.Needs.{needs}
 use Rattle.access.proofs.access.decide.Statement.{statement}
 use Rattle.access.proofs.access.decide.Tie as tie
 
-shown-in-requires : tie.Need-shown-in-requires
-shown-in-requires c κs = search needs
-
-cells-requires : tie.Need-cells-requires
-cells-requires c κs = search needs
-
-stored-requires : tie.Need-stored-requires
-stored-requires c κs = search needs
-
 decide-requires : tie.Need-decide-requires
 decide-requires c κs =
     let whole = c .before .before .before .before .before .before .before .args .whole in
@@ -26,4 +17,6 @@ returns c =
     (record { same-registers = refl; same-toggle = refl; same-pointer = refl }) (λ h. c .before .shown-in .ensures)
 
 pub decide-spec : {M : Type 1} → statement M
-decide-spec = tie.close (tie.spec cells-requires stored-requires shown-in-requires decide-requires returns)
+decide-spec =
+    tie.close
+    (tie.spec (λ c κs. search needs) (λ c κs. search needs) (λ c κs. search needs) decide-requires returns)

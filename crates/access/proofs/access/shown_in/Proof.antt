@@ -13,29 +13,17 @@ use borrow.Author.Needs.{needs}
 use Rattle.access.proofs.access.shown_in.Statement.{statement}
 use Rattle.access.proofs.access.shown_in.Tie as tie
 
-is-in-bank-requires : tie.Need-is-in-bank-requires
-is-in-bank-requires c κs = search needs
-
-entry-number-requires : tie.Need-entry-number-requires
-entry-number-requires c κs = search needs
-
 mul-colour : tie.Need-mul-colour
 mul-colour c = record { fits = omega (arith, rw (c .if1 .taken) at (c .before .entry-number .ensures)) }
 
 element-copy-out-colour : tie.Need-element-copy-out-colour
 element-copy-out-colour c = omega (arith, rw (c .if1 .taken) at (c .before .entry-number .ensures))
 
-component-requires : tie.Need-component-requires
-component-requires c κs = search needs
-
 mul-colour-2 : tie.Need-mul-colour-2
 mul-colour-2 c = record { fits = omega (arith, rw (c .if1 .left) at (c .before .entry-number .ensures), address-byte (c .before .before .before .before .before .before .args .t1) _ (c .before .before .before .before .before .before .good .0)) }
 
 element-copy-out-colour-2 : tie.Need-element-copy-out-colour-2
 element-copy-out-colour-2 c = omega (arith, rw (c .if1 .left) at (c .before .entry-number .ensures), address-byte (c .before .before .before .before .before .before .args .t1) _ (c .before .before .before .before .before .before .good .0))
-
-component-requires-2 : tie.Need-component-requires-2
-component-requires-2 c κs = search needs
 
 returns : tie.Need-returns
 unfolding shownIn inBank seen register withRegisters withToggle
@@ -54,14 +42,5 @@ returns-2 c = c .component2 .ensures
 pub shown-in-spec : {M : Type 1} → statement M
 shown-in-spec =
     tie.close
-    (tie.spec
-    is-in-bank-requires
-    entry-number-requires
-    mul-colour
-    element-copy-out-colour
-    component-requires
-    mul-colour-2
-    element-copy-out-colour-2
-    component-requires-2
-    returns
-    returns-2)
+    (tie.spec (λ c κs. search needs) (λ c κs. search needs) mul-colour element-copy-out-colour (λ c κs. search needs) mul-colour-2
+    element-copy-out-colour-2 (λ c κs. search needs) returns returns-2)

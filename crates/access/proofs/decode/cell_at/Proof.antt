@@ -9,25 +9,13 @@ use borrow.Author.Needs.{needs}
 use Rattle.access.proofs.decode.cell_at.Statement.{statement}
 use Rattle.access.proofs.decode.cell_at.Tie as tie
 
-wide-requires : tie.Need-wide-requires
-wide-requires c κs = search needs
-
-port-cell-requires : tie.Need-port-cell-requires
-port-cell-requires c κs = search needs
-
 returns : tie.Need-returns
 returns c = c .port-cell .ensures ∙ ap₂ cellAt (port-kind (c .before .before .before .args .kind) (c .before .if1 .taken)) (c .before .before .wide .ensures)
-
-mmio-cell-requires : tie.Need-mmio-cell-requires
-mmio-cell-requires c κs = search needs
 
 returns-2 : tie.Need-returns-2
 returns-2 c =
     let kind = c .before .before .before .before .args .kind in
     of-space kind 2 _ _ (c .before .if2 .taken) (c .mmio-cell .ensures .0 ∙ ap (cellAt 4) (c .before .before .before .wide .ensures)) (c .mmio-cell .ensures .1 ∙ ap (cellAt 5) (c .before .before .before .wide .ensures))
-
-config-cell-requires : tie.Need-config-cell-requires
-config-cell-requires c κs = search needs
 
 returns-3 : tie.Need-returns-3
 returns-3 c =
@@ -38,11 +26,4 @@ returns-3 c =
 pub cell-at-spec : {M : Type 1} → statement M
 cell-at-spec =
     tie.close
-    (tie.spec
-    wide-requires
-    port-cell-requires
-    returns
-    mmio-cell-requires
-    returns-2
-    config-cell-requires
-    returns-3)
+    (tie.spec (λ c κs. search needs) (λ c κs. search needs) returns (λ c κs. search needs) returns-2 (λ c κs. search needs) returns-3)

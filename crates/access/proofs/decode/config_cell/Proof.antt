@@ -9,12 +9,6 @@ use borrow.Author.Needs.{needs}
 use Rattle.access.proofs.decode.config_cell.Statement.{statement}
 use Rattle.access.proofs.decode.config_cell.Tie as tie
 
-add-result : tie.Need-add-result
-add-result c = search needs
-
-element-copy-out-result : tie.Need-element-copy-out-result
-element-copy-out-result c = search needs
-
 returns : tie.Need-returns
 returns c =
     let at = c .before .before .args .at in
@@ -26,4 +20,4 @@ unfolding range configRange
 returns-2 c = (uncovered 0 (lit< tt) (c .before .args .at) (simp (le-ltb _ _ (c .if1 .left))), uncovered 1 (lit< tt) (c .before .args .at) (simp (le-ltb _ _ (c .if1 .left))))
 
 pub config-cell-spec : {M : Type 1} → statement M
-config-cell-spec = tie.close (tie.spec add-result element-copy-out-result returns returns-2)
+config-cell-spec = tie.close (tie.spec (λ c. search needs) (λ c. search needs) returns returns-2)

@@ -10,12 +10,6 @@ use borrow.Author.Needs.{needs}
 use Rattle.access.proofs.decode.mmio_cell.Statement.{statement}
 use Rattle.access.proofs.decode.mmio_cell.Tie as tie
 
-add-result : tie.Need-add-result
-add-result c = search needs
-
-element-copy-out-result : tie.Need-element-copy-out-result
-element-copy-out-result c = search needs
-
 returns : tie.Need-returns
 returns c =
     let at = c .before .before .args .at in
@@ -28,12 +22,6 @@ returns-2 c = (
   uncovered 4 (lit< tt) (c .before .before .args .at) (simp (le-ltb _ _ (c .before .if1 .left), lt-leb _ _ (c .if2 .taken))),
   uncovered 5 (lit< tt) (c .before .before .args .at) (simp (le-ltb _ _ (c .before .if1 .left), lt-leb _ _ (c .if2 .taken))),
 )
-
-sub-result : tie.Need-sub-result
-sub-result c = search needs
-
-element-copy-out-result-2 : tie.Need-element-copy-out-result-2
-element-copy-out-result-2 c = search needs
 
 returns-3 : tie.Need-returns-3
 returns-3 c =
@@ -54,12 +42,4 @@ returns-4 c = (
 pub mmio-cell-spec : {M : Type 1} → statement M
 mmio-cell-spec =
     tie.close
-    (tie.spec
-    add-result
-    element-copy-out-result
-    returns
-    returns-2
-    sub-result
-    element-copy-out-result-2
-    returns-3
-    returns-4)
+    (tie.spec (λ c. search needs) (λ c. search needs) returns returns-2 (λ c. search needs) (λ c. search needs) returns-3 returns-4)

@@ -30,18 +30,9 @@ at-index : (cells : List ℕ) → cells ≡ cellTable → (base w n : ℕ) (sect
     → getD cells (base + w) 0 ≡ getD section n 0
 at-index cells e base w n section h there same = at-cell cells e (base + w) h ∙ there ∙ ap (λ (m : ℕ). getD section m 0) same
 
-plain-requires : tie.Need-plain-requires
-plain-requires c κs = search needs
-
 returns : tie.Need-returns
 unfolding indexedPlaces cellPlace
 returns c = rw (lt-ltb _ _ (c .before .if1 .taken)) (c .plain .ensures)
-
-element-copy-out-wide : tie.Need-element-copy-out-wide
-element-copy-out-wide c = search needs
-
-wide-requires : tie.Need-wide-requires
-wide-requires c κs = search needs
 
 add-plain : tie.Need-add-plain
 add-plain c = record { fits = omega (arith, c .wide .ensures, indices-low (c .before .before .before .before .args .registers .now) (c .before .before .before .before .pre .1) .0) }
@@ -49,29 +40,11 @@ add-plain c = record { fits = omega (arith, c .wide .ensures, indices-low (c .be
 element-copy-out-plain : tie.Need-element-copy-out-plain
 element-copy-out-plain c = omega (arith, c .wide .ensures, indices-low (c .before .before .before .before .args .registers .now) (c .before .before .before .before .pre .1) .0)
 
-plain-requires-2 : tie.Need-plain-requires-2
-plain-requires-2 c κs = search needs
-
-element-copy-out-wide-2 : tie.Need-element-copy-out-wide-2
-element-copy-out-wide-2 c = search needs
-
-wide-requires-2 : tie.Need-wide-requires-2
-wide-requires-2 c κs = search needs
-
 add-plain-2 : tie.Need-add-plain-2
 add-plain-2 c = record { fits = omega (arith, c .wide2 .ensures, indices-low (c .before .before .before .before .args .registers .now) (c .before .before .before .before .pre .1) .1) }
 
 element-copy-out-plain-2 : tie.Need-element-copy-out-plain-2
 element-copy-out-plain-2 c = omega (arith, c .wide2 .ensures, indices-low (c .before .before .before .before .args .registers .now) (c .before .before .before .before .pre .1) .1)
-
-plain-requires-3 : tie.Need-plain-requires-3
-plain-requires-3 c κs = search needs
-
-element-copy-out-wide-3 : tie.Need-element-copy-out-wide-3
-element-copy-out-wide-3 c = search needs
-
-wide-requires-3 : tie.Need-wide-requires-3
-wide-requires-3 c κs = search needs
 
 add-plain-3 : tie.Need-add-plain-3
 add-plain-3 c = record { fits = omega (arith, c .wide3 .ensures, indices-low (c .before .before .before .before .args .registers .now) (c .before .before .before .before .pre .1) .2) }
@@ -79,38 +52,17 @@ add-plain-3 c = record { fits = omega (arith, c .wide3 .ensures, indices-low (c 
 element-copy-out-plain-3 : tie.Need-element-copy-out-plain-3
 element-copy-out-plain-3 c = omega (arith, c .wide3 .ensures, indices-low (c .before .before .before .before .args .registers .now) (c .before .before .before .before .pre .1) .2)
 
-plain-requires-4 : tie.Need-plain-requires-4
-plain-requires-4 c κs = search needs
-
-element-copy-out-wide-4 : tie.Need-element-copy-out-wide-4
-element-copy-out-wide-4 c = search needs
-
-wide-requires-4 : tie.Need-wide-requires-4
-wide-requires-4 c κs = search needs
-
 add-plain-4 : tie.Need-add-plain-4
 add-plain-4 c = record { fits = omega (arith, c .wide4 .ensures) }
 
 element-copy-out-plain-4 : tie.Need-element-copy-out-plain-4
 element-copy-out-plain-4 c = omega (arith, c .wide4 .ensures)
 
-plain-requires-5 : tie.Need-plain-requires-5
-plain-requires-5 c κs = search needs
-
-element-copy-out-wide-5 : tie.Need-element-copy-out-wide-5
-element-copy-out-wide-5 c = search needs
-
-wide-requires-5 : tie.Need-wide-requires-5
-wide-requires-5 c κs = search needs
-
 add-attribute : tie.Need-add-attribute
 add-attribute c = record { fits = omega (arith, c .wide5 .ensures) }
 
 element-copy-out-attribute : tie.Need-element-copy-out-attribute
 element-copy-out-attribute c = omega (arith, c .wide5 .ensures)
-
-attribute-requires : tie.Need-attribute-requires
-attribute-requires c κs = search needs
 
 returns-2 : tie.Need-returns-2
 unfolding indexedPlaces cellPlace seen register withRegisters withToggle bits attributeIndex
@@ -159,37 +111,8 @@ returns-7 c = rw (le-ltb _ _ (c .before .if1 .left)) (sym (List·getD-eq-default
 pub place-in-spec : {M : Type 1} → statement M
 place-in-spec =
     tie.close
-    (tie.spec
-    plain-requires
-    returns
-    element-copy-out-wide
-    wide-requires
-    add-plain
-    element-copy-out-plain
-    plain-requires-2
-    element-copy-out-wide-2
-    wide-requires-2
-    add-plain-2
-    element-copy-out-plain-2
-    plain-requires-3
-    element-copy-out-wide-3
-    wide-requires-3
-    add-plain-3
-    element-copy-out-plain-3
-    plain-requires-4
-    element-copy-out-wide-4
-    wide-requires-4
-    add-plain-4
-    element-copy-out-plain-4
-    plain-requires-5
-    element-copy-out-wide-5
-    wide-requires-5
-    add-attribute
-    element-copy-out-attribute
-    attribute-requires
-    returns-2
-    returns-3
-    returns-4
-    returns-5
-    returns-6
-    returns-7)
+    (tie.spec (λ c κs. search needs) returns (λ c. search needs) (λ c κs. search needs) add-plain element-copy-out-plain
+    (λ c κs. search needs) (λ c. search needs) (λ c κs. search needs) add-plain-2 element-copy-out-plain-2 (λ c κs. search needs)
+    (λ c. search needs) (λ c κs. search needs) add-plain-3 element-copy-out-plain-3 (λ c κs. search needs) (λ c. search needs)
+    (λ c κs. search needs) add-plain-4 element-copy-out-plain-4 (λ c κs. search needs) (λ c. search needs) (λ c κs. search needs)
+    add-attribute element-copy-out-attribute (λ c κs. search needs) returns-2 returns-3 returns-4 returns-5 returns-6 returns-7)

@@ -20,15 +20,6 @@ returns-2 : tie.Need-returns-2
 unfolding range portRange
 returns-2 c = by-test (c .before .before .args .write) (λ e. rw e (uncovered 3 (lit< tt) (c .before .before .args .at) (simp (le-leb _ _ (c .before .if1 .left), le-ltb _ _ (c .if2 .taken))))) (λ e. rw e (uncovered 2 (lit< tt) (c .before .before .args .at) (simp (le-leb _ _ (c .before .if1 .left), le-ltb _ _ (c .if2 .taken)))))
 
-sub-result : tie.Need-sub-result
-sub-result c = search needs
-
-element-copy-out-result : tie.Need-element-copy-out-result
-element-copy-out-result c = search needs
-
-element-copy-out-result-2 : tie.Need-element-copy-out-result-2
-element-copy-out-result-2 c = search needs
-
 returns-3 : tie.Need-returns-3
 returns-3 c =
     let at = c .before .before .before .before .args .at in
@@ -47,11 +38,4 @@ returns-4 c =
 pub port-cell-spec : {M : Type 1} → statement M
 port-cell-spec =
     tie.close
-    (tie.spec
-    returns
-    returns-2
-    sub-result
-    element-copy-out-result
-    element-copy-out-result-2
-    returns-3
-    returns-4)
+    (tie.spec returns returns-2 (λ c. search needs) (λ c. search needs) (λ c. search needs) returns-3 returns-4)

@@ -14,18 +14,6 @@ use borrow.Author.Needs.{needs}
 use Rattle.access.proofs.engine.decide.Statement.{statement}
 use Rattle.access.proofs.engine.decide.Tie as tie
 
-look-requires : tie.Need-look-requires
-look-requires c κs = search needs
-
-enum-known-answer : tie.Need-enum-known-answer
-enum-known-answer c = search needs
-
-enum-known-cell : tie.Need-enum-known-cell
-enum-known-cell c = search needs
-
-place-in-requires : tie.Need-place-in-requires
-place-in-requires c κs = search needs
-
 word-requires : tie.Need-word-requires
 unfolding isWrite
 word-requires c κs = seen-word (c .before .before .before .before .before .before .before .args .registers .now) (c .before .before .before .before .before .before .before .pre .1 .1 .0) (c .before .before .before .before .before .before .before .args .toggle) (c .before .before .before .before .before .before .before .args .asked) (c .before .before .before .before .cell .given .0 .0) (sym (c .before .before .before .before .before .before .look .ensures) ∙ c .before .before .before .before .cell .given .1) (eq-eqb _ _ (c .if1 .taken))
@@ -63,14 +51,5 @@ returns-3 c = λ f s parts shows.
 pub decide-spec : {M : Type 1} → statement M
 decide-spec =
     tie.close
-    (tie.spec
-    look-requires
-    enum-known-answer
-    enum-known-cell
-    place-in-requires
-    word-requires
-    write-at-requires
-    read-at-requires
-    returns
-    returns-2
-    returns-3)
+    (tie.spec (λ c κs. search needs) (λ c. search needs) (λ c. search needs) (λ c κs. search needs) word-requires write-at-requires
+    read-at-requires returns returns-2 returns-3)

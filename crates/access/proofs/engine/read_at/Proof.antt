@@ -23,9 +23,6 @@ use borrow.Author.Needs.{needs}
 use Rattle.access.proofs.engine.read_at.Statement.{statement}
 use Rattle.access.proofs.engine.read_at.Tie as tie
 
-enum-known-place : tie.Need-enum-known-place
-enum-known-place c = search needs
-
 mul-t10 : tie.Need-mul-t10
 unfolding inFile
 mul-t10 c = record { fits = omega (arith, ltb→lt (c .before .place .given .0 .0) 100 (subst (λ (p : Place). T (inFile p)) (c .before .place .given .1) (c .before .before .before .pre .0))) }
@@ -34,93 +31,9 @@ element-copy-out-t13 : tie.Need-element-copy-out-t13
 unfolding inFile
 element-copy-out-t13 c = ltb→lt (c .before .place .given .0 .0) 100 (subst (λ (p : Place). T (inFile p)) (c .before .place .given .1) (c .before .before .before .pre .0))
 
-only-requires : tie.Need-only-requires
-only-requires c κs = search needs
-
-enum-told : tie.Need-enum-told
-enum-told c = search needs
-
-only-requires-2 : tie.Need-only-requires-2
-only-requires-2 c κs = search needs
-
-enum-known-place-2 : tie.Need-enum-known-place-2
-enum-known-place-2 c = search needs
-
-only-requires-3 : tie.Need-only-requires-3
-only-requires-3 c κs = search needs
-
-enum-told-2 : tie.Need-enum-told-2
-enum-told-2 c = search needs
-
-only-requires-4 : tie.Need-only-requires-4
-only-requires-4 c κs = search needs
-
-enum-told-3 : tie.Need-enum-told-3
-enum-told-3 c = search needs
-
-element-copy-out-t24 : tie.Need-element-copy-out-t24
-element-copy-out-t24 c = search needs
-
-only-requires-5 : tie.Need-only-requires-5
-only-requires-5 c κs = search needs
-
-enum-told-4 : tie.Need-enum-told-4
-enum-told-4 c = search needs
-
-element-copy-out-t28 : tie.Need-element-copy-out-t28
-element-copy-out-t28 c = search needs
-
-palette-state-requires : tie.Need-palette-state-requires
-palette-state-requires c κs = search needs
-
 add-t31 : tie.Need-add-t31
 unfolding storedBits storedTable registers singles sequencer crtc graphics attribute pipeline
 add-t31 c = record { fits = omega (arith, at-most (c .before .before .before .before .args .registers .now) 85 (c .before .before .before .before .pre .1), c .palette-state .ensures, state-small (c .before .before .before .before .args .pointer)) }
-
-only-requires-6 : tie.Need-only-requires-6
-only-requires-6 c κs = search needs
-
-enum-told-5 : tie.Need-enum-told-5
-enum-told-5 c = search needs
-
-dac-state-requires : tie.Need-dac-state-requires
-dac-state-requires c κs = search needs
-
-only-requires-7 : tie.Need-only-requires-7
-only-requires-7 c κs = search needs
-
-enum-told-6 : tie.Need-enum-told-6
-enum-told-6 c = search needs
-
-cast-t37 : tie.Need-cast-t37
-cast-t37 c = search needs
-
-only-requires-8 : tie.Need-only-requires-8
-only-requires-8 c κs = search needs
-
-enum-told-7 : tie.Need-enum-told-7
-enum-told-7 c = search needs
-
-read-pixel-requires : tie.Need-read-pixel-requires
-read-pixel-requires c κs = search needs
-
-enum-told-8 : tie.Need-enum-told-8
-enum-told-8 c = search needs
-
-done-requires : tie.Need-done-requires
-done-requires c κs = search needs
-
-enum-told-9 : tie.Need-enum-told-9
-enum-told-9 c = search needs
-
-only-requires-9 : tie.Need-only-requires-9
-only-requires-9 c κs = search needs
-
-enum-told-10 : tie.Need-enum-told-10
-enum-told-10 c = search needs
-
-only-requires-10 : tie.Need-only-requires-10
-only-requires-10 c κs = search needs
 
 returns : tie.Need-returns
 unfolding answerAt readAt refused codeOf register withPointer
@@ -173,48 +86,10 @@ returns-12 c = λ f s h. rw (c .before .enum-told10 .given .1) (record { answers
 pub read-at-spec : {M : Type 1} → statement M
 read-at-spec =
     tie.close
-    (tie.spec
-    enum-known-place
-    mul-t10
-    element-copy-out-t13
-    only-requires
-    enum-told
-    only-requires-2
-    enum-known-place-2
-    only-requires-3
-    enum-told-2
-    only-requires-4
-    enum-told-3
-    element-copy-out-t24
-    only-requires-5
-    enum-told-4
-    element-copy-out-t28
-    palette-state-requires
-    add-t31
-    only-requires-6
-    enum-told-5
-    dac-state-requires
-    only-requires-7
-    enum-told-6
-    cast-t37
-    only-requires-8
-    enum-told-7
-    read-pixel-requires
-    enum-told-8
-    done-requires
-    enum-told-9
-    only-requires-9
-    enum-told-10
-    only-requires-10
-    returns
-    returns-2
-    returns-3
-    returns-4
-    returns-5
-    returns-6
-    returns-7
-    returns-8
-    returns-9
-    returns-10
-    returns-11
+    (tie.spec (λ c. search needs) mul-t10 element-copy-out-t13 (λ c κs. search needs) (λ c. search needs) (λ c κs. search needs)
+    (λ c. search needs) (λ c κs. search needs) (λ c. search needs) (λ c κs. search needs) (λ c. search needs) (λ c. search needs)
+    (λ c κs. search needs) (λ c. search needs) (λ c. search needs) (λ c κs. search needs) add-t31 (λ c κs. search needs) (λ c. search needs)
+    (λ c κs. search needs) (λ c κs. search needs) (λ c. search needs) (λ c. search needs) (λ c κs. search needs) (λ c. search needs)
+    (λ c κs. search needs) (λ c. search needs) (λ c κs. search needs) (λ c. search needs) (λ c κs. search needs) (λ c. search needs)
+    (λ c κs. search needs) returns returns-2 returns-3 returns-4 returns-5 returns-6 returns-7 returns-8 returns-9 returns-10 returns-11
     returns-12)

@@ -6,18 +6,9 @@ use borrow.Author.Needs.{needs}
 use Rattle.access.proofs.engine.read_pixel.Statement.{statement}
 use Rattle.access.proofs.engine.read_pixel.Tie as tie
 
-is-palette-up-requires : tie.Need-is-palette-up-requires
-is-palette-up-requires c κs = search needs
-
-after-read-requires : tie.Need-after-read-requires
-after-read-requires c κs = search needs
-
 returns : tie.Need-returns
 unfolding refused codeOf
 returns c = rw (sym (c .before .before .is-palette-up .ensures) ∙ c .before .if1 .taken) (record { answers = refl; does = rw (c .after-read .ensures) })
-
-only-requires : tie.Need-only-requires
-only-requires c κs = search needs
 
 returns-2 : tie.Need-returns-2
 unfolding refused codeOf
@@ -25,4 +16,5 @@ returns-2 c = rw (sym (c .before .before .is-palette-up .ensures) ∙ c .before 
 
 pub read-pixel-spec : {M : Type 1} → statement M
 read-pixel-spec =
-    tie.close (tie.spec is-palette-up-requires after-read-requires returns only-requires returns-2)
+    tie.close
+    (tie.spec (λ c κs. search needs) (λ c κs. search needs) returns (λ c κs. search needs) returns-2)

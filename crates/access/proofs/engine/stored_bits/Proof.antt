@@ -8,12 +8,6 @@ use borrow.Author.Needs.{needs}
 use Rattle.access.proofs.engine.stored_bits.Statement.{statement}
 use Rattle.access.proofs.engine.stored_bits.Tie as tie
 
-mul-result : tie.Need-mul-result
-mul-result c = search needs
-
-element-copy-out-result : tie.Need-element-copy-out-result
-element-copy-out-result c = search needs
-
 returns : tie.Need-returns
 unfolding storedBits
 returns c = ap (λ (l : List ℕ). getD l (c .before .before .args .number) 0) (c .before .before .pre)
@@ -23,4 +17,4 @@ unfolding storedBits storedTable
 returns-2 c = sym (List·getD-eq-default storedTable 0 (c .if1 .left))
 
 pub stored-bits-spec : {M : Type 1} → statement M
-stored-bits-spec = tie.close (tie.spec mul-result element-copy-out-result returns returns-2)
+stored-bits-spec = tie.close (tie.spec (λ c. search needs) (λ c. search needs) returns returns-2)

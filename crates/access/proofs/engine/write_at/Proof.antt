@@ -12,107 +12,17 @@ use borrow.Author.Needs.{needs}
 use Rattle.access.proofs.engine.write_at.Statement.{statement}
 use Rattle.access.proofs.engine.write_at.Tie as tie
 
-enum-known-place : tie.Need-enum-known-place
-enum-known-place c = search needs
-
-write-register-requires : tie.Need-write-register-requires
-write-register-requires c κs = search needs
-
-enum-known-place-2 : tie.Need-enum-known-place-2
-enum-known-place-2 c = search needs
-
-reach-in-requires : tie.Need-reach-in-requires
-reach-in-requires c κs = search needs
-
-done-requires : tie.Need-done-requires
-done-requires c κs = search needs
-
-enum-told : tie.Need-enum-told
-enum-told c = search needs
-
-store-requires : tie.Need-store-requires
-store-requires c κs = search needs
-
-done-requires-2 : tie.Need-done-requires-2
-done-requires-2 c κs = search needs
-
-enum-told-2 : tie.Need-enum-told-2
-enum-told-2 c = search needs
-
 low-requires : tie.Need-low-requires
 unfolding holds
 low-requires c κs = ltb→lt (c .before .before .args .value) 256 (subst (λ (p : Place). T (holds p (c .before .before .args .value))) (c .enum-told2 .given .1) (c .before .before .pre .1))
-
-addressed-requires : tie.Need-addressed-requires
-addressed-requires c κs = search needs
-
-done-requires-3 : tie.Need-done-requires-3
-done-requires-3 c κs = search needs
-
-enum-told-3 : tie.Need-enum-told-3
-enum-told-3 c = search needs
 
 low-requires-2 : tie.Need-low-requires-2
 unfolding holds
 low-requires-2 c κs = ltb→lt (c .before .before .args .value) 256 (subst (λ (p : Place). T (holds p (c .before .before .args .value))) (c .enum-told3 .given .1) (c .before .before .pre .1))
 
-addressed-requires-2 : tie.Need-addressed-requires-2
-addressed-requires-2 c κs = search needs
-
-done-requires-4 : tie.Need-done-requires-4
-done-requires-4 c κs = search needs
-
-enum-told-4 : tie.Need-enum-told-4
-enum-told-4 c = search needs
-
-is-palette-up-requires : tie.Need-is-palette-up-requires
-is-palette-up-requires c κs = search needs
-
 low-requires-3 : tie.Need-low-requires-3
 unfolding holds
 low-requires-3 c κs = ltb→lt (c .before .before .before .before .args .value) 256 (subst (λ (p : Place). T (holds p (c .before .before .before .before .args .value))) (c .before .before .enum-told4 .given .1) (c .before .before .before .before .pre .1))
-
-pixel-write-requires : tie.Need-pixel-write-requires
-pixel-write-requires c κs = search needs
-
-done-requires-5 : tie.Need-done-requires-5
-done-requires-5 c κs = search needs
-
-only-requires : tie.Need-only-requires
-only-requires c κs = search needs
-
-enum-told-5 : tie.Need-enum-told-5
-enum-told-5 c = search needs
-
-enum-told-6 : tie.Need-enum-told-6
-enum-told-6 c = search needs
-
-only-requires-2 : tie.Need-only-requires-2
-only-requires-2 c κs = search needs
-
-enum-told-7 : tie.Need-enum-told-7
-enum-told-7 c = search needs
-
-only-requires-3 : tie.Need-only-requires-3
-only-requires-3 c κs = search needs
-
-enum-told-8 : tie.Need-enum-told-8
-enum-told-8 c = search needs
-
-only-requires-4 : tie.Need-only-requires-4
-only-requires-4 c κs = search needs
-
-enum-told-9 : tie.Need-enum-told-9
-enum-told-9 c = search needs
-
-done-requires-6 : tie.Need-done-requires-6
-done-requires-6 c κs = search needs
-
-enum-told-10 : tie.Need-enum-told-10
-enum-told-10 c = search needs
-
-only-requires-5 : tie.Need-only-requires-5
-only-requires-5 c κs = search needs
 
 returns : tie.Need-returns
 unfolding answerAt writeAt refused codeOf reachIn crtcLocked pixelWrite entryNumber inBank seen register withRegisters withToggle withPointer
@@ -169,50 +79,10 @@ returns-13 c = rw (c .before .enum-told10 .given .1) (record { answers = c .only
 pub write-at-spec : {M : Type 1} → statement M
 write-at-spec =
     tie.close
-    (tie.spec
-    enum-known-place
-    write-register-requires
-    enum-known-place-2
-    reach-in-requires
-    done-requires
-    enum-told
-    store-requires
-    done-requires-2
-    enum-told-2
-    low-requires
-    addressed-requires
-    done-requires-3
-    enum-told-3
-    low-requires-2
-    addressed-requires-2
-    done-requires-4
-    enum-told-4
-    is-palette-up-requires
-    low-requires-3
-    pixel-write-requires
-    done-requires-5
-    only-requires
-    enum-told-5
-    enum-told-6
-    only-requires-2
-    enum-told-7
-    only-requires-3
-    enum-told-8
-    only-requires-4
-    enum-told-9
-    done-requires-6
-    enum-told-10
-    only-requires-5
-    returns
-    returns-2
-    returns-3
-    returns-4
-    returns-5
-    returns-6
-    returns-7
-    returns-8
-    returns-9
-    returns-10
-    returns-11
-    returns-12
-    returns-13)
+    (tie.spec (λ c. search needs) (λ c κs. search needs) (λ c. search needs) (λ c κs. search needs) (λ c κs. search needs)
+    (λ c. search needs) (λ c κs. search needs) (λ c κs. search needs) (λ c. search needs) low-requires (λ c κs. search needs)
+    (λ c κs. search needs) (λ c. search needs) low-requires-2 (λ c κs. search needs) (λ c κs. search needs) (λ c. search needs)
+    (λ c κs. search needs) low-requires-3 (λ c κs. search needs) (λ c κs. search needs) (λ c κs. search needs) (λ c. search needs)
+    (λ c. search needs) (λ c κs. search needs) (λ c. search needs) (λ c κs. search needs) (λ c. search needs) (λ c κs. search needs)
+    (λ c. search needs) (λ c κs. search needs) (λ c. search needs) (λ c κs. search needs) returns returns-2 returns-3 returns-4 returns-5
+    returns-6 returns-7 returns-8 returns-9 returns-10 returns-11 returns-12 returns-13)

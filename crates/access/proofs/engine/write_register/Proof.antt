@@ -7,21 +7,9 @@ use borrow.Author.Needs.{needs}
 use Rattle.access.proofs.engine.write_register.Statement.{statement}
 use Rattle.access.proofs.engine.write_register.Tie as tie
 
-is-locked-out-requires : tie.Need-is-locked-out-requires
-is-locked-out-requires c κs = search needs
-
-only-requires : tie.Need-only-requires
-only-requires c κs = search needs
-
 returns : tie.Need-returns
 unfolding answerAt writeAt refused codeOf
 returns c = rw (sym (c .before .before .is-locked-out .ensures) ∙ c .before .if1 .taken) (record { answers = c .only .ensures .0; does = c .only .ensures .1 })
-
-store-requires : tie.Need-store-requires
-store-requires c κs = search needs
-
-done-requires : tie.Need-done-requires
-done-requires c κs = search needs
 
 returns-2 : tie.Need-returns-2
 unfolding answerAt writeAt refused codeOf
@@ -30,10 +18,4 @@ returns-2 c = rw (sym (c .before .before .before .is-locked-out .ensures) ∙ c 
 pub write-register-spec : {M : Type 1} → statement M
 write-register-spec =
     tie.close
-    (tie.spec
-    is-locked-out-requires
-    only-requires
-    returns
-    store-requires
-    done-requires
-    returns-2)
+    (tie.spec (λ c κs. search needs) (λ c κs. search needs) returns (λ c κs. search needs) (λ c κs. search needs) returns-2)

@@ -31,33 +31,12 @@ abbrev μ-loop : tie.MeasureT-loop
 μ-loop trace replies₀ count registers₀ palette₀ bank₀ pointer₀ toggle₀ cells stored n₀ replies registers palette bank pointer toggle n =
     count - n
 
-cells-requires : tie.Need-cells-requires Inv-loop μ-loop
-cells-requires c κs = search needs
-
-stored-requires : tie.Need-stored-requires Inv-loop μ-loop
-stored-requires c κs = search needs
-
 loop-holds : tie.Need-loop-holds Inv-loop μ-loop
 unfolding fileAfter items replies
 loop-holds c = record { reached = omega arith; file = refl; said = refl }
 
 mul-record-at : tie.Need-mul-record-at Inv-loop μ-loop
 mul-record-at c = search needs
-
-record-at-requires : tie.Need-record-at-requires Inv-loop μ-loop
-record-at-requires c κs = search needs
-
-palette-entry-requires : tie.Need-palette-entry-requires Inv-loop μ-loop
-palette-entry-requires c κs = search needs
-
-bank-entry-requires : tie.Need-bank-entry-requires Inv-loop μ-loop
-bank-entry-requires c κs = search needs
-
-is-at-pixels-requires : tie.Need-is-at-pixels-requires Inv-loop μ-loop
-is-at-pixels-requires c κs = search needs
-
-is-in-bank-requires : tie.Need-is-in-bank-requires Inv-loop μ-loop
-is-in-bank-requires c κs = search needs
 
 mul-pick : tie.Need-mul-pick Inv-loop μ-loop
 mul-pick c = record { fits = omega (arith, c .before .before .before .before .bank-entry .ensures .1) }
@@ -70,15 +49,6 @@ mul-pick-2 c = record { fits = omega (arith, c .before .before .before .before .
 
 array-copy-out-pick-2 : tie.Need-array-copy-out-pick-2 Inv-loop μ-loop
 array-copy-out-pick-2 c = omega (arith, c .before .before .before .before .before .before .palette-entry .ensures .1)
-
-pick-requires : tie.Need-pick-requires Inv-loop μ-loop
-pick-requires c κs = search needs
-
-component-requires : tie.Need-component-requires Inv-loop μ-loop
-component-requires c κs = search needs
-
-unpainted-requires : tie.Need-unpainted-requires Inv-loop μ-loop
-unpainted-requires c κs = search needs
 
 serve-requires : tie.Need-serve-requires Inv-loop μ-loop
 serve-requires c κs =
@@ -162,34 +132,7 @@ returns c =
 pub run-whole-spec : {M : Type 1} → statement M
 run-whole-spec =
     tie.close
-    (tie.spec
-    Inv-loop
-    μ-loop
-    cells-requires
-    stored-requires
-    loop-holds
-    mul-record-at
-    record-at-requires
-    palette-entry-requires
-    bank-entry-requires
-    is-at-pixels-requires
-    is-in-bank-requires
-    mul-pick
-    array-copy-out-pick
-    mul-pick-2
-    array-copy-out-pick-2
-    pick-requires
-    component-requires
-    unpainted-requires
-    serve-requires
-    mul-put-reply
-    put-reply-requires
-    mul-palette
-    array-set-from-palette
-    mul-bank
-    array-set-from-bank
-    add-n
-    loop-less
-    loop-again
-    same-length
-    returns)
+    (tie.spec Inv-loop μ-loop (λ c κs. search needs) (λ c κs. search needs) loop-holds mul-record-at (λ c κs. search needs)
+    (λ c κs. search needs) (λ c κs. search needs) (λ c κs. search needs) (λ c κs. search needs) mul-pick array-copy-out-pick mul-pick-2
+    array-copy-out-pick-2 (λ c κs. search needs) (λ c κs. search needs) (λ c κs. search needs) serve-requires mul-put-reply
+    put-reply-requires mul-palette array-set-from-palette mul-bank array-set-from-bank add-n loop-less loop-again same-length returns)

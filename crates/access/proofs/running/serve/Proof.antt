@@ -15,18 +15,6 @@ use borrow.Author.Needs.{needs}
 use Rattle.access.proofs.running.serve.Statement.{statement}
 use Rattle.access.proofs.running.serve.Tie as tie
 
-decide-requires : tie.Need-decide-requires
-decide-requires c κs = search needs
-
-code-requires : tie.Need-code-requires
-code-requires c κs = search needs
-
-value-requires : tie.Need-value-requires
-value-requires c κs = search needs
-
-put-effect-requires : tie.Need-put-effect-requires
-put-effect-requires c κs = search needs
-
 returns : tie.Need-returns
 unfolding decision
 returns c = λ f s p shows.
@@ -42,9 +30,4 @@ returns c = λ f s p shows.
 pub serve-spec : {M : Type 1} → statement M
 serve-spec =
     tie.close
-    (tie.spec
-    decide-requires
-    code-requires
-    value-requires
-    put-effect-requires
-    returns)
+    (tie.spec (λ c κs. search needs) (λ c κs. search needs) (λ c κs. search needs) (λ c κs. search needs) returns)
