@@ -4,3 +4,4 @@ pub mod Spelled
 pub mod Lines
 pub mod Spaced
 pub mod Replies
+pub mod Pieces

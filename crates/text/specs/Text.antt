@@ -73,7 +73,11 @@ unfoldable pub recordLines : ℕ → File → List Item → List ℕ
 recordLines number f [] = []
 recordLines number f (i ∷ is) = recordLine number (accessItem f i .answer) ++ recordLines (suc number) (accessItem f i .file) is
 
+-- what is printed of a trace that follows so many records, from the file that they left
+unfoldable pub replayedFrom : ℕ → File → List ℕ → List ℕ
+replayedFrom number f trace =
+    recordLines number f (items (itemCount trace) trace) ++ timingLine (timingIn (fileAfter f (items (itemCount trace) trace)))
+
 -- 'It reads a trace on standard input from power-on.'
 unfoldable pub replayed : List ℕ → List ℕ
-replayed trace =
-    recordLines 0 powerOn (items (itemCount trace) trace) ++ timingLine (timingIn (fileAfter powerOn (items (itemCount trace) trace)))
+replayed trace = replayedFrom 0 powerOn trace
