@@ -1,51 +1,18 @@
 -- A trace that comes in parts prints what 01 says of the whole. Assumes nothing.
-use Prim.Native.Nat.{ℕ, zero, suc, _+_, _*_, _%_, _≤_}
-use mathlib.Core.List.{List, [], _∷_, _++_, append-assoc, append-nil}
-use mathlib.Core.Path.{_≡_, refl, sym, ap, ap₂, _∙_}
-use native.Mathlib.Nat.{add-zero, suc-add, zero-add}
+use Prim.Native.Nat.{ℕ, _+_, _*_, _%_}
+use mathlib.Core.List.{List, [], _∷_, _++_, append-nil}
+use mathlib.Core.Path.{_≡_, refl, sym, ap, _∙_}
 use native.Mathlib.Omega.{arith}
 use lib.Dec.{T, eqb, eqb→eq}
-use lib.ListN.{length, take, drop, length-append, length-drop}
-use lib.Seq.{take-append-le, drop-append-le}
+use lib.ListN.{length, length-append}
 use Rattle.bits.proofs.Test.{left, right}
 use Rattle.file.specs.declared.registers.File.{File}
 use Rattle.file.specs.File.{powerOn}
-use Rattle.access.specs.declared.record.Item.{Item}
-use Rattle.access.specs.Access.{accessItem}
-use Rattle.access.specs.Records.{items, itemCount, itemOf}
+use Rattle.access.specs.Records.{items, itemCount}
 use Rattle.access.specs.Run.{fileAfter}
-use Rattle.access.proofs.Runs.{items-length}
-use Rattle.timing.specs.Timing.{timingIn}
-use Rattle.text.specs.Text.{recordLine, recordLines, replayed, timingLine}
+use Rattle.text.specs.Text.{recordLines, replayed, replayedFrom}
+use Rattle.text.proofs.Pieces.{file-in-parts, replayed-in-pieces, trace-cut}
 use Rattle.shell.specs.Parts.{afterPart, inParts, joined, partLines, wholeButLast}
-
--- the file and the lines after items one list behind the other
-file-join : (f : File) (is js : List Item) → fileAfter f (is ++ js) ≡ fileAfter (fileAfter f is) js
-unfolding fileAfter
-file-join f [] js = refl
-file-join f (i ∷ is) js = file-join (accessItem f i .file) is js
-
-lines-join : (number : ℕ) (f : File) (is js : List Item)
-    → recordLines number f (is ++ js) ≡ recordLines number f is ++ recordLines (number + length is) (fileAfter f is) js
-unfolding recordLines fileAfter
-lines-join number f [] js = rw add-zero refl
-lines-join number f (i ∷ is) js =
-    let up : suc number + length is ≡ number + suc (length is) = omega arith in
-    ap (λ (l : List ℕ). recordLine number (accessItem f i .answer) ++ l)
-    (lines-join (suc number) (accessItem f i .file) is js
-    ∙ ap (λ (k : ℕ). recordLines (suc number) (accessItem f i .file) is ++ recordLines k (fileAfter (accessItem f i .file) is) js) up)
-    ∙ sym (append-assoc (recordLine number (accessItem f i .answer)) (recordLines (suc number) (accessItem f i .file) is) _)
-
--- whole records, and what comes behind them
-items-join : (k m : ℕ) (part rest : List ℕ) → length part ≡ 8 * k → items (k + m) (part ++ rest) ≡ items k part ++ items m rest
-unfolding items
-items-join zero m [] rest h = rw zero-add refl
-items-join zero m (x ∷ part) rest h = absurd (omega (arith, h))
-items-join (suc k) m part rest h =
-    let long : 8 ≤ length part = omega (arith, h) in
-    let less : length (drop 8 part) ≡ 8 * k = length-drop 8 part ∙ omega (arith, h) in
-    rw (suc-add, take-append-le 8 part rest long, drop-append-le 8 part rest long)
-    (ap (λ (is : List Item). itemOf (take 8 part) ∷ is) (items-join k m (drop 8 part) rest less))
 
 module _ (part rest : List ℕ) (whole : length part % 8 ≡ 0) where
   pub all-count : itemCount (part ++ rest) ≡ itemCount part + itemCount rest
@@ -56,39 +23,37 @@ module _ (part rest : List ℕ) (whole : length part % 8 ≡ 0) where
   unfolding itemCount
   all-bytes = omega (arith, whole)
 
-  all-items : items (itemCount (part ++ rest)) (part ++ rest) ≡ items (itemCount part) part ++ items (itemCount rest) rest
-  all-items = ap (λ (k : ℕ). items k (part ++ rest)) all-count ∙ items-join (itemCount part) (itemCount rest) part rest all-bytes
+  -- the file after both
+  pub file-parts : (f : File) → afterPart f (part ++ rest) ≡ afterPart (afterPart f part) rest
+  unfolding afterPart
+  file-parts f =
+      ap (fileAfter f) (trace-cut (itemCount part) part rest all-bytes)
+      ∙ file-in-parts f (items (itemCount part) part) (items (itemCount rest) rest)
 
-  module _ (f : File) where
-    pub file-parts : afterPart f (part ++ rest) ≡ afterPart (afterPart f part) rest
-    unfolding afterPart
-    file-parts = ap (fileAfter f) all-items ∙ file-join f (items (itemCount part) part) (items (itemCount rest) rest)
+  -- what is printed of both
+  text-parts : (number : ℕ) (f : File)
+      → partLines number f part ++ replayedFrom (number + itemCount part) (afterPart f part) rest ≡ replayedFrom number f (part ++ rest)
+  unfolding partLines afterPart
+  text-parts number f = sym (replayed-in-pieces (itemCount part) part rest all-bytes number f)
 
-    lines-parts : (number : ℕ) → partLines number f (part ++ rest) ≡ partLines number f part ++ partLines (number + itemCount part) (afterPart f part) rest
-    unfolding afterPart partLines
-    lines-parts number =
-        ap (recordLines number f) all-items
-        ∙ lines-join number f (items (itemCount part) part) (items (itemCount rest) rest)
-        ∙ ap (λ (k : ℕ). recordLines number f (items (itemCount part) part) ++ recordLines (number + k) (fileAfter f (items (itemCount part) part)) (items (itemCount rest) rest)) (items-length (itemCount part) part)
+text-none : (number : ℕ) (f : File) → inParts number f [] ≡ replayedFrom number f []
+unfolding inParts replayedFrom itemCount items recordLines fileAfter
+text-none number f = refl
 
-nothing : (number : ℕ) (f : File) → timingLine (timingIn f) ≡ partLines number f [] ++ timingLine (timingIn (afterPart f []))
-unfolding partLines afterPart itemCount items recordLines fileAfter
-nothing number f = refl
+text-last : (number : ℕ) (f : File) (part : List ℕ) → inParts number f (part ∷ []) ≡ replayedFrom number f (part ++ [])
+unfolding inParts replayedFrom partLines afterPart
+text-last number f part = rw append-nil refl
 
-parts-print : (number : ℕ) (f : File) (parts : List (List ℕ)) → T (wholeButLast parts)
-    → inParts number f parts ≡ partLines number f (joined parts) ++ timingLine (timingIn (afterPart f (joined parts)))
+text-joined : (number : ℕ) (f : File) (parts : List (List ℕ)) → T (wholeButLast parts) → inParts number f parts ≡ replayedFrom number f (joined parts)
 unfolding inParts joined wholeButLast
-parts-print number f [] t = nothing number f
-parts-print number f (part ∷ []) t = rw append-nil refl
-parts-print number f (part ∷ next ∷ parts) t =
-    let whole : length part % 8 ≡ 0 = eqb→eq (length part % 8) 0 (left (eqb (length part % 8) 0) (wholeButLast (next ∷ parts)) t) in
-    let rest = joined (next ∷ parts) in
+text-joined number f [] t = text-none number f
+text-joined number f (part ∷ []) t = text-last number f part
+text-joined number f (part ∷ next ∷ parts) t =
     ap (λ (l : List ℕ). partLines number f part ++ l)
-    (parts-print (number + itemCount part) (afterPart f part) (next ∷ parts) (right (eqb (length part % 8) 0) (wholeButLast (next ∷ parts)) t))
-    ∙ sym (append-assoc (partLines number f part) (partLines (number + itemCount part) (afterPart f part) rest) _)
-    ∙ ap₂ (λ (l : List ℕ) (g : File). l ++ timingLine (timingIn g)) (sym (lines-parts part rest whole f number)) (sym (file-parts part rest whole f))
+    (text-joined (number + itemCount part) (afterPart f part) (next ∷ parts) (right (eqb (length part % 8) 0) (wholeButLast (next ∷ parts)) t))
+    ∙ text-parts part (joined (next ∷ parts)) (eqb→eq (length part % 8) 0 (left (eqb (length part % 8) 0) (wholeButLast (next ∷ parts)) t)) number f
 
 -- 01, 'It reads a trace on standard input from power-on': by parts or whole, the same is printed
 pub parts-replayed : (parts : List (List ℕ)) → T (wholeButLast parts) → inParts 0 powerOn parts ≡ replayed (joined parts)
-unfolding replayed afterPart partLines
-parts-replayed parts t = parts-print 0 powerOn parts t
+unfolding replayed
+parts-replayed parts t = text-joined 0 powerOn parts t

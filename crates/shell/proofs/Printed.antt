@@ -1,7 +1,7 @@
 -- The lines of a run's replies are those that 01 gives its records. Assumes nothing.
-use Prim.Native.Nat.{ℕ, suc, _+_, _*_, _/_, _%_, _^_, _≤_, _<_, min}
+use Prim.Native.Nat.{ℕ, _+_, _*_, _/_, _^_, _≤_, _<_, min}
 use mathlib.Core.Bool.{Bool, cond, true, false}
-use mathlib.Core.List.{List, [], _∷_, _++_}
+use mathlib.Core.List.{List, [], append-nil}
 use mathlib.Core.Path.{_≡_, refl, sym, ap, ap₂, _∙_}
 use native.Mathlib.Nat.{min-eq-left, zero-add}
 use native.Mathlib.Omega.{arith}
@@ -10,17 +10,15 @@ use lib.ListN.{length, take, drop, length-append}
 use lib.Seq.{take-at, take-append-seam}
 use Rattle.bits.proofs.Test.{is-true}
 use Rattle.file.specs.declared.registers.File.{File}
-use Rattle.file.specs.Answers.{codeOf, valueOf}
 use Rattle.file.specs.Sound.{sound}
-use Rattle.access.specs.declared.record.Item.{Item}
-use Rattle.access.specs.Access.{accessItem, replyTo}
-use Rattle.access.specs.Records.{items, itemCount, replyBytes, two}
+use Rattle.access.specs.Records.{items, itemCount}
 use Rattle.access.specs.declared.running.Ran.{Ran}
 use Rattle.access.specs.Run.{replies, run, ran, runCount}
 use Rattle.access.specs.Run.{Ran as LeftBy}
 use Rattle.access.proofs.Runs.{items-length, replies-length}
 use Rattle.text.specs.Lent.{behindIf, placedIf}
-use Rattle.text.specs.Text.{lineOf, linesFit, recordLine, recordLines, replyLines}
+use Rattle.text.specs.Text.{linesFit, replyLines}
+use Rattle.text.proofs.Pieces.{lines-of-run}
 use Rattle.text.proofs.Replies.{room-lines}
 use Rattle.shell.specs.Parts.{Parted, afterPart, partLines}
 use Rattle.shell.proofs.Bounds.{counts}
@@ -35,18 +33,6 @@ pub text-within : (test : Bool) (buffer text : List ℕ) → behindIf test 0 tex
 unfolding behindIf placedIf
 text-within true buffer text = rw length-append (omega arith)
 text-within false buffer text = omega arith
-
--- a reply's value, put together from its two bytes
-value-back : (v : ℕ) → v % 256 + 256 * (v / 256) ≡ v
-value-back v = omega arith
-
--- the lines of the replies to items
-lines-of : (number : ℕ) (f : File) (is : List Item) → replyLines (length is) number (replies f is) ≡ recordLines number f is
-unfolding replyLines replies recordLines recordLine replyBytes replyTo two
-lines-of number f [] = refl
-lines-of number f (i ∷ is) =
-    ap₂ (λ (v : ℕ) (rest : List ℕ). lineOf number (codeOf (accessItem f i .answer)) v ++ rest) (value-back (valueOf (accessItem f i .answer)))
-    (lines-of (suc number) (accessItem f i .file) is)
 
 -- a run over the whole of a part: the file is sound, and there is a place for each reply
 module _ (f : File) (part buffer : List ℕ) (s : T (sound f)) (room : 8 * itemCount part ≤ length buffer) where
@@ -98,8 +84,8 @@ module _ (f : File) (part buffer : List ℕ) (s : T (sound f)) (room : 8 * itemC
       same-lines : Lines ≡ partLines number f part
       unfolding partLines
       same-lines =
-          ap₂ (λ (k : ℕ) (l : List ℕ). replyLines k number l) (many ∙ sym (items-length (itemCount part) part)) said
-          ∙ lines-of number f (items (itemCount part) part)
+          ap₂ (λ (k : ℕ) (l : List ℕ). replyLines k number l) many (said ∙ sym (append-nil (replies f (items (itemCount part) part))))
+          ∙ lines-of-run (itemCount part) number f part []
 
       -- and one whose lines are, which have room
       pub printed : 30 * itemCount part ≤ length before → number + itemCount part < 2 ^ 64
