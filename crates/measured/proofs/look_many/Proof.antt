@@ -16,10 +16,8 @@ sub-left c = omega arith
 loop-less : tie.Need-loop-less Inv-loop μ-loop
 loop-less c = omega arith
 
-array-read-wide : tie.Need-array-read-wide Inv-loop μ-loop
-array-read-wide c = search needs
-
 pub look-many-spec : {M : Type 1} → statement M
 look-many-spec =
     tie.close
-    (tie.spec Inv-loop μ-loop (λ c. tt) (λ c κs. tt) (λ c κs. tt) sub-left loop-less (λ c. tt) array-read-wide (λ c κs. tt) (λ c κs. tt) (λ c. tt))
+    (tie.spec Inv-loop μ-loop (λ c. tt) (λ c κs. tt) (λ c κs. tt) sub-left loop-less (λ c. tt) (λ c. search needs) (λ c κs. tt) (λ c κs. tt)
+    (λ c. tt))

@@ -11,20 +11,11 @@ Inv-loop program prints trace₀ replies₀ lines₀ course₀ turns₀ trace re
 abbrev μ-loop : tie.MeasureT-loop
 μ-loop program prints trace₀ replies₀ lines₀ course₀ turns₀ trace replies lines course turns = turns
 
-power-on-requires : tie.Need-power-on-requires Inv-loop μ-loop
-power-on-requires c κs = search needs
-
 loop-holds : tie.Need-loop-holds Inv-loop μ-loop
 loop-holds c = came-none _ (c .power-on .ensures)
 
 run-some-requires : tie.Need-run-some-requires Inv-loop μ-loop
 run-some-requires c κs = came-sound (c .before .before .before .before .before .loop .inv)
-
-sub-turns : tie.Need-sub-turns Inv-loop μ-loop
-sub-turns c = search needs
-
-loop-less : tie.Need-loop-less Inv-loop μ-loop
-loop-less c = search needs
 
 loop-again : tie.Need-loop-again Inv-loop μ-loop
 loop-again c = came-on _ _ (c .before .before .before .before .before .before .loop .inv) (c .before .before .before .before .if1 .taken) (c .run-some .ensures)
@@ -38,14 +29,5 @@ returns-2 c = c .before .loop .inv
 pub run-input-spec : {M : Type 1} → statement M
 run-input-spec =
     tie.close
-    (tie.spec
-    Inv-loop
-    μ-loop
-    power-on-requires
-    loop-holds
-    run-some-requires
-    sub-turns
-    loop-less
-    loop-again
-    returns
+    (tie.spec Inv-loop μ-loop (λ c κs. search needs) loop-holds run-some-requires (λ c. search needs) (λ c. search needs) loop-again returns
     returns-2)

@@ -9,17 +9,11 @@ use Rattle.text.proofs.Stores.{then-text}
 use Rattle.text.proofs.line.line.Statement.{statement}
 use Rattle.text.proofs.line.line.Tie as tie
 
-places-requires : tie.Need-places-requires
-places-requires c κs = search needs
-
 spell-spaced-requires : tie.Need-spell-spaced-requires
 spell-spaced-requires c κs =
     let args = c .before .before .before .args in
     let size = line-length (args .number) (args .code) (args .value) _ _ (c .before .places .ensures .0) refl in
     omega arith
-
-places-requires-2 : tie.Need-places-requires-2
-places-requires-2 c κs = search needs
 
 spell-spaced-requires-2 : tie.Need-spell-spaced-requires-2
 spell-spaced-requires-2 c κs =
@@ -48,9 +42,6 @@ byte-requires c κs =
       spaced-length (c .before .before .before .before .before .before .before .before .before .places2 .result) (args .code),
     )
 
-same-length : tie.Need-same-length
-same-length c = search needs
-
 returns : tie.Need-returns
 returns c =
     let args = c .before .before .before .before .before .before .before .before .before .before .before .before .before .before .before .before .before .before .before .args in
@@ -66,12 +57,5 @@ returns c =
 pub line-spec : {M : Type 1} → statement M
 line-spec =
     tie.close
-    (tie.spec
-    places-requires
-    spell-spaced-requires
-    places-requires-2
-    spell-spaced-requires-2
-    hex-requires
-    byte-requires
-    same-length
-    returns)
+    (tie.spec (λ c κs. search needs) spell-spaced-requires (λ c κs. search needs) spell-spaced-requires-2 hex-requires byte-requires
+    (λ c. search needs) returns)

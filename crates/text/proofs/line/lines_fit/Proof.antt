@@ -21,9 +21,6 @@ returns-2 c =
     let args = c .before .before .args in
     rw (lt-leb (args .at + 30 * args .count) (args .room) (omega arith))
 
-sub-result : tie.Need-sub-result
-sub-result c = search needs
-
 returns-3 : tie.Need-returns-3
 unfolding linesFit
 returns-3 c =
@@ -32,4 +29,4 @@ returns-3 c =
     (numbers-left (args .count) (args .number) 18446744073709551615 (omega arith))
 
 pub lines-fit-spec : {M : Type 1} → statement M
-lines-fit-spec = tie.close (tie.spec returns returns-2 sub-result returns-3)
+lines-fit-spec = tie.close (tie.spec returns returns-2 (λ c. search needs) returns-3)

@@ -11,18 +11,12 @@ use Rattle.text.proofs.Stores.{unplaced-if, whole-if}
 use Rattle.text.proofs.line.reply_lines.Statement.{statement}
 use Rattle.text.proofs.line.reply_lines.Tie as tie
 
-lines-fit-requires : tie.Need-lines-fit-requires
-lines-fit-requires c κs = search needs
-
 lines-requires : tie.Need-lines-requires
 lines-requires c κs =
     let args = c .before .before .before .before .before .args in
     let room =
     lines-room (length (now (args .buffer))) (args .at) (args .number) (length (now (args .replies)) / 8) (sym (c .before .before .lines-fit .ensures) ∙ c .before .if1 .taken) in
     (omega arith, room)
-
-same-length : tie.Need-same-length
-same-length c = search needs
 
 returns : tie.Need-returns
 returns c =
@@ -41,4 +35,4 @@ returns-2 c =
     unplaced-if (linesFit (length (now (args .buffer))) (args .at) (args .number) count) (now (args .buffer)) (args .at) (replyLines count (args .number) (now (args .replies))) test
 
 pub reply-lines-spec : {M : Type 1} → statement M
-reply-lines-spec = tie.close (tie.spec lines-fit-requires lines-requires same-length returns returns-2)
+reply-lines-spec = tie.close (tie.spec (λ c κs. search needs) lines-requires (λ c. search needs) returns returns-2)
