@@ -6,6 +6,7 @@ mod place;
 mod reader;
 mod record;
 mod running;
+mod wire;
 
 pub use access::Accessed;
 pub use place::Place;
@@ -17,3 +18,6 @@ pub use record::Record;
 pub use record::Reply;
 pub use running::Ran;
 pub use running::run;
+pub use wire::item_of;
+pub use wire::record_bytes;
+pub use wire::reply_bytes;

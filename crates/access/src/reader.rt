@@ -1,56 +1,15 @@
 // A reader: a lent trace, and the position of what is not yet read. The work is done by functions on a slice and a number.
 ghost use mathlib.Core.Path.{_≡_};
-ghost use Prim.Native.Nat.{_+_, _*_, min};
-ghost use lib.ListN.{length, getD, take, drop};
-ghost use Rattle.access.specs.Records.{itemOf};
+ghost use Prim.Native.Nat.{_*_, min};
+ghost use lib.ListN.{length, drop};
 ghost use Rattle.access.specs.Reader.{nextAt, afterNext};
 use crate::record::Item;
-use crate::record::Record;
+use crate::wire::item_of;
 
 // What stands next in a trace: a record or the last fragment, or its end.
 pub enum Next {
     Item(Item),
     End,
-}
-
-// A byte; one that is missing counts as zero.
-pub fn byte_at(bytes: &[u8], at: usize) -> u8
-    ensures { λ r. ⌜ r ≡ getD (now (bytes .entry)) at 0 ⌝ }
-{
-    if at < bytes.len() { bytes[at] } else { 0 }
-}
-
-// The number of two bytes, and of two such numbers, the low one first.
-pub fn two(low: u8, high: u8) -> u16
-    ensures { λ r. ⌜ r ≡ low + 256 * high ⌝ }
-{
-    low as u16 + 256 * (high as u16)
-}
-
-fn four(low: u16, high: u16) -> u32
-    ensures { λ r. ⌜ r ≡ low + 65536 * high ⌝ }
-{
-    low as u32 + 65536 * (high as u32)
-}
-
-// The first record of what is left of a trace, or the last fragment.
-fn item_of(left: &[u8]) -> Item
-    ensures { λ r. ⌜ r ≡ itemOf (take 8 (now (left .entry))) ⌝ }
-{
-    let address = two(byte_at(left, 2), byte_at(left, 3));
-    let low = two(byte_at(left, 4), byte_at(left, 5));
-    let high = two(byte_at(left, 6), byte_at(left, 7));
-    let record = Record {
-        kind: byte_at(left, 0),
-        width: byte_at(left, 1),
-        address,
-        value: four(low, high),
-    };
-    if left.len() < 8 {
-        Item::Fragment(record)
-    } else {
-        Item::Whole(record)
-    }
 }
 
 // What is left of a trace from a position on.

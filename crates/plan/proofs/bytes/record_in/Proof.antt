@@ -2,7 +2,7 @@
 use Prim.Native.Nat.{_*_}
 use borrow.Author.Needs.{needs}
 use denote.Ref.{now}
-use Rattle.plan.proofs.InBytes.{record-at-place}
+use Rattle.access.proofs.Bytes.{record-at-place}
 use Rattle.plan.proofs.bytes.record_in.Statement.{statement}
 use Rattle.plan.proofs.bytes.record_in.Tie as tie
 

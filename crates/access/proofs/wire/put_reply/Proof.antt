@@ -5,8 +5,8 @@ use lib.ListN.{length-set}
 use lib.Seq.{sets-eq}
 use Rattle.access.specs.Records.{replyBytes}
 use borrow.Author.Needs.{needs}
-use Rattle.access.proofs.running.put_reply.Statement.{statement}
-use Rattle.access.proofs.running.put_reply.Tie as tie
+use Rattle.access.proofs.wire.put_reply.Statement.{statement}
+use Rattle.access.proofs.wire.put_reply.Tie as tie
 
 slice-write-replies : tie.Need-slice-write-replies
 slice-write-replies c = search needs

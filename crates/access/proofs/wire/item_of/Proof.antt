@@ -7,13 +7,13 @@ use Rattle.access.specs.declared.record.Record.{Record}
 use Rattle.access.specs.Records.{recordOf}
 use Rattle.access.proofs.Reading.{record-read, whole-read, fragment-read}
 use borrow.Author.Needs.{needs}
-use Rattle.access.proofs.reader.item_of.Statement.{statement}
-use Rattle.access.proofs.reader.item_of.Tie as tie
-use Rattle.access.proofs.reader.item_of.Reads as reads
-use Rattle.access.proofs.reader.item_of.Lts as lts
-use Rattle.access.proofs.reader.byte_at.Reads as byte-at-reads
-use Rattle.access.proofs.reader.four.Reads as four-reads
-use Rattle.access.proofs.reader.two.Reads as two-reads
+use Rattle.access.proofs.wire.item_of.Statement.{statement}
+use Rattle.access.proofs.wire.item_of.Tie as tie
+use Rattle.access.proofs.wire.item_of.Reads as reads
+use Rattle.access.proofs.wire.item_of.Lts as lts
+use Rattle.access.proofs.wire.byte_at.Reads as byte-at-reads
+use Rattle.access.proofs.wire.four.Reads as four-reads
+use Rattle.access.proofs.wire.two.Reads as two-reads
 
 byte-at-requires : tie.Need-byte-at-requires
 byte-at-requires c κs = search needs
@@ -56,7 +56,7 @@ abbrev After : Type 0
 After = lts.After-four (byte-at-reads.Asked, byte-at-reads.Learnt, two-reads.Asked, two-reads.Learnt, four-reads.Asked, four-reads.Learnt) reads.Pre reads.Post
 
 abbrev bytes : After → List ℕ
-bytes c = c .before .before .before .before .before .before .before .before .before .before .before .before .before .args .left .now
+bytes c = c .before .before .before .before .before .before .before .before .before .before .before .before .before .args .bytes .now
 
 abbrev made : After → Record
 made c = record { kind = c .before .before .byte-at7 .result; width = c .before .byte-at8 .result; address = c .before .before .before .before .before .before .before .before .before .two .result; value = c .four .result }
