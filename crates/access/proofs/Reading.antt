@@ -11,9 +11,13 @@ use Rattle.access.specs.declared.record.Record.{Record}
 use Rattle.access.specs.declared.record.Item.{Item}
 use Rattle.access.specs.declared.record.Item.the-variants.{Whole, Fragment}
 use Rattle.access.specs.declared.reader.Next.{Next}
-use Rattle.access.specs.declared.reader.Next.the-variants.{Item as Left, End}
+use Rattle.access.specs.declared.reader.Next.the-variants.{Item as Stands, End}
+use Rattle.file.specs.declared.registers.File.{File}
+use Rattle.access.specs.declared.reader.RanAt.{RanAt}
+use Rattle.access.specs.declared.running.Ran.{Ran}
 use Rattle.access.specs.Records.{two, four, recordOf, itemOf}
-use Rattle.access.specs.Reader.{nextAt, afterNext}
+use Rattle.access.specs.Run.{Ran as Left, run}
+use Rattle.access.specs.Reader.{nextAt, afterNext, afterMany, ranAt}
 
 -- an entry of the first so many
 getD-take : {A : Type 0} (n i : ℕ) (xs : List A) (d : A) → i < n → getD (take n xs) i d ≡ getD xs i d
@@ -66,9 +70,9 @@ pub nothing-left : (xs : List ℕ) (at : ℕ) → length xs ≤ at → take (len
 nothing-left xs at h = part-left xs (length xs) ∙ drop-of-length-le xs {i = length xs} (omega arith) ∙ sym (drop-of-length-le xs {i = at} h)
 
 -- what stands next
-pub next-read : (xs : List ℕ) (at : ℕ) (r : Item) → at < length xs → r ≡ itemOf (take 8 (take (length xs - at) (drop at xs))) → Left r ≡ nextAt xs at
+pub next-read : (xs : List ℕ) (at : ℕ) (r : Item) → at < length xs → r ≡ itemOf (take 8 (take (length xs - at) (drop at xs))) → Stands r ≡ nextAt xs at
 unfolding nextAt
-next-read xs at r h e = rw (lt-ltb at (length xs) h) (ap {B = Next} (λ (i : Item). Left i) (e ∙ ap (λ (ys : List ℕ). itemOf (take 8 ys)) (part-left xs at)))
+next-read xs at r h e = rw (lt-ltb at (length xs) h) (ap {B = Next} (λ (i : Item). Stands i) (e ∙ ap (λ (ys : List ℕ). itemOf (take 8 ys)) (part-left xs at)))
 
 pub end-read : (xs : List ℕ) (at : ℕ) → length xs ≤ at → End ≡ nextAt xs at
 unfolding nextAt
@@ -78,6 +82,12 @@ end-read xs at h = rw (le-ltb at (length xs) h) refl
 pub after-is : (trace : List ℕ) (at : ℕ) → afterNext trace at ≡ at + min 8 (length trace - at)
 unfolding afterNext
 after-is trace at = ap (λ (n : ℕ). at + n) (length-take 8 (drop at trace) ∙ ap (min 8) (length-drop at trace))
+
+-- the same past so many of them
+pub many-after : (trace left : List ℕ) (at count n : ℕ) → left ≡ drop at trace → n ≡ min (8 * count) (length left) → at + n ≡ afterMany count trace at
+unfolding afterMany
+many-after trace left at count n e h =
+    ap (λ (k : ℕ). at + k) (h ∙ ap (λ (l : List ℕ). min (8 * count) (length l)) e ∙ sym (length-take (8 * count) (drop at trace)))
 
 -- what is left past the first so many, however few there are
 drop-taken : {A : Type 0} (n : ℕ) (xs : List A) → drop (length (take n xs)) xs ≡ drop n xs
@@ -101,3 +111,24 @@ drop-more (suc m) n (x ∷ xs) = ap (λ (k : ℕ). drop k (x ∷ xs)) (suc-add m
 pub left-past-next : (xs : List ℕ) (at : ℕ) → drop (afterNext xs at) xs ≡ drop 8 (drop at xs)
 unfolding afterNext
 left-past-next xs at = drop-more at (length (take 8 (drop at xs))) xs ∙ drop-taken 8 (drop at xs)
+
+-- past a run, a reader has left what the run leaves
+pub left-past-many : (xs : List ℕ) (at count : ℕ) → drop (afterMany count xs at) xs ≡ drop (8 * count) (drop at xs)
+unfolding afterMany
+left-past-many xs at count = drop-more at (length (take (8 * count) (drop at xs))) xs ∙ drop-taken (8 * count) (drop at xs)
+
+-- a run over what is left, and the position after as many as it counts
+pub ran-left : (f : File) (trace left : List ℕ) (at : ℕ) (buffer after : List ℕ) (r : Ran) (n : ℕ) → left ≡ drop at trace
+    → ((r .answer ≡ run f left buffer .answer) × (r .file ≡ run f left buffer .file) × (r .count ≡ run f left buffer .count)) × (after ≡ run f left buffer .buffer)
+    → n ≡ afterMany (r .count) trace at → (_≡_ {A = RanAt} (record { ran = r; at = n }) (ranAt f trace at buffer)) × (after ≡ run f (drop at trace) buffer .buffer)
+unfolding ranAt
+ran-left f trace left at buffer after r n e ((answered, filed, counted), filled) h =
+    let over : (A : Type 0) (part : Left → A) → part (run f left buffer) ≡ part (run f (drop at trace) buffer) = λ A part. ap (λ (l : List ℕ). part (run f l buffer)) e in
+    let count = counted ∙ over _ (λ w. w .count) in (
+      λ i.
+          record {
+            ran = record { answer = (answered ∙ over _ (λ w. w .answer)) i; file = (filed ∙ over _ (λ w. w .file)) i; count = count i };
+            at = (h ∙ ap (λ (k : ℕ). afterMany k trace at) count) i;
+          },
+      filled ∙ over _ (λ w. w .buffer),
+    )

@@ -2,9 +2,13 @@
 ghost use mathlib.Core.Path.{_≡_};
 ghost use Prim.Native.Nat.{_*_, min};
 ghost use lib.ListN.{length, drop};
-ghost use Rattle.access.specs.Reader.{nextAt, afterNext};
+ghost use Rattle.access.specs.Reader.{nextAt, afterNext, afterMany, ranAt};
+ghost use Rattle.access.specs.Run.{run as runOf};
 use crate::record::Item;
+use crate::running::Ran;
+use crate::running::run;
 use crate::wire::item_of;
+use file::File;
 
 // What stands next in a trace: a record or the last fragment, or its end.
 pub enum Next {
@@ -49,6 +53,33 @@ pub fn place_after(trace: &[u8], count: usize) -> usize
 {
     let n = trace.len();
     if count <= n / 8 { 8 * count } else { n }
+}
+
+// The position after so many records, or a last fragment among them.
+pub fn after_many(trace: &[u8], at: usize, count: usize) -> usize
+    ensures { λ r. ⌜ r ≡ afterMany count (now (trace .entry)) at ⌝ }
+{
+    let left = left_at(trace, at);
+    at + place_after(left, count)
+}
+
+// What a run from a position on hands back, and the position after it.
+pub struct RanAt {
+    pub ran: Ran,
+    pub at: usize,
+}
+
+// A run over what is left of a trace from a position on.
+pub fn run_at(trace: &[u8], at: usize, whole: File, replies: &mut [u8]) -> RanAt
+    ensures { λ r. ⌜ r ≡ ranAt whole (now (trace .entry)) at (now (replies .entry)) ⌝ }
+    ensures { λ _. ⌜ now (replies .exit) ≡ runOf whole (drop at (now (trace .entry))) (now (replies .entry)) .buffer ⌝ }
+{
+    let left = left_at(trace, at);
+    let ran = run(whole, left, replies);
+    RanAt {
+        ran,
+        at: after_many(trace, at, ran.count),
+    }
 }
 
 // A lent trace, and the position of what is not yet read.
