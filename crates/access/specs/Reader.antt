@@ -5,9 +5,12 @@ use mathlib.Core.Bool.{cond}
 use mathlib.Core.List.{List}
 use lib.Dec.{ltb}
 use lib.ListN.{length, take, drop}
+use denote.Ref.{now}
 use Rattle.access.specs.declared.reader.Next.{Next}
 use Rattle.access.specs.declared.reader.Next.the-variants.{Item, End}
+use Rattle.access.specs.declared.reader.HandedBack.{HandedBack}
 use Rattle.access.specs.declared.reader.RanAt.{RanAt}
+use Rattle.access.specs.declared.reader.Reader.{Reader}
 use Rattle.file.specs.declared.registers.File.{File}
 use Rattle.access.specs.Records.{itemOf}
 use Rattle.access.specs.Run.{run}
@@ -29,3 +32,9 @@ unfoldable pub ranAt : File → List ℕ → ℕ → List ℕ → RanAt
 ranAt f trace at buffer =
     let left = run f (drop at trace) buffer in
     record { ran = record { answer = left .answer; file = left .file; count = left .count }; at = afterMany (left .count) trace at }
+
+-- the same of a reader, which comes back at the position after it
+unfoldable pub handedBack : File → Reader → List ℕ → HandedBack
+handedBack f reader buffer =
+    let after = ranAt f (now (reader .trace)) (reader .at) buffer in
+    record { ran = after .ran; reader = record { trace = reader .trace; at = after .at } }

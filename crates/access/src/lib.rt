@@ -10,6 +10,7 @@ mod wire;
 
 pub use access::Accessed;
 pub use place::Place;
+pub use reader::HandedBack;
 pub use reader::Next;
 pub use reader::RanAt;
 pub use reader::Reader;

@@ -2,7 +2,7 @@
 ghost use mathlib.Core.Path.{_≡_};
 ghost use Prim.Native.Nat.{_*_, min};
 ghost use lib.ListN.{length, drop};
-ghost use Rattle.access.specs.Reader.{nextAt, afterNext, afterMany, ranAt};
+ghost use Rattle.access.specs.Reader.{nextAt, afterNext, afterMany, ranAt, handedBack};
 ghost use Rattle.access.specs.Run.{run as runOf};
 use crate::record::Item;
 use crate::running::Ran;
@@ -71,8 +71,7 @@ pub struct RanAt {
 
 // A run over what is left of a trace from a position on.
 pub fn run_at(trace: &[u8], at: usize, whole: File, replies: &mut [u8]) -> RanAt
-    ensures { λ r. ⌜ r ≡ ranAt whole (now (trace .entry)) at (now (replies .entry)) ⌝ }
-    ensures { λ _. ⌜ now (replies .exit) ≡ runOf whole (drop at (now (trace .entry))) (now (replies .entry)) .buffer ⌝ }
+    ensures { λ r. ⌜ (r ≡ ranAt whole (now (trace .entry)) at (now (replies .entry))) × (now (replies .exit) ≡ runOf whole (drop at (now (trace .entry))) (now (replies .entry)) .buffer) ⌝ }
 {
     let left = left_at(trace, at);
     let ran = run(whole, left, replies);
@@ -86,6 +85,12 @@ pub fn run_at(trace: &[u8], at: usize, whole: File, replies: &mut [u8]) -> RanAt
 pub struct Reader<'a> {
     pub trace: &'a [u8],
     pub at: usize,
+}
+
+// What a reader's run hands back: what the run gives, and the reader of the part not yet read.
+pub struct HandedBack<'a> {
+    pub ran: Ran,
+    pub reader: Reader<'a>,
 }
 
 impl<'a> Reader<'a> {
@@ -110,6 +115,20 @@ impl<'a> Reader<'a> {
         Reader {
             trace: self.trace,
             at: after_at(self.trace, self.at),
+        }
+    }
+
+    // A run over what is left into a reply buffer; the reader comes back past what was read.
+    pub fn run(self, whole: File, replies: &mut [u8]) -> HandedBack<'a>
+        ensures { λ r. ⌜ (r ≡ handedBack whole (self .entry) (now (replies .entry))) × (now (replies .exit) ≡ runOf whole (drop (self .entry .at) (now (self .entry .trace))) (now (replies .entry)) .buffer) ⌝ }
+    {
+        let after = run_at(self.trace, self.at, whole, replies);
+        HandedBack {
+            ran: after.ran,
+            reader: Reader {
+                trace: self.trace,
+                at: after.at,
+            },
         }
     }
 
