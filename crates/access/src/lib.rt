@@ -23,4 +23,5 @@ pub use running::Ran;
 pub use running::run;
 pub use wire::item_of;
 pub use wire::record_bytes;
+pub use wire::record_of;
 pub use wire::reply_bytes;

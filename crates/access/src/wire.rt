@@ -28,19 +28,26 @@ pub fn four(low: u16, high: u16) -> u32
     low as u32 + 65536 * (high as u32)
 }
 
-// The record of the first 8 bytes, or a fragment of fewer; what stands behind them isn't looked at.
-pub fn item_of(bytes: &[u8]) -> Item
-    ensures { λ r. ⌜ r ≡ itemOf (take 8 (now (bytes .entry))) ⌝ }
+// The record of the first 8 bytes; a missing one counts as zero, and what stands behind them isn't looked at.
+pub fn record_of(bytes: &[u8]) -> Record
+    ensures { λ r. ⌜ r ≡ recordOf (take 8 (now (bytes .entry))) ⌝ }
 {
     let address = two(byte_at(bytes, 2), byte_at(bytes, 3));
     let low = two(byte_at(bytes, 4), byte_at(bytes, 5));
     let high = two(byte_at(bytes, 6), byte_at(bytes, 7));
-    let record = Record {
+    Record {
         kind: byte_at(bytes, 0),
         width: byte_at(bytes, 1),
         address,
         value: four(low, high),
-    };
+    }
+}
+
+// The same, with the mark of a fragment.
+pub fn item_of(bytes: &[u8]) -> Item
+    ensures { λ r. ⌜ r ≡ itemOf (take 8 (now (bytes .entry))) ⌝ }
+{
+    let record = record_of(bytes);
     if bytes.len() < 8 {
         Item::Fragment(record)
     } else {
@@ -48,7 +55,7 @@ pub fn item_of(bytes: &[u8]) -> Item
     }
 }
 
-// The same of a place where 8 bytes stand.
+// The record of a place where 8 bytes stand.
 pub fn record_at(bytes: &[u8], at: usize) -> Record
     requires { ⌜ at + 8 ≤ length (now bytes) ⌝ }
     ensures { λ r. ⌜ r ≡ recordOf (take 8 (drop at (now (bytes .entry)))) ⌝ }

@@ -1,14 +1,12 @@
 -- A plan's bytes in a buffer: eight stores, what stands at a record's place, and a record more. Assumes nothing.
-use Prim.Native.Nat.{ℕ, zero, suc, _+_, _-_, _*_, _≤_, _<_}
-use mathlib.Core.Path.{_≡_, refl, sym, ap, ap₂, _∙_, subst}
+use Prim.Native.Nat.{ℕ, suc, _+_, _-_, _*_, _≤_, _<_}
+use mathlib.Core.Path.{_≡_, refl, sym, ap, ap₂, _∙_}
 use mathlib.Core.List.{List, [], _∷_, _++_, append-assoc, append-nil}
 use native.Mathlib.Omega.{arith}
 use native.Mathlib.Numerals.{add-one}
-use native.Mathlib.Nat.{add-zero}
 use borrow.Author.Tests.{le-leb}
-use lib.Dec.{leb, lit<}
-use lib.ListN.{getD, length, take, drop, set, length-append, length-take, length-drop}
-use lib.Seq.{sets-eq, getD-take, getD-drop, take-at, drop-append-add, drop-drop, take-suc, take-all, length-take-le}
+use lib.ListN.{getD, length, take, drop, set, length-take, length-drop}
+use lib.Seq.{sets-eq, take-at, drop-append-add, drop-drop, take-suc, take-all, length-take-le}
 use Rattle.access.specs.declared.record.Record.{Record}
 use Rattle.access.specs.declared.record.Item.{Item}
 use Rattle.access.specs.declared.record.Item.the-variants.{Whole}
