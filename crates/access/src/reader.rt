@@ -147,3 +147,32 @@ pub fn unread<'a>(trace: &'a [u8], count: usize) -> &'a [u8]
     let at = place_after(trace, count);
     Reader { trace, at }.rest()
 }
+
+// What stands at a position of a trace, and the position past it.
+pub struct NextAt {
+    pub next: Next,
+    pub at: usize,
+}
+
+// A reader's step, from a position to the next.
+pub fn next_from<'a>(trace: &'a [u8], at: usize) -> NextAt
+    ensures { λ r. ⌜ (r .next ≡ nextAt (now (trace .entry)) at) × (r .at ≡ afterNext (now (trace .entry)) at) ⌝ }
+{
+    let reader = Reader { trace, at };
+    let next = reader.next();
+    NextAt {
+        next,
+        at: reader.advanced().at,
+    }
+}
+
+// A reader's run, from a position to the one after it.
+pub fn run_from<'a>(trace: &'a [u8], at: usize, whole: File, replies: &mut [u8]) -> RanAt
+    ensures { λ r. ⌜ (r ≡ ranAt whole (now (trace .entry)) at (now (replies .entry))) × (now (replies .exit) ≡ runOf whole (drop at (now (trace .entry))) (now (replies .entry)) .buffer) ⌝ }
+{
+    let back = Reader { trace, at }.run(whole, replies);
+    RanAt {
+        ran: back.ran,
+        at: back.reader.at,
+    }
+}

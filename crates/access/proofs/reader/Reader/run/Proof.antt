@@ -15,30 +15,28 @@ use prog.Memory.{Memory}
 use prog.Routine.{Routine}
 use prog.Wp.{Heap, Calls, Loops, WpFn}
 use ghost.Atoms.{Atoms}
-use contract.Monad.{Fun, fact}
+use contract.Monad.{Fun}
 use contract.Running.{givenOf, tables}
-use types.Kit.{Given, ‵, raw, some, later, _⊛_, ⋆, _$_, _∵_, !, qed, by, move, keep, use1, use2, split, join, pick, rewrite, fsplit, fjoin, feqL, suffices, frame, await}
+use types.Kit.{Given, ‵, _⊛_, ⋆, _$_, _∵_, !, qed, by, move, keep, use1, use2, split, rewrite, fsplit, fjoin, feqL, suffices, frame}
 use types.Part.{agg, whole, sub, look-in}
 use types.Run.{look, init, forget, stop, hop, fld, from, load, addr, of-opd, and-then, no-more, assigns, land, returns, enter, alloc1, alloc0, params1, pass1, pass0, free1, free0}
 use sound.WpLaws.{FmC}
 use denote.RattleType.{owns}
-use denote.Laws.{Is, shows}
+use denote.Laws.{Is}
 use denote.Plain.{uint-makes}
 use denote.Builtin.{u8, usize}
 use denote.Ref.{RefT, NamedLft, now}
 use denote.Signature.{plain, namedLft}
-use denote.Slice.{sliceVal, ShrSlice, MutSlice, Room, finally, slice-vals, mut-slice-tells}
-use denote.Steps.{owned, peeks, heard, nothing}
+use denote.Slice.{sliceVal, MutSlice, Room, finally, slice-vals, mut-slice-tells}
+use denote.Steps.{owned, nothing}
 use denote.Struct.Laws as LL
 use denote.Struct.Rest.{own-put, own-shut}
 use denote.Triple.Entry.{onEntry}
 use denote.Triple.Statement.{Contract, Triple}
-use denote.Triple.Call.{calls-at}
-use denote.Triple.Clauses.{Lasts, ensured, lasts}
 use denote.Triple.Table.{cited}
 use denote.Triple.Walked.{says, Stays, stay-none, gave-slice, walkOf, goes-none, goes-gave-slice, ends-at}
 use denote.Exit.{yes}
-use Rattle.bits.proofs.Walk.{contractOf, walk-proves}
+use Rattle.bits.proofs.Walk.{contractOf, calls-leaving, walk-proves}
 use Rattle.file.specs.declared.registers.File.{File}
 use Rattle.file.proofs.registers.File as F
 use Rattle.file.proofs.registers.File.Laws as F′
@@ -159,27 +157,22 @@ module _ {M : Type 1} (𝓤 : URA M) (H : Heap 𝓤) (A : Atoms 𝓤) (W : Given
           -- [what the reader's parts own; what the reader owns; what the file and the buffer own; _10; …; the tokens]
           fsplit ! $ move ! (1 ∷ []) $ fsplit ! $ move ! (0 ∷ 4 ∷ []) $ fjoin ! $ move ! (2 ∷ 0 ∷ []) $ fjoin ! $ move ! (25 ∷ 0 ∷ []) $
           -- [the tokens; what the arguments own; true; what the reader owns; _10; …]
-          use2 W (raw (RunAt 𝓤 H A mem running .pre to-run-at)) (qed W ((‵ (flft κ q) ⊛ ‵ (flft κ′ q′) ⊛ ‵ ftrue) ∷ ‵ (owns (ShrSlice (named 0) κ u8 ∷ usize ∷ F.the-row ∷ MutSlice (named 1) κ′ u8 ∷ []) passed values) ∷ []) ∵ join ! $ frame ! $ by ! (id⊢ 𝓤 _)) $
-          calls-at ! fm (RunAt 𝓤 H A mem running) known to-run-at (and-then ! (load ! (from ! (stop !)) (look ! 13 refl)) (and-then ! (load ! (from ! (stop !)) (look ! 11 refl)) (and-then ! (load ! (from ! (stop !)) (look ! 19 refl)) (and-then ! (load ! (from ! (stop !)) (look ! 7 refl)) (no-more !))))) (λ w.
-          use1 W (later (some (λ (r : RanAt). ((‵ (flft κ q) ⊛ ‵ (flft κ′ q′) ⊛ ‵ ftrue) ⊛ ‵ (R.the-row .own r (w ∷ []))) ⊛ raw (ensured 𝓤 H A at.ended (at.clauses 𝓤 H A mem running) (κ, (κ′, tt)) passed tt r)))) (id⊢ 𝓤 _) $ await ! tt $ pick ! (λ r.
-          -- what `run_at` ensures, at some last list
-          split ! $ move ! (1 ∷ []) $ use1 W (some (λ (ws : Lasts at.ended (κ, (κ′, tt)) passed). ‵ (lasts at.ended (κ, (κ′, tt)) passed ws) ⊛ raw (fact 𝓤 ((r ≡ gives) × (ws .1 .1 .1 .0 ≡ filled))))) (id⊢ 𝓤 _) $ pick ! (λ ws.
-          split ! $ move ! (1 ∷ []) $ heard ! ((r ≡ gives) × (ws .1 .1 .1 .0 ≡ filled)) (λ e.
-          fsplit ! $ move ! (1 ∷ []) $ fsplit ! $ move ! (1 ∷ []) $ fsplit ! $ move ! (1 ∷ []) $ fsplit ! $ fsplit ! $ move ! (1 ∷ []) $ feqL ! (λ l.
-          -- [the last list; …; the tokens and the result; true; what the reader owns; _10; …]
-          move ! (5 ∷ []) $ split ! $ move ! (1 ∷ []) $ peeks ! R.the-row (Is R.the-row) (shows 𝓤 H A R.the-row) r (w ∷ []) (λ is.
+          calls-leaving ! fm at.ended (at.clauses 𝓤 H A mem running) known to-run-at (λ r ws. (r ≡ gives) × (ws .1 .1 .1 .0 ≡ filled)) (id⊢ 𝓤 _) (λ r ws. id⊢ 𝓤 _) (‵ (flft κ q) ⊛ ‵ (flft κ′ q′) ⊛ ‵ ftrue) refl
+          (and-then ! (load ! (from ! (stop !)) (look ! 13 refl)) (and-then ! (load ! (from ! (stop !)) (look ! 11 refl)) (and-then ! (load ! (from ! (stop !)) (look ! 19 refl)) (and-then ! (load ! (from ! (stop !)) (look ! 7 refl)) (no-more !))))) (λ w r ws e is.
+          -- the last list of the buffer is as long as the first
+          move ! (2 ∷ []) $ fsplit ! $ move ! (1 ∷ []) $ fsplit ! $ move ! (1 ∷ []) $ fsplit ! $ move ! (1 ∷ []) $ fsplit ! $ fsplit ! $ move ! (1 ∷ []) $ feqL ! (λ l.
           let parts = LL.owed R.the-type R′.the-laws r _ is in
           let is-r = LL.owes R.the-type R′.the-laws r parts in
           let is-b = LL.owes (B.the-type α) (B′.the-laws α) (back r) (parts .0, (LL.owes (T.the-type α) (T′.the-laws α) (moved r) (LL.owed (T.the-type α) (T′.the-laws α) d _ is-d .0, (parts .1 .0, tt)), tt)) in
           let wr = LL.lawful R.the-type R′.the-laws 𝓤 H A W .typed r _ is-r .0 in
-          -- [the result; the tokens; the last list; …; true; what the reader owns; _10; …]
+          -- [the last list; …; the result; the tokens; true; what the reader owns; _10; …]
           land ! (from ! (stop !)) (init ! 21 refl (LL.lawful R.the-type R′.the-laws 𝓤 H A W .typed r _ is .0)) $ rewrite ! 21 (λ (u : Val). ‵ (fat fullShare R′.mir l₄ 0 u)) (ap (λ (us : List Val). getD us 0 vunit) (LL.tells R.the-type R′.the-laws r _ is)) refl $
           assigns ! (of-opd ! (load ! (from ! (fld ! refl (stop !))) (look-in ! 27 (sub ! 0 refl (whole !))))) (from ! (stop !)) (init ! 11 refl (tt, wt .1 .0)) $
           assigns ! (agg ! (and-then ! (load ! (from ! (stop !)) (look ! 11 refl)) (and-then ! (load ! (from ! (fld ! refl (stop !))) (look-in ! 21 (sub ! 1 refl (whole !)))) (no-more !)))) (from ! (stop !)) (init ! 9 refl (tt, (wt .1 .0, (wr .1 .1 .0, tt)))) $
           assigns ! (agg ! (and-then ! (load ! (from ! (fld ! refl (stop !))) (look-in ! 21 (sub ! 0 refl (whole !)))) (and-then ! (load ! (from ! (stop !)) (look ! 9 refl)) (no-more !)))) (from ! (stop !)) (init ! 29 refl (LL.lawful (B.the-type α) (B′.the-laws α) 𝓤 H A W .typed (back r) _ is-b .0)) $
           returns ! (look ! 29 refl) $ forget ! 9 refl $ forget ! 11 refl $ forget ! 13 refl $ forget ! 15 refl $ forget ! 17 refl $ forget ! 19 refl $ forget ! 21 refl $ forget ! 23 refl $ forget ! 25 refl $ forget ! 27 refl $ forget ! 29 refl $
           move ! (29 ∷ 30 ∷ []) $ free1 ! $ move ! (27 ∷ 28 ∷ []) $ free1 ! $ move ! (25 ∷ 26 ∷ []) $ free1 ! $ move ! (23 ∷ 24 ∷ []) $ free1 ! $ move ! (21 ∷ 22 ∷ []) $ free1 ! $ move ! (19 ∷ 20 ∷ []) $ free1 ! $ move ! (17 ∷ 18 ∷ []) $ free1 ! $ move ! (15 ∷ 16 ∷ []) $ free1 ! $ move ! (13 ∷ 14 ∷ []) $ free1 ! $ move ! (11 ∷ 12 ∷ []) $ free1 ! $ move ! (9 ∷ 10 ∷ []) $ free1 ! $ free0 ! $
-          keep ! (1 ∷ 2 ∷ 8 ∷ []) $ by ! (exits r (ws .1 .1 .1 .0) is-r e l))))))))))))))))))
+          keep ! (6 ∷ 0 ∷ 8 ∷ []) $ by ! (exits r (ws .1 .1 .1 .0) is-r e l))))))))))))))
 
 pub run-spec : {M : Type 1} → stated.statement M
 unfolding code.routine
