@@ -19,3 +19,4 @@ pub mod Ends
 pub mod Inverse
 pub mod Handed
 pub mod Inside
+pub mod Pieces
