@@ -16,6 +16,7 @@ pub mod Runs
 pub mod Loop
 pub mod Parted
 pub mod Ends
-pub mod Wire
+pub mod Inverse
 pub mod Handed
 pub mod Inside
+pub mod Pieces

@@ -2,35 +2,32 @@
 use Prim.Native.Nat.{ℕ, zero, suc, _<_, _≤_, _+_, _*_, _-_, min}
 use mathlib.Core.Path.{_≡_, refl, sym, ap, _∙_}
 use mathlib.Core.List.{List, [], _∷_}
-use native.Mathlib.Nat.{le-of-suc-le-suc, not-suc-le-zero, zero-add, suc-add}
 use native.Mathlib.Omega.{arith}
 use lib.Dec.{lit<}
 use lib.ListN.{length, getD, take, drop, length-take, length-drop, drop-of-length-le}
+use lib.Seq.{getD-take, take-all, drop-drop}
 use borrow.Author.Tests.{le-leb, lt-leb, lt-ltb, le-ltb}
 use Rattle.access.specs.declared.record.Record.{Record}
 use Rattle.access.specs.declared.record.Item.{Item}
 use Rattle.access.specs.declared.record.Item.the-variants.{Whole, Fragment}
 use Rattle.access.specs.declared.reader.Next.{Next}
-use Rattle.access.specs.declared.reader.Next.the-variants.{Item as Left, End}
+use Rattle.access.specs.declared.reader.Next.the-variants.{Item as Stands, End}
+use Rattle.file.specs.declared.registers.File.{File}
+use Rattle.access.specs.declared.reader.RanAt.{RanAt}
+use Rattle.access.specs.declared.running.Ran.{Ran}
 use Rattle.access.specs.Records.{two, four, recordOf, itemOf}
-use Rattle.access.specs.Reader.{nextAt, afterNext}
-
--- an entry of the first so many
-getD-take : {A : Type 0} (n i : ℕ) (xs : List A) (d : A) → i < n → getD (take n xs) i d ≡ getD xs i d
-getD-take zero i xs d h = absurd (not-suc-le-zero h)
-getD-take (suc n) i [] d h = refl
-getD-take (suc n) zero (x ∷ xs) d h = refl
-getD-take (suc n) (suc i) (x ∷ xs) d h = getD-take n i xs d (le-of-suc-le-suc h)
+use Rattle.access.specs.Run.{Ran as Left, run}
+use Rattle.access.specs.Reader.{nextAt, afterNext, afterMany, ranAt}
 
 -- a record is made of its first 8 bytes
 record-taken : (xs : List ℕ) → recordOf (take 8 xs) ≡ recordOf xs
 unfolding recordOf two four
 record-taken xs = λ i.
     record {
-      kind = getD-take 8 0 xs 0 (lit< tt) i;
-      width = getD-take 8 1 xs 0 (lit< tt) i;
-      address = getD-take 8 2 xs 0 (lit< tt) i + 256 * getD-take 8 3 xs 0 (lit< tt) i;
-      value = getD-take 8 4 xs 0 (lit< tt) i + 256 * getD-take 8 5 xs 0 (lit< tt) i + 65536 * (getD-take 8 6 xs 0 (lit< tt) i + 256 * getD-take 8 7 xs 0 (lit< tt) i);
+      kind = getD-take 8 xs 0 0 (lit< tt) i;
+      width = getD-take 8 xs 1 0 (lit< tt) i;
+      address = getD-take 8 xs 2 0 (lit< tt) i + 256 * getD-take 8 xs 3 0 (lit< tt) i;
+      value = getD-take 8 xs 4 0 (lit< tt) i + 256 * getD-take 8 xs 5 0 (lit< tt) i + 65536 * (getD-take 8 xs 6 0 (lit< tt) i + 256 * getD-take 8 xs 7 0 (lit< tt) i);
     }
 
 -- a record that was made of the bytes, two by two
@@ -53,22 +50,16 @@ unfolding itemOf
 fragment-read xs r e h = rw (lt-leb 8 (length (take 8 xs)) (omega (arith, length-take 8 xs))) (ap {B = Item} (λ (s : Record). Fragment s) e)
 
 -- what is left from a position on
-all-taken : {A : Type 0} (n : ℕ) (xs : List A) → length xs ≤ n → take n xs ≡ xs
-all-taken zero [] h = refl
-all-taken zero (x ∷ xs) h = absurd (not-suc-le-zero h)
-all-taken (suc n) [] h = refl
-all-taken (suc n) (x ∷ xs) h = ap (λ (ys : List _). x ∷ ys) (all-taken n xs (le-of-suc-le-suc h))
-
 pub part-left : (xs : List ℕ) (at : ℕ) → take (length xs - at) (drop at xs) ≡ drop at xs
-part-left xs at = all-taken (length xs - at) (drop at xs) (omega (arith, length-drop at xs))
+part-left xs at = take-all (length xs - at) (drop at xs) (omega (arith, length-drop at xs))
 
 pub nothing-left : (xs : List ℕ) (at : ℕ) → length xs ≤ at → take (length xs - length xs) (drop (length xs) xs) ≡ drop at xs
 nothing-left xs at h = part-left xs (length xs) ∙ drop-of-length-le xs {i = length xs} (omega arith) ∙ sym (drop-of-length-le xs {i = at} h)
 
 -- what stands next
-pub next-read : (xs : List ℕ) (at : ℕ) (r : Item) → at < length xs → r ≡ itemOf (take 8 (take (length xs - at) (drop at xs))) → Left r ≡ nextAt xs at
+pub next-read : (xs : List ℕ) (at : ℕ) (r : Item) → at < length xs → r ≡ itemOf (take 8 (take (length xs - at) (drop at xs))) → Stands r ≡ nextAt xs at
 unfolding nextAt
-next-read xs at r h e = rw (lt-ltb at (length xs) h) (ap {B = Next} (λ (i : Item). Left i) (e ∙ ap (λ (ys : List ℕ). itemOf (take 8 ys)) (part-left xs at)))
+next-read xs at r h e = rw (lt-ltb at (length xs) h) (ap {B = Next} (λ (i : Item). Stands i) (e ∙ ap (λ (ys : List ℕ). itemOf (take 8 ys)) (part-left xs at)))
 
 pub end-read : (xs : List ℕ) (at : ℕ) → length xs ≤ at → End ≡ nextAt xs at
 unfolding nextAt
@@ -78,6 +69,12 @@ end-read xs at h = rw (le-ltb at (length xs) h) refl
 pub after-is : (trace : List ℕ) (at : ℕ) → afterNext trace at ≡ at + min 8 (length trace - at)
 unfolding afterNext
 after-is trace at = ap (λ (n : ℕ). at + n) (length-take 8 (drop at trace) ∙ ap (min 8) (length-drop at trace))
+
+-- the same past so many of them
+pub many-after : (trace left : List ℕ) (at count n : ℕ) → left ≡ drop at trace → n ≡ min (8 * count) (length left) → at + n ≡ afterMany count trace at
+unfolding afterMany
+many-after trace left at count n e h =
+    ap (λ (k : ℕ). at + k) (h ∙ ap (λ (l : List ℕ). min (8 * count) (length l)) e ∙ sym (length-take (8 * count) (drop at trace)))
 
 -- what is left past the first so many, however few there are
 drop-taken : {A : Type 0} (n : ℕ) (xs : List A) → drop (length (take n xs)) xs ≡ drop n xs
@@ -89,15 +86,27 @@ pub left-after : (xs : List ℕ) (n m : ℕ) → m ≡ min n (length xs) → dro
 left-after xs n m e = ap (λ (k : ℕ). drop k xs) (e ∙ sym (length-take n xs)) ∙ drop-taken n xs
 
 -- past what stands next, a reader has 8 bytes less to read
-drop-none : {A : Type 0} (n : ℕ) → _≡_ {A = List A} (drop n []) []
-drop-none zero = refl
-drop-none (suc n) = refl
-
-drop-more : {A : Type 0} (m n : ℕ) (xs : List A) → drop (m + n) xs ≡ drop n (drop m xs)
-drop-more zero n xs = ap (λ (k : ℕ). drop k xs) (zero-add n)
-drop-more (suc m) n [] = drop-none (suc m + n) ∙ sym (drop-none n)
-drop-more (suc m) n (x ∷ xs) = ap (λ (k : ℕ). drop k (x ∷ xs)) (suc-add m n) ∙ drop-more m n xs
-
 pub left-past-next : (xs : List ℕ) (at : ℕ) → drop (afterNext xs at) xs ≡ drop 8 (drop at xs)
 unfolding afterNext
-left-past-next xs at = drop-more at (length (take 8 (drop at xs))) xs ∙ drop-taken 8 (drop at xs)
+left-past-next xs at = sym (drop-drop (length (take 8 (drop at xs))) at xs) ∙ drop-taken 8 (drop at xs)
+
+-- past a run, a reader has left what the run leaves
+pub left-past-many : (xs : List ℕ) (at count : ℕ) → drop (afterMany count xs at) xs ≡ drop (8 * count) (drop at xs)
+unfolding afterMany
+left-past-many xs at count = sym (drop-drop (length (take (8 * count) (drop at xs))) at xs) ∙ drop-taken (8 * count) (drop at xs)
+
+-- a run over what is left, and the position after as many as it counts
+pub ran-left : (f : File) (trace left : List ℕ) (at : ℕ) (buffer after : List ℕ) (r : Ran) (n : ℕ) → left ≡ drop at trace
+    → ((r .answer ≡ run f left buffer .answer) × (r .file ≡ run f left buffer .file) × (r .count ≡ run f left buffer .count)) × (after ≡ run f left buffer .buffer)
+    → n ≡ afterMany (r .count) trace at → (_≡_ {A = RanAt} (record { ran = r; at = n }) (ranAt f trace at buffer)) × (after ≡ run f (drop at trace) buffer .buffer)
+unfolding ranAt
+ran-left f trace left at buffer after r n e ((answered, filed, counted), filled) h =
+    let over : (A : Type 0) (part : Left → A) → part (run f left buffer) ≡ part (run f (drop at trace) buffer) = λ A part. ap (λ (l : List ℕ). part (run f l buffer)) e in
+    let count = counted ∙ over _ (λ w. w .count) in (
+      λ i.
+          record {
+            ran = record { answer = (answered ∙ over _ (λ w. w .answer)) i; file = (filed ∙ over _ (λ w. w .file)) i; count = count i };
+            at = (h ∙ ap (λ (k : ℕ). afterMany k trace at) count) i;
+          },
+      filled ∙ over _ (λ w. w .buffer),
+    )

@@ -3,7 +3,7 @@
 use Prim.Native.Nat.{ℕ, _*_, _/_, min}
 use mathlib.Core.Bool.{Bool, cond}
 use mathlib.Core.List.{List, [], _∷_, _++_}
-use lib.ListN.{length, drop}
+use lib.ListN.{length, take, drop}
 use Rattle.file.specs.declared.answer.Answer.{Answer}
 use Rattle.file.specs.declared.answer.Answer.the-variants.{Done, NotSound}
 use Rattle.file.specs.declared.registers.File.{File}
@@ -55,3 +55,10 @@ unfoldable pub run : File → List ℕ → List ℕ → Ran
 run f trace buffer =
     cond (sound f) (ran (runCount trace buffer) f trace buffer)
     (record { answer = NotSound; file = f; count = 0; buffer = buffer; rest = trace })
+
+-- a run over what another leaves, and the bytes that a run fills
+unfoldable pub resumed : Ran → List ℕ → Ran
+resumed r buffer = run (r .file) (r .rest) buffer
+
+unfoldable pub filled : Ran → List ℕ
+filled r = take (8 * r .count) (r .buffer)

@@ -1,56 +1,19 @@
 // A reader: a lent trace, and the position of what is not yet read. The work is done by functions on a slice and a number.
 ghost use mathlib.Core.Path.{_≡_};
-ghost use Prim.Native.Nat.{_+_, _*_, min};
-ghost use lib.ListN.{length, getD, take, drop};
-ghost use Rattle.access.specs.Records.{itemOf};
-ghost use Rattle.access.specs.Reader.{nextAt, afterNext};
+ghost use Prim.Native.Nat.{_*_, min};
+ghost use lib.ListN.{length, drop};
+ghost use Rattle.access.specs.Reader.{nextAt, afterNext, afterMany, ranAt, handedBack};
+ghost use Rattle.access.specs.Run.{run as runOf};
 use crate::record::Item;
-use crate::record::Record;
+use crate::running::Ran;
+use crate::running::run;
+use crate::wire::item_of;
+use file::File;
 
 // What stands next in a trace: a record or the last fragment, or its end.
 pub enum Next {
     Item(Item),
     End,
-}
-
-// A byte; one that is missing counts as zero.
-pub fn byte_at(bytes: &[u8], at: usize) -> u8
-    ensures { λ r. ⌜ r ≡ getD (now (bytes .entry)) at 0 ⌝ }
-{
-    if at < bytes.len() { bytes[at] } else { 0 }
-}
-
-// The number of two bytes, and of two such numbers, the low one first.
-pub fn two(low: u8, high: u8) -> u16
-    ensures { λ r. ⌜ r ≡ low + 256 * high ⌝ }
-{
-    low as u16 + 256 * (high as u16)
-}
-
-fn four(low: u16, high: u16) -> u32
-    ensures { λ r. ⌜ r ≡ low + 65536 * high ⌝ }
-{
-    low as u32 + 65536 * (high as u32)
-}
-
-// The first record of what is left of a trace, or the last fragment.
-fn item_of(left: &[u8]) -> Item
-    ensures { λ r. ⌜ r ≡ itemOf (take 8 (now (left .entry))) ⌝ }
-{
-    let address = two(byte_at(left, 2), byte_at(left, 3));
-    let low = two(byte_at(left, 4), byte_at(left, 5));
-    let high = two(byte_at(left, 6), byte_at(left, 7));
-    let record = Record {
-        kind: byte_at(left, 0),
-        width: byte_at(left, 1),
-        address,
-        value: four(low, high),
-    };
-    if left.len() < 8 {
-        Item::Fragment(record)
-    } else {
-        Item::Whole(record)
-    }
 }
 
 // What is left of a trace from a position on.
@@ -92,10 +55,42 @@ pub fn place_after(trace: &[u8], count: usize) -> usize
     if count <= n / 8 { 8 * count } else { n }
 }
 
+// The position after so many records, or a last fragment among them.
+pub fn after_many(trace: &[u8], at: usize, count: usize) -> usize
+    ensures { λ r. ⌜ r ≡ afterMany count (now (trace .entry)) at ⌝ }
+{
+    let left = left_at(trace, at);
+    at + place_after(left, count)
+}
+
+// What a run from a position on hands back, and the position after it.
+pub struct RanAt {
+    pub ran: Ran,
+    pub at: usize,
+}
+
+// A run over what is left of a trace from a position on.
+pub fn run_at(trace: &[u8], at: usize, whole: File, replies: &mut [u8]) -> RanAt
+    ensures { λ r. ⌜ (r ≡ ranAt whole (now (trace .entry)) at (now (replies .entry))) × (now (replies .exit) ≡ runOf whole (drop at (now (trace .entry))) (now (replies .entry)) .buffer) ⌝ }
+{
+    let left = left_at(trace, at);
+    let ran = run(whole, left, replies);
+    RanAt {
+        ran,
+        at: after_many(trace, at, ran.count),
+    }
+}
+
 // A lent trace, and the position of what is not yet read.
 pub struct Reader<'a> {
     pub trace: &'a [u8],
     pub at: usize,
+}
+
+// What a reader's run hands back: what the run gives, and the reader of the part not yet read.
+pub struct HandedBack<'a> {
+    pub ran: Ran,
+    pub reader: Reader<'a>,
 }
 
 impl<'a> Reader<'a> {
@@ -123,6 +118,20 @@ impl<'a> Reader<'a> {
         }
     }
 
+    // A run over what is left into a reply buffer; the reader comes back past what was read.
+    pub fn run(self, whole: File, replies: &mut [u8]) -> HandedBack<'a>
+        ensures { λ r. ⌜ (r ≡ handedBack whole (self .entry) (now (replies .entry))) × (now (replies .exit) ≡ runOf whole (drop (self .entry .at) (now (self .entry .trace))) (now (replies .entry)) .buffer) ⌝ }
+    {
+        let after = run_at(self.trace, self.at, whole, replies);
+        HandedBack {
+            ran: after.ran,
+            reader: Reader {
+                trace: self.trace,
+                at: after.at,
+            },
+        }
+    }
+
     // The part of the trace not yet read.
     pub fn rest(self) -> &'a [u8]
         ensures { λ r. ⌜ now r ≡ drop (self .entry .at) (now (self .entry .trace)) ⌝ }
@@ -137,4 +146,33 @@ pub fn unread<'a>(trace: &'a [u8], count: usize) -> &'a [u8]
 {
     let at = place_after(trace, count);
     Reader { trace, at }.rest()
+}
+
+// What stands at a position of a trace, and the position past it.
+pub struct NextAt {
+    pub next: Next,
+    pub at: usize,
+}
+
+// A reader's step, from a position to the next.
+pub fn next_from<'a>(trace: &'a [u8], at: usize) -> NextAt
+    ensures { λ r. ⌜ (r .next ≡ nextAt (now (trace .entry)) at) × (r .at ≡ afterNext (now (trace .entry)) at) ⌝ }
+{
+    let reader = Reader { trace, at };
+    let next = reader.next();
+    NextAt {
+        next,
+        at: reader.advanced().at,
+    }
+}
+
+// A reader's run, from a position to the one after it.
+pub fn run_from<'a>(trace: &'a [u8], at: usize, whole: File, replies: &mut [u8]) -> RanAt
+    ensures { λ r. ⌜ (r ≡ ranAt whole (now (trace .entry)) at (now (replies .entry))) × (now (replies .exit) ≡ runOf whole (drop at (now (trace .entry))) (now (replies .entry)) .buffer) ⌝ }
+{
+    let back = Reader { trace, at }.run(whole, replies);
+    RanAt {
+        ran: back.ran,
+        at: back.reader.at,
+    }
 }

@@ -8,7 +8,7 @@ ghost use lib.ListN.{length, getD, take, drop, set};
 ghost use Rattle.bits.specs.Store.{store as storeBits};
 ghost use Rattle.file.specs.Sound.{allWithin, sound};
 ghost use Rattle.access.specs.Access.{replyTo};
-ghost use Rattle.access.specs.Records.{two, recordOf, replyBytes, items};
+ghost use Rattle.access.specs.Records.{recordOf, replyBytes, items};
 ghost use Rattle.file.specs.declared.answer.Answer.the-variants.{Done as DoneAnswer, Malformed as MalformedAnswer};
 ghost use Rattle.file.specs.Effects.{apply as applyTo};
 ghost use Rattle.file.specs.declared.registers.File.{File as FileOf};
@@ -20,8 +20,11 @@ ghost use Rattle.access.specs.Looked.{shownIn, atPixels};
 ghost use Rattle.access.specs.Cells.{cellTable};
 use crate::decode;
 use crate::engine;
-use crate::reader;
 use crate::record::Record;
+use crate::wire::byte_at;
+use crate::wire::put_reply;
+use crate::wire::record_at;
+use crate::wire::two;
 use file::Answer;
 use file::Colour;
 use file::Effect;
@@ -34,54 +37,6 @@ pub struct Ran {
     pub answer: Answer,
     pub file: File,
     pub count: usize,
-}
-
-fn narrow(x: u8) -> u16
-    ensures { λ r. ⌜ (r ≡ x) × (r < 256) ⌝ }
-{
-    x as u16
-}
-
-fn widen(x: u16) -> u32
-    ensures { λ r. ⌜ (r ≡ x) × (r < 65536) ⌝ }
-{
-    x as u32
-}
-
-// Two bytes of a trace, little-endian.
-fn two_at(trace: &[u8], at: usize) -> u16
-    requires { ⌜ at + 2 ≤ length (now trace) ⌝ }
-    ensures { λ r. ⌜ r ≡ two (now (trace .entry)) at ⌝ }
-{
-    narrow(trace[at]) + 256 * narrow(trace[at + 1])
-}
-
-// The whole record of a trace from a place on.
-fn record_at(trace: &[u8], at: usize) -> Record
-    requires { ⌜ at + 8 ≤ length (now trace) ⌝ }
-    ensures { λ r. ⌜ r ≡ recordOf (take 8 (drop at (now (trace .entry)))) ⌝ }
-{
-    Record {
-        kind: trace[at],
-        width: trace[at + 1],
-        address: two_at(trace, at + 2),
-        value: widen(two_at(trace, at + 4)) + 65536 * widen(two_at(trace, at + 6)),
-    }
-}
-
-// A reply's 8 bytes, from a place of the buffer on.
-fn put_reply(replies: &mut [u8], at: usize, kind: u8, address: u16, code: u8, value: u16)
-    requires { ⌜ at + 8 ≤ length (now replies) ⌝ }
-    ensures { λ _. ⌜ now (replies .exit) ≡ take at (now (replies .entry)) ++ replyBytes (record { code = code; kind = kind; address = address; value = value }) ++ drop (at + 8) (now (replies .entry)) ⌝ }
-{
-    replies[at] = code;
-    replies[at + 1] = kind;
-    replies[at + 2] = (address % 256) as u8;
-    replies[at + 3] = (address / 256) as u8;
-    replies[at + 4] = (value % 256) as u8;
-    replies[at + 5] = (value / 256) as u8;
-    replies[at + 6] = 0;
-    replies[at + 7] = 0;
 }
 
 // One of two colours.
@@ -281,9 +236,9 @@ fn put_fragment(trace: &[u8], replies: &mut [u8], at: usize)
     requires { ⌜ at + 8 ≤ length (now replies) ⌝ }
     ensures { λ _. ⌜ now (replies .exit) ≡ take at (now (replies .entry)) ++ replyBytes (replyTo (recordOf (take 8 (drop at (now (trace .entry))))) MalformedAnswer) ++ drop (at + 8) (now (replies .entry)) ⌝ }
 {
-    let low = reader::byte_at(trace, at + 2);
-    let high = reader::byte_at(trace, at + 3);
-    put_reply(replies, at, trace[at], reader::two(low, high), 2, 0);
+    let low = byte_at(trace, at + 2);
+    let high = byte_at(trace, at + 3);
+    put_reply(replies, at, trace[at], two(low, high), 2, 0);
 }
 
 // A run from a sound file.

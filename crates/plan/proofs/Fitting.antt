@@ -24,7 +24,7 @@ use Rattle.access.specs.Places.{Row, places, each, attributePorts, generalPorts
 use Rattle.access.specs.Records.{bytesOf, itemOf, items}
 use Rattle.access.specs.Run.{answers}
 use Rattle.access.proofs.Rows.{every, Passes, row-passes}
-use Rattle.access.proofs.Wire.{record-of-bytes}
+use Rattle.access.proofs.Inverse.{record-of-bytes}
 use Rattle.plan.specs.Restores.{accepted, allAccepted, inBytes, allInBytes, traceOf}
 
 -- ---- what an accepted record passed

@@ -5,6 +5,7 @@ ghost use Prim.Native.Nat.{_+_, _*_, _≤_};
 ghost use lib.ListN.{length, take, drop};
 ghost use Rattle.access.specs.Records.{bytesOf, recordOf};
 use access::Record;
+use access::record_of;
 
 // Writes a record: 8 bytes, little-endian.
 pub fn put(buffer: &mut [u8], k: usize, written: Record)
@@ -22,33 +23,12 @@ pub fn put(buffer: &mut [u8], k: usize, written: Record)
     buffer[at + 7] = (written.value / 16777216) as u8;
 }
 
-// The number of two bytes, little-endian.
-fn two(low: u8, high: u8) -> u16
-    ensures { λ r. ⌜ r ≡ low + 256 * high ⌝ }
-{
-    low as u16 + 256 * (high as u16)
-}
-
-// The number of four bytes, from two of two.
-fn four(low: u16, high: u16) -> u32
-    ensures { λ r. ⌜ r ≡ low + 65536 * high ⌝ }
-{
-    low as u32 + 65536 * (high as u32)
-}
-
 // Reads a record back.
 pub fn record_in(buffer: &[u8], k: usize) -> Record
     requires { ⌜ 8 * k + 8 ≤ length (now buffer) ⌝ }
     ensures { λ r. ⌜ r ≡ recordOf (take 8 (drop (8 * k) (now (buffer .entry)))) ⌝ }
 {
     let at = 8 * k;
-    Record {
-        kind: buffer[at],
-        width: buffer[at + 1],
-        address: two(buffer[at + 2], buffer[at + 3]),
-        value: four(
-            two(buffer[at + 4], buffer[at + 5]),
-            two(buffer[at + 6], buffer[at + 7]),
-        ),
-    }
+    let bytes = &buffer[at..];
+    record_of(bytes)
 }

@@ -1,65 +1,31 @@
 -- `put_fragment` meets its contract. Assumes nothing.
 use Prim.Native.Nat.{ℕ, _+_, _*_}
-use mathlib.Core.Path.{sym, ap, ap₂, _∙_}
+use mathlib.Core.Path.{refl, ap, ap₂, _∙_}
 use mathlib.Core.List.{List, _++_}
-use native.Mathlib.Nat.{add-assoc}
-use lib.ListN.{getD, take, drop}
+use lib.ListN.{take, drop}
 use Rattle.file.specs.Answers.{codeOf, valueOf}
 use Rattle.access.specs.declared.record.Record.{Record}
 use Rattle.access.specs.Access.{replyTo}
-use Rattle.access.specs.Records.{two, replyBytes}
-use Rattle.access.proofs.Bytes.{record-there}
+use Rattle.access.specs.Records.{replyBytes}
+use Rattle.access.proofs.Bytes.{record-at-place}
 use borrow.Author.Needs.{needs}
 use Rattle.access.proofs.running.put_fragment.Statement.{statement}
 use Rattle.access.proofs.running.put_fragment.Tie as tie
 
-add-byte-at : tie.Need-add-byte-at
-add-byte-at c = search needs
-
-byte-at-requires : tie.Need-byte-at-requires
-byte-at-requires c κs = search needs
-
-add-byte-at-2 : tie.Need-add-byte-at-2
-add-byte-at-2 c = search needs
-
-byte-at-requires-2 : tie.Need-byte-at-requires-2
-byte-at-requires-2 c κs = search needs
-
-shared-slice-read-put-reply : tie.Need-shared-slice-read-put-reply
-shared-slice-read-put-reply c = search needs
-
-two-requires : tie.Need-two-requires
-two-requires c κs = search needs
-
-put-reply-requires : tie.Need-put-reply-requires
-put-reply-requires c κs = search needs
-
-same-length : tie.Need-same-length
-same-length c = search needs
-
 returns : tie.Need-returns
-unfolding two replyTo codeOf valueOf
+unfolding replyTo codeOf valueOf
 returns c =
     let start = c .before .before .before .before .before .before .before .before .before .before in
     let trace = start .args .trace .now in
     let at = start .args .at in
     let address = c .before .before .before .two .ensures
-    ∙ ap₂ (λ (x y : ℕ). x + 256 * y) (c .before .before .before .before .before .before .before .byte-at .ensures) (c .before .before .before .before .before .before .byte-at2 .ensures ∙ ap (λ (n : ℕ). getD trace n 0) (sym (add-assoc at 2 1))) in
+    ∙ ap₂ (λ (x y : ℕ). x + 256 * y) (c .before .before .before .before .before .before .before .byte-at .ensures) (c .before .before .before .before .before .before .byte-at2 .ensures) in
     c .before .before .put-reply .ensures
     ∙ ap (λ (l : List ℕ). take at (start .args .replies .now) ++ l ++ drop (at + 8) (start .args .replies .now))
-    (ap (λ (a : ℕ). replyBytes (record { code = 2; kind = getD trace at 0; address = a; value = 0 })) address
-    ∙ sym (ap (λ (r : Record). replyBytes (record { code = 2; kind = r .kind; address = r .address; value = 0 })) (record-there trace at)))
+    (ap (λ (r : Record). replyBytes (record { code = 2; kind = r .kind; address = r .address; value = 0 })) (record-at-place trace at _ _ _ _ address refl refl refl))
 
 pub put-fragment-spec : {M : Type 1} → statement M
 put-fragment-spec =
     tie.close
-    (tie.spec
-    add-byte-at
-    byte-at-requires
-    add-byte-at-2
-    byte-at-requires-2
-    shared-slice-read-put-reply
-    two-requires
-    put-reply-requires
-    same-length
-    returns)
+    (tie.spec (λ c. search needs) (λ c κs. search needs) (λ c. search needs) (λ c κs. search needs) (λ c. search needs)
+    (λ c κs. search needs) (λ c κs. search needs) (λ c. search needs) returns)

@@ -1,0 +1,19 @@
+-- `record_of` meets its contract. Assumes nothing.
+use Rattle.access.proofs.Reading.{record-read}
+use borrow.Author.Needs.{needs}
+use Rattle.access.proofs.wire.record_of.Statement.{statement}
+use Rattle.access.proofs.wire.record_of.Tie as tie
+
+returns : tie.Need-returns
+returns c =
+    record-read (c .before .before .before .before .before .before .before .before .before .before .before .before .before .args .bytes .now) (c .before .before .byte-at7 .ensures) (c .before .byte-at8 .ensures)
+    (c .before .before .before .before .before .before .before .before .before .before .before .byte-at .ensures) (c .before .before .before .before .before .before .before .before .before .before .byte-at2 .ensures) (c .before .before .before .before .before .before .before .before .byte-at3 .ensures) (c .before .before .before .before .before .before .before .byte-at4 .ensures)
+    (c .before .before .before .before .before .byte-at5 .ensures) (c .before .before .before .before .byte-at6 .ensures)
+    (c .before .before .before .before .before .before .before .before .before .two .ensures) (c .before .before .before .before .before .before .two2 .ensures) (c .before .before .before .two3 .ensures) (c .four .ensures)
+
+pub record-of-spec : {M : Type 1} → statement M
+record-of-spec =
+    tie.close
+    (tie.spec (λ c κs. search needs) (λ c κs. search needs) (λ c κs. search needs) (λ c κs. search needs) (λ c κs. search needs)
+    (λ c κs. search needs) (λ c κs. search needs) (λ c κs. search needs) (λ c κs. search needs) (λ c κs. search needs)
+    (λ c κs. search needs) (λ c κs. search needs) returns)

@@ -1,0 +1,118 @@
+// Records and replies as bytes: 8 each, little-endian.
+ghost use mathlib.Core.Path.{_≡_};
+ghost use mathlib.Core.List.{_++_};
+ghost use Prim.Native.Nat.{_+_, _*_, _≤_};
+ghost use lib.ListN.{length, getD, take, drop};
+ghost use Rattle.access.specs.Records.{recordOf, bytesOf, replyBytes, itemOf};
+use crate::record::Item;
+use crate::record::Record;
+use crate::record::Reply;
+
+// A byte; one that is missing counts as zero.
+pub fn byte_at(bytes: &[u8], at: usize) -> u8
+    ensures { λ r. ⌜ r ≡ getD (now (bytes .entry)) at 0 ⌝ }
+{
+    if at < bytes.len() { bytes[at] } else { 0 }
+}
+
+// The number of two bytes, and of two such numbers, the low one first.
+pub fn two(low: u8, high: u8) -> u16
+    ensures { λ r. ⌜ r ≡ low + 256 * high ⌝ }
+{
+    low as u16 + 256 * (high as u16)
+}
+
+pub fn four(low: u16, high: u16) -> u32
+    ensures { λ r. ⌜ r ≡ low + 65536 * high ⌝ }
+{
+    low as u32 + 65536 * (high as u32)
+}
+
+// The record of the first 8 bytes; a missing one counts as zero, and what stands behind them isn't looked at.
+pub fn record_of(bytes: &[u8]) -> Record
+    ensures { λ r. ⌜ r ≡ recordOf (take 8 (now (bytes .entry))) ⌝ }
+{
+    let address = two(byte_at(bytes, 2), byte_at(bytes, 3));
+    let low = two(byte_at(bytes, 4), byte_at(bytes, 5));
+    let high = two(byte_at(bytes, 6), byte_at(bytes, 7));
+    Record {
+        kind: byte_at(bytes, 0),
+        width: byte_at(bytes, 1),
+        address,
+        value: four(low, high),
+    }
+}
+
+// The same, with the mark of a fragment.
+pub fn item_of(bytes: &[u8]) -> Item
+    ensures { λ r. ⌜ r ≡ itemOf (take 8 (now (bytes .entry))) ⌝ }
+{
+    let record = record_of(bytes);
+    if bytes.len() < 8 {
+        Item::Fragment(record)
+    } else {
+        Item::Whole(record)
+    }
+}
+
+// The record of a place where 8 bytes stand.
+pub fn record_at(bytes: &[u8], at: usize) -> Record
+    requires { ⌜ at + 8 ≤ length (now bytes) ⌝ }
+    ensures { λ r. ⌜ r ≡ recordOf (take 8 (drop at (now (bytes .entry)))) ⌝ }
+{
+    let low = two(bytes[at + 4], bytes[at + 5]);
+    let high = two(bytes[at + 6], bytes[at + 7]);
+    Record {
+        kind: bytes[at],
+        width: bytes[at + 1],
+        address: two(bytes[at + 2], bytes[at + 3]),
+        value: four(low, high),
+    }
+}
+
+// A record's 8 bytes.
+pub fn record_bytes(asked: Record) -> [u8; 8]
+    ensures { λ r. ⌜ r ≡ bytesOf asked ⌝ }
+{
+    [
+        asked.kind,
+        asked.width,
+        (asked.address % 256) as u8,
+        (asked.address / 256) as u8,
+        (asked.value % 256) as u8,
+        (asked.value / 256 % 256) as u8,
+        (asked.value / 65536 % 256) as u8,
+        (asked.value / 16777216) as u8,
+    ]
+}
+
+// A reply's 8 bytes.
+pub fn reply_bytes(reply: Reply) -> [u8; 8]
+    ensures { λ r. ⌜ r ≡ replyBytes reply ⌝ }
+{
+    [
+        reply.code,
+        reply.kind,
+        (reply.address % 256) as u8,
+        (reply.address / 256) as u8,
+        (reply.value % 256) as u8,
+        (reply.value / 256) as u8,
+        0,
+        0,
+    ]
+}
+
+// The same, from a place of a buffer on.
+pub fn put_reply(replies: &mut [u8], at: usize, kind: u8, address: u16, code: u8, value: u16)
+    requires { ⌜ at + 8 ≤ length (now replies) ⌝ }
+    ensures { λ _. ⌜ now (replies .exit) ≡ take at (now (replies .entry)) ++ replyBytes (record { code = code; kind = kind; address = address; value = value }) ++ drop (at + 8) (now (replies .entry)) ⌝ }
+{
+    replies[at] = code;
+    replies[at + 1] = kind;
+    replies[at + 2] = (address % 256) as u8;
+    replies[at + 3] = (address / 256) as u8;
+    replies[at + 4] = (value % 256) as u8;
+    replies[at + 5] = (value / 256) as u8;
+    replies[at + 6] = 0;
+    replies[at + 7] = 0;
+}

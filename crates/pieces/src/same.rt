@@ -1,0 +1,48 @@
+// Whether two buffers hold the same bytes, and whether two files are the same.
+use file::Colour;
+use file::File;
+use file::Pointer;
+
+pub fn same_bytes(a: &[u8; 216], b: &[u8; 216]) -> bool {
+    let mut n: usize = 0;
+    while n < 216 {
+        if a[n] != b[n] {
+            return false;
+        }
+        n += 1;
+    }
+    true
+}
+
+fn same_colour(a: Colour, b: Colour) -> bool {
+    a.red == b.red && a.green == b.green && a.blue == b.blue
+}
+
+fn same_pointer(a: Pointer, b: Pointer) -> bool {
+    a.address == b.address
+        && a.reading == b.reading
+        && a.next == b.next
+        && a.red == b.red
+        && a.green == b.green
+}
+
+// A register, an entry of the palette and one of the bank, each by a number modulo how many there are.
+fn same_at(a: File, b: File, n: usize) -> bool {
+    let register = n % 100;
+    let entry = n % 256;
+    let within = n % 16;
+    a.registers[register] == b.registers[register]
+        && same_colour(a.palette[entry], b.palette[entry])
+        && same_colour(a.bank[within], b.bank[within])
+}
+
+pub fn same_files(a: File, b: File) -> bool {
+    let mut n: usize = 0;
+    while n < 256 {
+        if !same_at(a, b, n) {
+            return false;
+        }
+        n += 1;
+    }
+    a.toggle == b.toggle && same_pointer(a.pointer, b.pointer)
+}
