@@ -8,6 +8,10 @@ ghost use mathlib.Core.Bool.{cond};
 ghost use Rattle.file.specs.Registers.{storedTable};
 ghost use Rattle.file.specs.Sound.{allWithin};
 use crate::place::Place;
+use file::ARX;
+use file::CRX;
+use file::GRX;
+use file::SRX;
 
 // The cell where nothing is held.
 pub const NOTHING: u8 = 127;
@@ -173,11 +177,11 @@ pub fn place_in(cells: &[u8; 534], registers: &[u16; 100], toggle: bool, cell: u
         return plain(cell);
     }
     match cell {
-        111 => plain(cells[96 + wide(registers[1])]),
-        112 => plain(cells[128 + wide(registers[2])]),
-        113 => plain(cells[192 + wide(registers[3])]),
-        114 => plain(cells[256 + wide(registers[4] % 32)]),
-        115 => attribute(toggle, cells[256 + wide(registers[4] % 32)]),
+        111 => plain(cells[96 + wide(registers[SRX])]),
+        112 => plain(cells[128 + wide(registers[CRX])]),
+        113 => plain(cells[192 + wide(registers[GRX])]),
+        114 => plain(cells[256 + wide(registers[ARX] % 32)]),
+        115 => attribute(toggle, cells[256 + wide(registers[ARX] % 32)]),
         _ => Place::NoRegister,
     }
 }

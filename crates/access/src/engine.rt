@@ -18,9 +18,17 @@ ghost use Rattle.file.specs.declared.effect.Effect.the-variants.{Nothing, Store
 use crate::decode;
 use crate::place::Place;
 use crate::record::Record;
+use file::ARX;
 use file::Answer;
+use file::B0;
+use file::CR0;
+use file::CR6;
+use file::CR7;
+use file::CR11;
 use file::Effect;
 use file::File;
+use file::MISC;
+use file::PCI04;
 use file::Pointer;
 
 // What the common checks say: a refusal, or the cell of the place to be asked.
@@ -62,7 +70,7 @@ fn is_space_off(registers: &[u16; 100], asked: Record) -> bool
     ensures { λ r. ⌜ r ≡ spaceOff (seen (now (registers .entry)) false) asked ⌝ }
 {
     let space = asked.kind / 2;
-    let enables = registers[6];
+    let enables = registers[PCI04];
     if space == 1 {
         return enables % 2 == 0;
     }
@@ -80,7 +88,7 @@ fn is_other_half(registers: &[u16; 100], asked: Record) -> bool
 {
     let space = asked.kind / 2;
     let row = asked.address / 16;
-    let half = registers[0] % 2;
+    let half = registers[MISC] % 2;
     if space != 1 {
         return false;
     }
@@ -122,8 +130,8 @@ fn is_locked_out(registers: &[u16; 100], number: usize) -> bool
     ensures { λ r. ⌜ r ≡ lockedOut (seen (now (registers .entry)) false) number ⌝ }
 {
     if is_locked(registers) {
-        if 25 <= number {
-            return number <= 31;
+        if CR0 <= number {
+            return number <= CR6;
         }
     }
     false
@@ -132,7 +140,7 @@ fn is_locked_out(registers: &[u16; 100], number: usize) -> bool
 fn is_locked(registers: &[u16; 100]) -> bool
     ensures { λ r. ⌜ r ≡ crtcLocked (seen (now (registers .entry)) false) ⌝ }
 {
-    registers[42] / 128 % 2 == 1
+    registers[CR11] / 128 % 2 == 1
 }
 
 // The stored bits of every register. They are made once and lent, as the cells are.
@@ -154,7 +162,7 @@ fn reach_in(stored: &[u16; 100], registers: &[u16; 100], number: usize) -> u16
     requires { ⌜ now stored ≡ storedTable ⌝ }
     ensures { λ r. ⌜ r ≡ reachIn (seen (now (registers .entry)) false) number ⌝ }
 {
-    if number != 32 {
+    if number != CR7 {
         return stored_bits(stored, number);
     }
     if is_locked(registers) {
@@ -167,14 +175,14 @@ fn reach_in(stored: &[u16; 100], registers: &[u16; 100], number: usize) -> u16
 fn is_palette_up(registers: &[u16; 100]) -> bool
     ensures { λ r. ⌜ r ≡ paletteUp (seen (now (registers .entry)) false) ⌝ }
 {
-    registers[85] / 128 % 2 == 0
+    registers[B0] / 128 % 2 == 0
 }
 
 // The pointer's entry is one of the bank's.
 pub fn is_in_bank(registers: &[u16; 100]) -> bool
     ensures { λ r. ⌜ r ≡ inBank (seen (now (registers .entry)) false) ⌝ }
 {
-    registers[85] / 8 % 2 == 1
+    registers[B0] / 8 % 2 == 1
 }
 
 fn low(value: u16) -> u8
@@ -297,7 +305,7 @@ fn write_at(
             reach: reach_in(stored, registers, number),
             value,
         }),
-        Place::PaletteState => done(store(stored, registers, 85, value)),
+        Place::PaletteState => done(store(stored, registers, B0, value)),
         Place::ReadAddress => done(Effect::Move(Pointer::addressed(true, low(value)))),
         Place::WriteAddress => done(Effect::Move(Pointer::addressed(false, low(value)))),
         Place::PixelData => {
@@ -349,8 +357,8 @@ fn read_at(
         Place::Attribute(_) => only(Answer::Done(0)),
         Place::Fixed(value) => only(Answer::Done(value)),
         Place::ToggleState => only(Answer::Done(if toggle { 0x80 } else { 0 })),
-        Place::AttributeIndex => only(Answer::Done(registers[4])),
-        Place::PaletteState => only(Answer::Done(registers[85] + pointer.palette_state())),
+        Place::AttributeIndex => only(Answer::Done(registers[ARX])),
+        Place::PaletteState => only(Answer::Done(registers[B0] + pointer.palette_state())),
         Place::ReadAddress => only(Answer::Done(pointer.dac_state())),
         Place::WriteAddress => only(Answer::Done(pointer.address as u16)),
         Place::PixelData => read_pixel(registers, pointer, shown),

@@ -1,6 +1,7 @@
 // The register file of the CL-GD546X as a value: registers, palette, bank, pointer and toggle; what an access may do to it.
 mod answer;
 mod effect;
+mod numbered;
 mod palette;
 mod pointer;
 mod readers;
@@ -10,6 +11,18 @@ mod sound;
 pub use answer::Answer;
 pub use effect::Effect;
 pub use effect::Reach;
+pub use numbered::ARX;
+pub use numbered::B0;
+pub use numbered::CR0;
+pub use numbered::CR1B;
+pub use numbered::CR6;
+pub use numbered::CR7;
+pub use numbered::CR11;
+pub use numbered::CRX;
+pub use numbered::GRX;
+pub use numbered::MISC;
+pub use numbered::PCI04;
+pub use numbered::SRX;
 pub use palette::Colour;
 pub use palette::Pointer;
 pub use pointer::read_pixel;

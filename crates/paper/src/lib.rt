@@ -2,9 +2,7 @@
 ghost use mathlib.Core.Path.{_≡_};
 ghost use Rattle.paper.specs.Examples.{setRegister, started, opened as openedSettings};
 use file::File;
-
-// The number of PCI04 among the registers.
-const PCI04: usize = 6;
+use file::PCI04;
 
 // A register set by its mask constant; a number that no register has changes nothing.
 pub fn set_register(file: File, number: usize, value: u16) -> File

@@ -11,6 +11,8 @@ ghost use lib.ListN.{getD};
 ghost use Rattle.bits.specs.Store.{bit};
 ghost use mathlib.Core.List.{[]};
 use file::Answer;
+use file::CR1B;
+use file::CR11;
 use file::File;
 
 // Character clocks.
@@ -120,11 +122,6 @@ impl Timing {
         ]
     }
 }
-
-// The registers that say how the numbers stand and whether they may change, by their numbers in the file.
-const CR11: usize = 42;
-
-const CR1B: usize = 52;
 
 // One bit of a register.
 fn is_set(value: u16, place: u16) -> bool
