@@ -681,3 +681,120 @@ uint8_t sc_window2_read(const struct sc_file *f, struct sc_window2 *w)
     w->blt_scanlines[1] = 64 * (f->pipe[SC_D5] & 0x3F);
     return SC_DONE;
 }
+
+/*
+ * ---- Plan ----
+ * Written with the proved plan in sight: it is no measure of a plan's bytes, but what the wrong
+ * plans of tests/mistakes.py are copies of, and what bench/ counts beside the proved one.
+ */
+
+/* One record at the end of a plan; the plan's new end. */
+static uint8_t *put(uint8_t *end, uint8_t kind, uint8_t width, uint16_t address, uint16_t value)
+{
+    const uint8_t record[SC_RECORD_BYTES] = {
+        kind, width, address & 0xFF, address >> 8, value & 0xFF, value >> 8,
+    };
+
+    memcpy(end, record, sizeof record);
+    return end + sizeof record;
+}
+
+static uint8_t *put_port(uint8_t *end, uint16_t address, uint8_t value)
+{
+    return put(end, SC_PORT_WRITE, 1, address, value);
+}
+
+static uint8_t *put_mmio(uint8_t *end, uint16_t address, uint8_t value)
+{
+    return put(end, SC_MMIO_WRITE, 1, address, value);
+}
+
+/* A 3?Ah read under the wanted MISC: the toggle at index. */
+static uint8_t *put_status(uint8_t *end, const struct sc_file *w)
+{
+    return put(end, SC_PORT_READ, 1, w->misc & MISC_COLOUR ? 0x3DA : 0x3BA, 0);
+}
+
+/* 01 "Mistakes that look right": what the start may shut or turn is set before it is relied on. */
+static uint8_t *put_opening(uint8_t *end, const struct sc_file *w)
+{
+    end = put(end, SC_CONFIG_WRITE, 2, 0x04, 0x0003);
+    end = put_mmio(end, 0x44, 0);
+    end = put_mmio(end, 0x80, w->misc);
+    return put_status(end, w);
+}
+
+/* The palette or, with B0[3]=1, the bank: from entry 0, three bytes each. */
+static uint8_t *put_entries(uint8_t *end, uint8_t b0, const uint8_t *component, size_t count)
+{
+    end = put_mmio(end, 0xB0, b0);
+    end = put_mmio(end, 0xA8, 0);
+    for (size_t i = 0; i < count; i++)
+        end = put_mmio(end, 0xAC, component[i]);
+    return end;
+}
+
+/* Index and data of every register of a group that stores anything. */
+static uint8_t *put_group(uint8_t *end, uint16_t index, uint16_t data, const uint8_t *bank,
+                          const uint8_t *mask, uint8_t count)
+{
+    for (uint8_t i = 0; i < count; i++)
+        if (mask[i]) {
+            end = put_port(end, index, i);
+            end = put_port(end, data, bank[i]);
+        }
+    return end;
+}
+
+/* CR11 and B0 wait for the closing. */
+static uint8_t *put_registers(uint8_t *end, const struct sc_file *w)
+{
+    for (uint8_t i = 0; i < SC_CRS; i++)
+        if (cr_mask[i] && i != 0x11)
+            end = put_mmio(end, 4 * i, w->cr[i]);
+    for (uint8_t i = SC_B0 + 1; i < SC_PIPES; i++)
+        end = put(end, SC_MMIO_WRITE, pipes[i].width, pipes[i].offset, w->pipe[i]);
+    end = put_mmio(end, 0xA0, w->pixel_mask);
+    end = put_group(end, 0x3C4, 0x3C5, w->sr, sr_mask, SC_SRS);
+    end = put_group(end, 0x3CE, 0x3CF, w->gr, gr_mask, SC_GRS);
+    return put_group(end, 0x3C0, 0x3C0, w->ar, ar_mask, SC_ARS);
+}
+
+/* The index written to 3C0h leaves the toggle at data. */
+static uint8_t *put_indices(uint8_t *end, const struct sc_file *w)
+{
+    end = put_port(end, 0x3C4, w->srx);
+    end = put_port(end, 0x3CE, w->grx);
+    end = put_port(end, w->misc & MISC_COLOUR ? 0x3D4 : 0x3B4, w->crx);
+    end = put_port(end, 0x3C0, w->arx);
+    return w->data_next ? end : put_status(end, w);
+}
+
+static uint8_t *put_closing(uint8_t *end, const struct sc_file *w)
+{
+    end = put_mmio(end, w->pointer.reading ? 0xA4 : 0xA8, w->pointer.address);
+    end = put_mmio(end, 0xB0, w->pipe[SC_B0]);
+    end = put_mmio(end, 0x44, w->cr[0x11]);
+    return put(end, SC_CONFIG_WRITE, 2, 0x04, w->pci04);
+}
+
+uint8_t sc_plan(const struct sc_file *wanted, uint8_t *buffer, size_t room, size_t *count)
+{
+    uint8_t *end = buffer;
+
+    *count = 0;
+    if (!sc_sound(wanted))
+        return SC_UNSOUND;
+    if (wanted->pointer.colour != SC_RED)
+        return SC_NOT_BEFORE_RED;
+    if (room < SC_PLAN_BYTES)
+        return SC_SHORT_BUFFER;
+    end = put_opening(end, wanted);
+    end = put_entries(end, 0, wanted->palette[0], sizeof wanted->palette);
+    end = put_entries(end, B0_BANK, wanted->bank[0], sizeof wanted->bank);
+    end = put_registers(end, wanted);
+    end = put_indices(end, wanted);
+    end = put_closing(end, wanted);
+    *count = (size_t)(end - buffer) / SC_RECORD_BYTES;
+    return SC_DONE;
+}

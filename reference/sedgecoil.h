@@ -24,7 +24,9 @@ enum sc_code {
     SC_LOCKED = 8,
     SC_POWERED_DOWN = 9,
     SC_OUT_OF_RANGE = 10,
-    SC_UNSOUND = 12
+    SC_SHORT_BUFFER = 11,
+    SC_UNSOUND = 12,
+    SC_NOT_BEFORE_RED = 13
 };
 
 /* 01 "Accesses and replies": byte 0 of a record. */
@@ -37,7 +39,7 @@ enum sc_kind {
     SC_MMIO_WRITE
 };
 
-enum { SC_RECORD_BYTES = 8, SC_REPLY_BYTES = 8 };
+enum { SC_RECORD_BYTES = 8, SC_REPLY_BYTES = 8, SC_PLAN_BYTES = 8192 };
 
 struct sc_record {
     uint8_t kind;
@@ -150,5 +152,11 @@ uint8_t sc_timing_write(struct sc_file *f, const struct sc_timing *t);
 /* 01 "Cursor and window 2": 0 and the answer, or 12 with all numbers 0, marks off, window empty. */
 uint8_t sc_cursor_read(const struct sc_file *f, struct sc_cursor *c);
 uint8_t sc_window2_read(const struct sc_file *f, struct sc_window2 *w);
+
+/*
+ * 01 "Accesses and replies": records that lead from any sound file to the wanted one. 0 and their
+ * count, or 12, 13, 11 (in this order), count 0 and the buffer as it was.
+ */
+uint8_t sc_plan(const struct sc_file *wanted, uint8_t *buffer, size_t room, size_t *count);
 
 #endif

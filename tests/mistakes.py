@@ -1,7 +1,8 @@
 """Wrong copies of the reference: tests/compare must tell each from the right one.
 
 Each mistake is a name, a text that stands once in reference/sedgecoil.c, and what replaces it.
-The first five are those of 01 "Mistakes that look right" which a trace can show.
+The first five are those of 01 "Mistakes that look right" which a trace can show; the first four
+of the plan's are that section's line about plans.
 """
 
 MISTAKES = [
@@ -144,4 +145,38 @@ MISTAKES = [
     ("screen start's bits from CR1B exchanged",
      "{ 0x1B, 2, 2 }, { 0x1B, 0, 1 }", "{ 0x1B, 0, 1 }, { 0x1B, 2, 2 }"),
     ("screen start's top bits from CR1D[7:6]", "{ 0x1D, 3, 2 }", "{ 0x1D, 6, 2 }"),
+]
+
+PLAN_MISTAKES = [
+    ("the palette written under the start's B0",
+     "    end = put_mmio(end, 0xB0, b0);\n",
+     "    if (b0)\n        end = put_mmio(end, 0xB0, b0);\n"),
+    ("the start's toggle trusted",
+     "    end = put_mmio(end, 0x80, w->misc);\n    return put_status(end, w);\n",
+     "    return put_mmio(end, 0x80, w->misc);\n"),
+    ("the start's MISC[0] trusted",
+     "    end = put_mmio(end, 0x80, w->misc);\n    return put_status(end, w);\n",
+     "    end = put_status(end, w);\n    return put_mmio(end, 0x80, w->misc);\n"),
+    ("the start's CR11 trusted",
+     "    end = put_mmio(end, 0x44, 0);\n", ""),
+    ("the start's PCI04 trusted",
+     "    end = put(end, SC_CONFIG_WRITE, 2, 0x04, 0x0003);\n", ""),
+    ("a plan in mid-colour",
+     "if (wanted->pointer.colour != SC_RED)", "if (wanted->pointer.colour >= SC_COLOURS)"),
+    ("the last entry left out", "sizeof wanted->palette);", "sizeof wanted->palette - 3);"),
+    ("the bank left out",
+     "    end = put_entries(end, B0_BANK, wanted->bank[0], sizeof wanted->bank);\n", ""),
+    ("the pixel mask left out", "    end = put_mmio(end, 0xA0, w->pixel_mask);\n", ""),
+    ("the toggle left at data", "return w->data_next ? end : put_status(end, w);", "return end;"),
+    ("ARX written without bit 5", "put_port(end, 0x3C0, w->arx)",
+     "put_port(end, 0x3C0, w->arx & ARX_INDEX)"),
+    ("the pointer always in write mode", "w->pointer.reading ? 0xA4 : 0xA8", "0xA8"),
+    ("the indices before the registers",
+     "    end = put_registers(end, wanted);\n    end = put_indices(end, wanted);\n",
+     "    end = put_indices(end, wanted);\n    end = put_registers(end, wanted);\n"),
+    ("CR11 and B0 left open",
+     "    end = put_mmio(end, 0xB0, w->pipe[SC_B0]);\n"
+     "    end = put_mmio(end, 0x44, w->cr[0x11]);\n", ""),
+    ("PCI04 left open",
+     "return put(end, SC_CONFIG_WRITE, 2, 0x04, w->pci04);", "return end;"),
 ]

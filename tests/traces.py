@@ -329,6 +329,50 @@ def palette(chance):
     return kept_open(chance, records())
 
 
+SR_HELD = [0x00, 0x01, 0x02, 0x03, 0x04, 0x07, *range(0x09, 0x0F), 0x14, 0x15, *range(0x1B, 0x1F)]
+CR_HELD = [*range(0x1C), 0x1D, 0x1E]
+INDEXED = ((0x3C4, SR_HELD), (0x3D4, CR_HELD), (0x3D4, CR_HELD), (0x3CE, range(0x09)))
+
+
+def driven(chance):
+    """A few port accesses that belong together, as a driver makes them; none is refused."""
+    which = chance.below(8)
+    if which < 4:
+        port, numbers = chance.pick(INDEXED)
+        number = chance.pick(numbers)
+        value = chance.below(0x80 if (port, number) == (0x3D4, 0x11) else 0x100)
+        yield write(PORT, port, number)
+        if chance.one_in(2):
+            yield read(PORT, port + 1)
+        if not chance.one_in(4):
+            yield write(PORT, port + 1, value)
+    elif which == 4:
+        yield read(PORT, 0x3DA)
+        yield write(PORT, 0x3C0, chance.below(0x15))
+        yield write(PORT, 0x3C0, chance.below(0x100))
+    elif which == 5:
+        loading = not chance.one_in(4)
+        yield write(PORT, 0x3C8 if loading else 0x3C7, chance.below(0x100))
+        for _ in range(3 * (1 + chance.below(4))):
+            yield write(PORT, 0x3C9, chance.below(0x100)) if loading else read(PORT, 0x3C9)
+    elif which == 6:
+        for _ in range(1 + chance.below(4)):
+            yield read(PORT, 0x3DA)
+    elif chance.one_in(2):
+        yield read(PORT, 0x3CC)
+        yield write(PORT, 0x3C2, chance.below(0x100) | 0x01)
+    else:
+        yield write(PORT, 0x3C6, chance.below(0x100))
+
+
+def ports(chance):
+    """port traffic of a driver: indexed registers, attributes, a few colours, status, MISC"""
+    yield OPEN
+    yield write(PORT, 0x3C2, 0x01)
+    while True:
+        yield from driven(chance)
+
+
 def timing(chance):
     """CR writes that bear on the timing line; most telling as many short traces"""
     yield OPEN
@@ -375,6 +419,7 @@ KINDS = {
     "index": index,
     "toggles": toggles,
     "palette": palette,
+    "ports": ports,
     "timing": timing,
     "fragment": fragment,
     "long": long,

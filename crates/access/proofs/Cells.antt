@@ -9,9 +9,9 @@ use mathlib.Core.Option.{Option, none, some, Option·none-ne-some}
 use lib.Dec.{T, eqb, leb, ltb, eqb→eq, leb→le, ltb→lt}
 use lib.ListN.{getD}
 use native.Mathlib.Omega.{arith}
-use borrow.Author.Tests.{not-true, eqb-false}
+use borrow.Author.Tests.{not-true}
 use Rattle.bits.specs.Store.{bits}
-use Rattle.bits.proofs.Test.{left, right, both, either, by-test, passes, is-true}
+use Rattle.bits.proofs.Test.{left, right, both, either, by-test, passes, is-true, everyBelow, below}
 use Rattle.file.specs.declared.registers.File.{File}
 use Rattle.file.specs.File.{register, withRegisters, withToggle, powerOn}
 use Rattle.file.specs.Names.{SRX, CRX, GRX, ARX}
@@ -346,19 +346,6 @@ same-first f c (row ∷ rows) t =
     (same-selects f c (row .index) (left (isBy c (row .index)) (every (λ (row : Row). isBy c (row .index)) rows) t))
     (same-first f c rows (right (isBy c (row .index)) (every (λ (row : Row). isBy c (row .index)) rows) t))
 
--- a test of every number below another
-unfoldable pub allBelow : (ℕ → Bool) → ℕ → Bool
-allBelow test zero = true
-allBelow test (suc n) = test n && allBelow test n
-
-below : (test : ℕ → Bool) (n : ℕ) → T (allBelow test n) → (k : ℕ) → k < n → T (test k)
-unfolding allBelow
-below test zero t k h = absurd (omega arith)
-below test (suc n) t k h =
-    by-test (eqb k n)
-    (λ e. subst (λ (m : ℕ). T (test m)) (sym (eqb→eq k n (passes (eqb k n) e))) (left (test n) (allBelow test n) t))
-    (λ e. below test n (right (test n) (allBelow test n) t) k (omega (arith, eqb-false k n e)))
-
 -- at an indexed port, with either toggle and each deciding number: the rows go by that kind of index, and the cell names the place chosen
 unfoldable pub opens : Bool → List Row → ℕ → ℕ → Bool
 opens toggle rows cell n = samePlace (chosen (indexing toggle n) rows) (cellPlace (indexing toggle n) cell)
@@ -374,7 +361,7 @@ module _ (d : Door) where
   ByKind = every (λ (row : Row). isBy (d .cell - 111) (row .index)) Rows
 
   abbrev Opens : Bool → Bool
-  Opens toggle = allBelow (opens toggle Rows (d .cell)) (count (d .cell - 111))
+  Opens toggle = everyBelow (opens toggle Rows (d .cell)) (count (d .cell - 111))
 
   unfoldable pub opened : Bool
   opened = Within && (ByKind && (Opens true && Opens false))
@@ -384,7 +371,7 @@ allOpened [] = true
 allOpened (d ∷ ds) = opened d && allOpened ds
 
 doors-opened : T (allOpened doors)
-unfolding allOpened opened opens allBelow count doors every isBy samePlace tag number alone plainPlace plainCell indexedCell ofKind ofAddress rowsAt cellOf chosen indexing cellsFrom behind asAttribute attributePlace indexedPlaces cellPlace register withRegisters withToggle powerOn bits attributeIndex selects first placeIn places each attributePorts generalPorts crtcPorts pipelinePlace mmioPlaces pciPlaces sequencer crtc graphics attribute pipeline
+unfolding allOpened opened opens everyBelow count doors every isBy samePlace tag number alone plainPlace plainCell indexedCell ofKind ofAddress rowsAt cellOf chosen indexing cellsFrom behind asAttribute attributePlace indexedPlaces cellPlace register withRegisters withToggle powerOn bits attributeIndex selects first placeIn places each attributePorts generalPorts crtcPorts pipelinePlace mmioPlaces pciPlaces sequencer crtc graphics attribute pipeline
 doors-opened = tt
 
 -- the cell names the same place in a file and in its stand-in

@@ -1,6 +1,6 @@
 -- From the engine's parts to 01's answer and effect, for every sound file with those parts. Assumes nothing.
 use Prim.Native.Nat.{ℕ, zero, suc, _-_, _%_, _≤_, _<_, _^_}
-use mathlib.Core.Path.{_≡_, refl, sym, ap, ap₂, _∙_, subst}
+use mathlib.Core.Path.{_≡_, refl, sym, ap, ap₂, _∙_, subst, subst₂}
 use mathlib.Core.Bool.{Bool, true, false, cond, true≢false, not, _&&_, _||_}
 use mathlib.Core.List.{List, [], _∷_}
 use mathlib.Core.Logic.{_⊎_, inl, inr, ⊎-elim}
@@ -30,12 +30,12 @@ use Rattle.access.specs.declared.record.Record.{Record}
 use Rattle.access.specs.Access.{lockedOut, paletteUp, reachIn, inBank, entryNumber, pixelWrite, answerAt, writeAt, readAt, effectAt, answer, effect}
 use Rattle.access.specs.Cells.{alone, plainPlace, cellAt, cellWidth, asAttribute, attributePlace, seen, indexedPlaces, cellPlace}
 use Rattle.access.specs.Checks.{isWrite, isPort, isMmio, isOneOf, malformed, spaceOff, otherHalf, wrongWidth}
-use Rattle.access.specs.Looked.{lookedAt, inFile, holds, Shows, decision}
+use Rattle.access.specs.Looked.{lookedAt, inFile, holds, Shows, atPixels, Decides, decision}
 use Rattle.access.specs.Lookup.{attributeIndex, fits, rowOf, placeIn, placeOf}
 use Rattle.access.specs.Places.{Row, places, each, attributePorts, generalPorts, crtcPorts, pipelinePlace, mmioPlaces, pciPlaces}
 use Rattle.access.proofs.Cells.{Outcome, nothing, held, outcome, spoken, Indexed, decider, count, cell-names, samePlace, alone-unstored}
 use Rattle.access.proofs.Looks.{kind-below, settled, in-order}
-use Rattle.access.proofs.Rows.{every, Passes, row-passes}
+use Rattle.access.proofs.Rows.{every, Passes, row-passes, place-passes}
 use Rattle.access.proofs.Sane.{refusal-does-nothing}
 
 -- ---- the index registers of a sound file
@@ -114,7 +114,7 @@ answer-by-registers f values ToggleReset = refl
 answer-by-registers f values NoRegister = refl
 answer-by-registers f values NoAttribute = refl
 
-module _ (f : File) (values : List ℕ) (toggle : Bool) (pointer : Pointer) (shown : ℕ) (s : Shows f values toggle pointer shown) where
+module _ (f : File) (values : List ℕ) (toggle : Bool) (pointer : Pointer) (s : Shows f values toggle pointer) where
   pub write-same : (place : Place) (value : ℕ) → writeAt f place value ≡ writeAt (withPointer pointer (seen values toggle)) place value
   unfolding withRegisters withToggle withPointer
   write-same place value =
@@ -293,7 +293,7 @@ module _ (f : File) (r : Record) (cell : ℕ) (p : Passed f r cell) (w : isWrite
 
 -- ---- 01's answer and effect from the engine's
 
-module _ (f : File) (s : T (sound f)) (values : List ℕ) (toggle : Bool) (pointer : Pointer) (shown : ℕ) (parts-of : Shows f values toggle pointer shown) (r : Record) where
+module _ (f : File) (s : T (sound f)) (values : List ℕ) (toggle : Bool) (pointer : Pointer) (parts-of : Shows f values toggle pointer) (r : Record) where
   looked-here : lookedAt f r ≡ lookedAt (seen values false) r
   looked-here = looked-same f values r (parts-of .same-registers)
 
@@ -342,26 +342,51 @@ module _ (values : List ℕ) (t : T (allWithin storedTable values)) (toggle : Bo
   pub seen-word : isWrite r ≡ true → r .value < 65536
   seen-word w = word-fits (seen values toggle) r cell seen-passed w
 
+-- ---- pixel data stands at its addresses alone: one computed test
+
+isPixelData : Place → Bool
+isPixelData (Register n) = false
+isPixelData (Attribute n) = false
+isPixelData (Fixed value) = false
+isPixelData ToggleState = false
+isPixelData AttributeIndex = false
+isPixelData PaletteState = false
+isPixelData ReadAddress = false
+isPixelData WriteAddress = false
+isPixelData PixelData = true
+isPixelData ToggleReset = false
+isPixelData NoRegister = false
+isPixelData NoAttribute = false
+
+pub pixels-there : (f : File) (r : Record) → placeOf f r ≡ PixelData → T (atPixels (r .address))
+unfolding every places each attributePorts generalPorts crtcPorts pipelinePlace mmioPlaces pciPlaces sequencer crtc graphics attribute pipeline isPixelData atPixels
+pixels-there f r e =
+    subst (λ (p : Place). T (cond (isPixelData p) (atPixels (r .address)) true)) e
+    (place-passes (λ (kind address : ℕ) (place : Place). cond (isPixelData place) (atPixels address) true) f r tt tt)
+
 -- ---- the whole decision
 
-module _ (f : File) (s : T (sound f)) (values : List ℕ) (toggle : Bool) (pointer : Pointer) (shown : ℕ) (parts-of : Shows f values toggle pointer shown)
-    (r : Record) (cell : ℕ) (e : lookedAt (seen values false) r ≡ At cell) (place : Place) (p : place ≡ cellPlace (seen values toggle) cell)
-    (write : Bool) (w : isWrite r ≡ write) (d : Decision) (done : Effect)
-    (a : d .answer ≡ answerAt write f place) (does : done ≡ effectAt write f place (r .value)) (x : d .effect ≡ cond (refused (d .answer)) Nothing done) where
-  place-of : placeOf f r ≡ place
-  place-of = place-here f s values toggle pointer shown parts-of r cell e ∙ sym p
+pub decides-by : {a b : Answer} {o u : Effect} {d : Decision} → a ≡ b → o ≡ u → Decides a o d → Decides b u d
+decides-by {d = d} e h made = subst₂ (λ (x : Answer) (y : Effect). Decides x y d) e h made
 
-  answers : d .answer ≡ answer f r
-  answers =
-      a ∙ ap₂ (λ (b : Bool) (q : Place). answerAt b f q) (sym w) (sym place-of)
-      ∙ sym (place-answer f s values toggle pointer shown parts-of r cell e)
+module _ (f : File) (s : T (sound f)) (values : List ℕ) (toggle : Bool) (pointer : Pointer) (parts-of : Shows f values toggle pointer)
+    (r : Record) (cell : ℕ) (e : lookedAt (seen values false) r ≡ At cell) (place : Place) (p : place ≡ cellPlace (seen values toggle) cell)
+    (write : Bool) (w : isWrite r ≡ write) (d : Decision) (made : Decides (answerAt write f place) (effectAt write f place (r .value)) d) where
+  place-of : placeOf f r ≡ place
+  place-of = place-here f s values toggle pointer parts-of r cell e ∙ sym p
+
+  same-answer : answerAt write f place ≡ answer f r
+  same-answer =
+      ap₂ (λ (b : Bool) (q : Place). answerAt b f q) (sym w) (sym place-of)
+      ∙ sym (place-answer f s values toggle pointer parts-of r cell e)
 
   effects : d .effect ≡ effect f r
   unfolding effect
   effects =
-      x ∙ ap₂ (λ (b : Answer) (o : Effect). cond (refused b) Nothing o) answers
-      (does ∙ ap₂ (λ (b : Bool) (q : Place). effectAt b f q (r .value)) (sym w) (sym place-of))
+      made .does
+      ∙ ap₂ (λ (b : Answer) (o : Effect). cond (refused b) Nothing o) same-answer
+      (ap₂ (λ (b : Bool) (q : Place). effectAt b f q (r .value)) (sym w) (sym place-of))
 
   pub decided : d ≡ decision f r
   unfolding decision
-  decided = λ i. record { answer = answers i; effect = effects i }
+  decided = λ i. record { answer = (made .answers ∙ same-answer) i; effect = effects i }

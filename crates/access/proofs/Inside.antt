@@ -14,10 +14,9 @@ use Rattle.file.specs.Effects.{apply, reachOf}
 use Rattle.file.specs.File.{register, withToggle}
 use Rattle.file.specs.Names.{B0}
 use Rattle.file.specs.Palette.{stores, mixed, afterWrite}
-use Rattle.file.specs.Registers.{storedTable, registers, singles, sequencer, crtc, graphics, attribute, pipeline}
 use Rattle.file.specs.Sound.{sound}
 use Rattle.file.proofs.Reached.{stored-inside}
-use Rattle.file.proofs.Soundness.{registers-sound, within-count}
+use Rattle.file.proofs.Soundness.{sound-count}
 use Rattle.access.specs.declared.place.Place.{Place}
 use Rattle.access.specs.declared.place.Place.the-variants.{Register, Attribute, Fixed, ToggleState, AttributeIndex, PaletteState, ReadAddress, WriteAddress, PixelData, ToggleReset, NoRegister, NoAttribute}
 use Rattle.access.specs.declared.record.Record.{Record}
@@ -25,6 +24,7 @@ use Rattle.access.specs.Access.{reachIn, inBank, entryNumber, pixelWrite
 use Rattle.access.specs.Looked.{inFile}
 use Rattle.access.specs.Lookup.{placeOf}
 use Rattle.access.proofs.Parted.{place-in-file}
+use Rattle.access.proofs.Sane.{by-read}
 use Rattle.access.proofs.Targets.{by-effect}
 
 module _ (f : File) (value i : ℕ) where
@@ -58,23 +58,8 @@ module _ (f : File) (value i : ℕ) where
     written NoAttribute l = none (writeAt f NoAttribute value) refl
 
   read : (place : Place) → reachOf (readAt f place) .bits ≡ 0
-  unfolding readAt reachOf
-  read (Register number) = refl
-  read (Attribute number) = refl
-  read (Fixed fixed) = refl
-  read ToggleState = refl
-  read AttributeIndex = refl
-  read PaletteState = refl
-  read ReadAddress = refl
-  read WriteAddress = refl
-  read PixelData = refl
-  read ToggleReset = refl
-  read NoRegister = refl
-  read NoAttribute = refl
-
-count : (f : File) → T (sound f) → length (f .registers) ≡ 100
-unfolding storedTable registers singles sequencer crtc graphics attribute pipeline
-count f s = within-count storedTable (f .registers) (registers-sound f s)
+  unfolding reachOf
+  read place = by-read (λ (e : Effect). reachOf e .bits ≡ 0) f place refl refl (λ e. refl)
 
 -- with `outside-reach`: what an access to a sound file does to its registers, bit by bit
 pub inside-reach : (f : File) (r : Record) → T (sound f) → (i : ℕ) → bit i (reach f r .bits) ≡ 1
@@ -82,5 +67,5 @@ pub inside-reach : (f : File) (r : Record) → T (sound f) → (i : ℕ) → bit
 unfolding reach access reachOf
 inside-reach f r s i =
     by-effect (Lands f (r .value) i) f r (none f (r .value) i Nothing refl)
-    (λ n w. written f (r .value) i (count f s) (placeOf f r) (place-in-file f r))
+    (λ n w. written f (r .value) i (sound-count f s) (placeOf f r) (place-in-file f r))
     (none f (r .value) i (readAt f (placeOf f r)) (read f (r .value) i (placeOf f r)))

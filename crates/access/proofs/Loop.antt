@@ -1,8 +1,9 @@
 -- What the loop of a run holds, and that one record more keeps it. Assumes nothing.
 use Prim.Native.Nat.{ℕ, _+_, _*_, _-_, _%_, _≤_, _<_}
 use mathlib.Core.Path.{_≡_, refl, sym, ap, ap₂, _∙_}
-use mathlib.Core.Bool.{Bool}
+use mathlib.Core.Bool.{Bool, cond}
 use mathlib.Core.List.{List, _++_}
+use mathlib.Core.Logic.{_⊎_, inl, inr}
 use native.Mathlib.Numerals.{add-one}
 use native.Mathlib.Omega.{arith}
 use borrow.Author.Tests.{le-leb}
@@ -26,6 +27,11 @@ use Rattle.access.proofs.Runs.{items-more, file-more, replies-more, rep
 
 eight : (n : ℕ) → 8 * n + 8 ≡ 8 * (n + 1)
 eight n = omega arith
+
+-- what holds on both ways to a join holds there
+pub came-by : {A B C : Type 0} → A ⊎ B → (A → C) → (B → C) → C
+came-by (inl a) f g = f a
+came-by (inr b) f g = g b
 
 -- a file put together from its parts
 abbrev pub together : List ℕ → List Colour → List Colour → Pointer → Bool → File
@@ -104,16 +110,17 @@ module _ (f : File) (trace before : List ℕ) where
       → Held count buffer registers palette bank pointer toggle n → n < count → 8 * n + 8 ≤ length trace
       → (asked : Record) → asked ≡ recordOf (take 8 (drop (8 * n) trace))
       → (after : List ℕ) (s : Served) → Serves (together registers palette bank pointer toggle) asked pointer after s
-      → (at within : ℕ) → at ≡ pointer .address → within ≡ pointer .address % 16
+      → (palette-after bank-after : List Colour) → palette-after ≡ cond (s .palette) (set palette (pointer .address) (s .colour)) palette
+      → bank-after ≡ cond (s .bank) (set bank (pointer .address % 16) (s .colour)) bank
       → (filled : List ℕ)
       → filled ≡ take (8 * n) buffer ++ replyBytes (record { code = s .code; kind = asked .kind; address = asked .address; value = s .value }) ++ drop (8 * n + 8) buffer
-      → Held count filled after (set palette at (s .palette)) (set bank within (s .bank)) (s .pointer) (s .toggle) (n + 1)
+      → Held count filled after palette-after bank-after (s .pointer) (s .toggle) (n + 1)
   unfolding decision
-  held-step {buffer = buffer} {registers = registers} {palette = palette} {bank = bank} {pointer = pointer} {toggle = toggle} {n = n} h more room asked there after s served at within same-at same-within filled fills =
+  held-step {buffer = buffer} {registers = registers} {palette = palette} {bank = bank} {pointer = pointer} {toggle = toggle} {n = n} h more room asked there after s served palette-after bank-after same-palette same-bank filled fills =
       record {
         reached = omega (arith, more);
         file =
-            ap₂ (λ (i j : ℕ). together after (set palette i (s .palette)) (set bank j (s .bank)) (s .pointer) (s .toggle)) same-at same-within
+            ap₂ (λ (p b : List Colour). together after p b (s .pointer) (s .toggle)) same-palette same-bank
             ∙ sym (served .after)
             ∙ ap₂ (λ (g : File) (r : Record). apply (effect g r) g) (h .file) there
             ∙ sym (next-file n room (decision (fileAfter f (items n trace)) (recordOf (take 8 (drop (8 * n) trace)))) refl);

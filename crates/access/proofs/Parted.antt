@@ -27,31 +27,19 @@ use Rattle.access.specs.Places.{places, each, attributePorts, generalPor
 use Rattle.file.specs.Registers.{sequencer, crtc, graphics, attribute, pipeline}
 use Rattle.access.specs.Served.{Parts, putBack, lands}
 use Rattle.access.proofs.Rows.{every, place-passes}
+use Rattle.access.proofs.Sane.{by-read}
 use Rattle.access.proofs.Targets.{by-effect}
-
--- storing what is there changes nothing
-set-there : (l : List Colour) (i : ℕ) → set l i (getD l i black) ≡ l
-set-there [] i = refl
-set-there (x ∷ xs) zero = refl
-set-there (x ∷ xs) (suc i) = ap (λ (l : List Colour). x ∷ l) (set-there xs i)
 
 same-file : (g h : File) → g .registers ≡ h .registers → g .palette ≡ h .palette → g .bank ≡ h .bank → g .pointer ≡ h .pointer → g .toggle ≡ h .toggle → g ≡ h
 same-file g h r p b q t = λ i. record { registers = r i; palette = p i; bank = b i; pointer = q i; toggle = t i }
 
 module _ (f : File) (registers : List ℕ) (s : Served) (p : Parts f registers s) where
-  palette-kept : f .palette ≡ set (f .palette) (s .pointer .address) (s .palette)
-  palette-kept = sym (ap (set (f .palette) (s .pointer .address)) (sym (p .same-palette)) ∙ set-there (f .palette) (s .pointer .address))
+  -- where nothing is painted the colours stay
+  palette-kept : (colour : Colour) → f .palette ≡ cond (s .palette) (set (f .palette) (s .pointer .address) colour) (f .palette)
+  palette-kept colour = rw (p .no-palette) refl
 
-  bank-kept : f .bank ≡ set (f .bank) (s .pointer .address % 16) (s .bank)
-  bank-kept = sym (ap (set (f .bank) (s .pointer .address % 16)) (sym (p .same-bank)) ∙ set-there (f .bank) (s .pointer .address % 16))
-
-  -- the entry that the pointer names is one of the two
-  pub named-entry : entry f ≡ cond (inBank (seen registers false)) (s .bank) (s .palette)
-  unfolding entry entryNumber inBank seen register withRegisters withToggle
-  named-entry =
-      by-test (inBank f)
-      (λ e. rw (e, sym (ap (λ (l : List ℕ). inBank (seen l false)) (p .same-registers)) ∙ e) (ap (λ (q : Pointer). getD (f .bank) (q .address % 16) black) (p .same-pointer) ∙ p .same-bank))
-      (λ e. rw (e, sym (ap (λ (l : List ℕ). inBank (seen l false)) (p .same-registers)) ∙ e) (ap (λ (q : Pointer). getD (f .palette) (q .address) black) (p .same-pointer) ∙ p .same-palette))
+  bank-kept : (colour : Colour) → f .bank ≡ cond (s .bank) (set (f .bank) (s .pointer .address % 16) colour) (f .bank)
+  bank-kept colour = rw (p .no-bank) refl
 
   -- an effect that is known by its variant
   pub by-told : (g : File) (e told : Effect) → e ≡ told → (T (lands (s .pointer) told) → apply told f ≡ g) → T (lands (s .pointer) e) → apply e f ≡ g
@@ -59,7 +47,7 @@ module _ (f : File) (registers : List ℕ) (s : Served) (p : Parts f registers s
 
   pub nothing-put : T (lands (s .pointer) Nothing) → apply Nothing f ≡ putBack f (s .pointer) registers s
   unfolding apply
-  nothing-put l = same-file f (putBack f (s .pointer) registers s) (p .same-registers) palette-kept bank-kept (p .same-pointer) (p .same-toggle)
+  nothing-put l = same-file f (putBack f (s .pointer) registers s) (p .same-registers) (palette-kept (s .colour)) (bank-kept (s .colour)) (p .same-pointer) (p .same-toggle)
 
   module _ (number reach value : ℕ) (after : List ℕ)
       (stored : number < 100 → after ≡ set registers number (store reach (getD registers number 0) value)) where
@@ -71,42 +59,35 @@ module _ (f : File) (registers : List ℕ) (s : Served) (p : Parts f registers s
     pub store-put : T (lands (s .pointer) (Store number reach value)) → apply (Store number reach value) f ≡ putBack f (s .pointer) after s
     unfolding apply storeIn withRegisters lands
     store-put l =
-        same-file (apply (Store number reach value) f) (putBack f (s .pointer) after s) (stored-there l) palette-kept bank-kept (p .same-pointer) (p .same-toggle)
+        same-file (apply (Store number reach value) f) (putBack f (s .pointer) after s) (stored-there l) (palette-kept (s .colour)) (bank-kept (s .colour)) (p .same-pointer) (p .same-toggle)
 
     pub flip-put : T (lands (s .pointer) (StoreAndFlip number reach value))
         → apply (StoreAndFlip number reach value) f
-        ≡ putBack f (s .pointer) after (record { code = s .code; value = s .value; pointer = s .pointer; toggle = not (s .toggle); palette = s .palette; bank = s .bank })
+        ≡ putBack f (s .pointer) after (record { code = s .code; value = s .value; pointer = s .pointer; toggle = not (s .toggle); palette = s .palette; bank = s .bank; colour = s .colour })
     unfolding apply storeIn withRegisters withToggle lands
-    flip-put l = same-file (apply (StoreAndFlip number reach value) f) _ (stored-there l) palette-kept bank-kept (p .same-pointer) (ap not (p .same-toggle))
+    flip-put l = same-file (apply (StoreAndFlip number reach value) f) _ (stored-there l) (palette-kept (s .colour)) (bank-kept (s .colour)) (p .same-pointer) (ap not (p .same-toggle))
 
   pub toggle-put : (state : Bool) → T (lands (s .pointer) (Toggle state))
       → apply (Toggle state) f
-      ≡ putBack f (s .pointer) registers (record { code = s .code; value = s .value; pointer = s .pointer; toggle = state; palette = s .palette; bank = s .bank })
+      ≡ putBack f (s .pointer) registers (record { code = s .code; value = s .value; pointer = s .pointer; toggle = state; palette = s .palette; bank = s .bank; colour = s .colour })
   unfolding apply withToggle
-  toggle-put state l = same-file (apply (Toggle state) f) _ (p .same-registers) palette-kept bank-kept (p .same-pointer) refl
+  toggle-put state l = same-file (apply (Toggle state) f) _ (p .same-registers) (palette-kept (s .colour)) (bank-kept (s .colour)) (p .same-pointer) refl
 
   pub move-put : (next : Pointer) → T (lands (s .pointer) (Move next))
       → apply (Move next) f
-      ≡ putBack f (s .pointer) registers (record { code = s .code; value = s .value; pointer = next; toggle = s .toggle; palette = s .palette; bank = s .bank })
+      ≡ putBack f (s .pointer) registers (record { code = s .code; value = s .value; pointer = next; toggle = s .toggle; palette = s .palette; bank = s .bank; colour = s .colour })
   unfolding apply withPointer
-  move-put next l = same-file (apply (Move next) f) _ (p .same-registers) palette-kept bank-kept refl (p .same-toggle)
+  move-put next l = same-file (apply (Move next) f) _ (p .same-registers) (palette-kept (s .colour)) (bank-kept (s .colour)) refl (p .same-toggle)
 
   -- an entry stored, in the bank or the palette
-  paint-there : (bank : Bool) (number : ℕ) (colour : Colour) (next : Pointer) → T (lands (s .pointer) (Paint bank number colour next))
+  pub paint-put : (bank : Bool) (number : ℕ) (colour : Colour) (next : Pointer) → T (lands (s .pointer) (Paint bank number colour next))
       → apply (Paint bank number colour next) f
-      ≡ putBack f (s .pointer) registers (record { code = s .code; value = s .value; pointer = next; toggle = s .toggle; palette = cond bank (s .palette) colour; bank = cond bank colour (s .bank) })
+      ≡ putBack f (s .pointer) registers (record { code = s .code; value = s .value; pointer = next; toggle = s .toggle; palette = not bank; bank = bank; colour = colour })
   unfolding apply paintIn withPointer withBank withPalette lands
-  paint-there true number colour next l =
-      same-file (apply (Paint true number colour next) f) _ (p .same-registers) palette-kept (ap (λ (n : ℕ). set (f .bank) n colour) (eqb→eq number (s .pointer .address % 16) l)) refl (p .same-toggle)
-  paint-there false number colour next l =
-      same-file (apply (Paint false number colour next) f) _ (p .same-registers) (ap (λ (n : ℕ). set (f .palette) n colour) (eqb→eq number (s .pointer .address) l)) bank-kept refl (p .same-toggle)
-
-  pub paint-put : (bank : Bool) (number : ℕ) (colour ofPalette ofBank : Colour) (next : Pointer)
-      → ofPalette ≡ cond bank (s .palette) colour → ofBank ≡ cond bank colour (s .bank)
-      → T (lands (s .pointer) (Paint bank number colour next))
-      → apply (Paint bank number colour next) f
-      ≡ putBack f (s .pointer) registers (record { code = s .code; value = s .value; pointer = next; toggle = s .toggle; palette = ofPalette; bank = ofBank })
-  paint-put bank number colour ofPalette ofBank next ep eb l = rw (ep, eb) (paint-there bank number colour next l)
+  paint-put true number colour next l =
+      same-file (apply (Paint true number colour next) f) _ (p .same-registers) refl (ap (λ (n : ℕ). set (f .bank) n colour) (eqb→eq number (s .pointer .address % 16) l)) refl (p .same-toggle)
+  paint-put false number colour next l =
+      same-file (apply (Paint false number colour next) f) _ (p .same-registers) (ap (λ (n : ℕ). set (f .palette) n colour) (eqb→eq number (s .pointer .address) l)) refl refl (p .same-toggle)
 
 -- ---- every access lands
 
@@ -127,19 +108,8 @@ write-lands f NoRegister value h = tt
 write-lands f NoAttribute value h = tt
 
 read-lands : (f : File) (place : Place) → T (lands (f .pointer) (readAt f place))
-unfolding readAt lands
-read-lands f (Register number) = tt
-read-lands f (Attribute number) = tt
-read-lands f (Fixed fixed) = tt
-read-lands f ToggleState = tt
-read-lands f AttributeIndex = tt
-read-lands f PaletteState = tt
-read-lands f ReadAddress = tt
-read-lands f WriteAddress = tt
-read-lands f PixelData = tt
-read-lands f ToggleReset = tt
-read-lands f NoRegister = tt
-read-lands f NoAttribute = tt
+unfolding lands
+read-lands f place = by-read (λ (e : Effect). T (lands (f .pointer) e)) f place tt tt (λ e. tt)
 
 pub place-in-file : (f : File) (r : Record) → T (inFile (placeOf f r))
 unfolding every places each attributePorts generalPorts crtcPorts pipelinePlace mmioPlaces pciPlaces sequencer crtc graphics attribute pipeline inFile

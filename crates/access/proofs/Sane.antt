@@ -86,20 +86,27 @@ write-keeps f ToggleReset value s = tt
 write-keeps f NoRegisterThere value s = tt
 write-keeps f NoAttribute value s = tt
 
+-- what a read does is nothing, the pointer's step or, at 3?Ah alone, the toggle set to index
+pub by-read : (P : Effect → Type 0) (f : File) (place : Place)
+    → P Nothing → P (Move (afterRead (f .pointer))) → (place ≡ ToggleReset → P (Toggle false)) → P (readAt f place)
+unfolding readAt
+by-read P f (Register number) none move toggle = none
+by-read P f (Attribute number) none move toggle = none
+by-read P f (Fixed fixed) none move toggle = none
+by-read P f ToggleState none move toggle = none
+by-read P f AttributeIndex none move toggle = none
+by-read P f PaletteState none move toggle = none
+by-read P f ReadAddress none move toggle = none
+by-read P f WriteAddress none move toggle = none
+by-read P f PixelData none move toggle = move
+by-read P f ToggleReset none move toggle = toggle refl
+by-read P f NoRegisterThere none move toggle = none
+by-read P f NoAttribute none move toggle = none
+
 read-keeps : (f : File) (place : Place) → T (sound f) → T (keeps (readAt f place))
-unfolding readAt keeps
-read-keeps f (Register number) s = tt
-read-keeps f (Attribute number) s = tt
-read-keeps f (Fixed fixed) s = tt
-read-keeps f ToggleState s = tt
-read-keeps f AttributeIndex s = tt
-read-keeps f PaletteState s = tt
-read-keeps f ReadAddress s = tt
-read-keeps f WriteAddress s = tt
-read-keeps f PixelData s = afterRead-sound (f .pointer) (pointer-sound f s)
-read-keeps f ToggleReset s = tt
-read-keeps f NoRegisterThere s = tt
-read-keeps f NoAttribute s = tt
+unfolding keeps
+read-keeps f place s =
+    by-read (λ (e : Effect). T (keeps e)) f place tt (afterRead-sound (f .pointer) (pointer-sound f s)) (λ e. tt)
 
 effect-keeps : (f : File) (r : Record) → T (sound f) → T (keeps (effect f r))
 unfolding effect effectAt keeps

@@ -21,7 +21,7 @@ use Rattle.access.specs.declared.record.Record.{Record}
 use Rattle.access.specs.Access.{pixelWrite, writeAt, readAt, effectAt, answer, effect, reach, access}
 use Rattle.access.specs.Checks.{isWrite}
 use Rattle.access.specs.Lookup.{placeOf}
-use Rattle.access.proofs.Sane.{outside-reach}
+use Rattle.access.proofs.Sane.{by-read, outside-reach}
 
 -- the number of the register that a write at a place stores into; 100, which none has, where there is none
 unfoldable pub storesInto : Place → ℕ
@@ -68,19 +68,9 @@ pixel-spares f value number i = by-test (stores (f .pointer)) (λ e. rw e (λ h.
 
 -- a read stores into no register
 pub read-spares : (f : File) (place : Place) (number i : ℕ) → Spares number i (readAt f place)
-unfolding readAt reachOf
-read-spares f (Register n) number i h = bit-of-zero i
-read-spares f (Attribute n) number i h = bit-of-zero i
-read-spares f (Fixed value) number i h = bit-of-zero i
-read-spares f ToggleState number i h = bit-of-zero i
-read-spares f AttributeIndex number i h = bit-of-zero i
-read-spares f PaletteState number i h = bit-of-zero i
-read-spares f ReadAddress number i h = bit-of-zero i
-read-spares f WriteAddress number i h = bit-of-zero i
-read-spares f PixelData number i h = bit-of-zero i
-read-spares f ToggleReset number i h = bit-of-zero i
-read-spares f NoRegister number i h = bit-of-zero i
-read-spares f NoAttribute number i h = bit-of-zero i
+unfolding reachOf
+read-spares f place number i =
+    by-read (Spares number i) f place (λ h. bit-of-zero i) (λ h. bit-of-zero i) (λ e h. bit-of-zero i)
 
 -- a write to another register spares it
 pub write-spares : (f : File) (place : Place) (value number i : ℕ) → (number ≡ storesInto place → ⊥) → Spares number i (writeAt f place value)
@@ -115,19 +105,8 @@ write-leaves-toggle f NoRegister value h = refl
 write-leaves-toggle f NoAttribute value h = h
 
 pub read-leaves-toggle : (f : File) (place : Place) → movesToggle place ≡ false → reachOf (readAt f place) .toggle ≡ false
-unfolding readAt reachOf movesToggle
-read-leaves-toggle f (Register n) h = refl
-read-leaves-toggle f (Attribute n) h = refl
-read-leaves-toggle f (Fixed fixed) h = refl
-read-leaves-toggle f ToggleState h = refl
-read-leaves-toggle f AttributeIndex h = refl
-read-leaves-toggle f PaletteState h = refl
-read-leaves-toggle f ReadAddress h = refl
-read-leaves-toggle f WriteAddress h = refl
-read-leaves-toggle f PixelData h = refl
-read-leaves-toggle f ToggleReset h = h
-read-leaves-toggle f NoRegister h = refl
-read-leaves-toggle f NoAttribute h = refl
+unfolding reachOf movesToggle
+read-leaves-toggle f place h = by-read (λ (e : Effect). reachOf e .toggle ≡ false) f place refl refl (λ e. rw e at h)
 
 -- what an access does, by whether it is refused, a write or a read
 pub by-effect : (P : Effect → Type 0) (f : File) (r : Record) → P Nothing

@@ -99,6 +99,25 @@ cellsFrom rows n (suc count) = plainCell (chosen (indexing false n) rows) ∷ ce
 unfoldable pub behind : ℕ → ℕ → List ℕ
 behind address count = cellsFrom (rowsAt 2 address) 0 count
 
+-- the engine's one table, by sections: port reads and port writes from 3B0h on, what stands behind SRX, CRX, GRX and ARX, config space, MMIO below F0h
+unfoldable pub tableCell : ℕ → ℕ
+tableCell n =
+    cond (ltb n 48) (cellAt 2 (0x3B0 + n))
+    (cond (ltb n 96) (cellAt 3 (0x380 + n))
+    (cond (ltb n 128) (getD (behind 0x3C5 32) (n - 96) 0)
+    (cond (ltb n 192) (getD (behind 0x3B5 64) (n - 128) 0)
+    (cond (ltb n 256) (getD (behind 0x3CF 64) (n - 192) 0)
+    (cond (ltb n 288) (getD (behind 0x3C1 32) (n - 256) 0)
+    (cond (ltb n 294) (cellAt 0 (n - 288)) (cellAt 4 (n - 294))))))))
+
+-- so many entries of a table by its rule
+unfoldable pub tabled : ℕ → (ℕ → ℕ) → List ℕ
+tabled zero rule = []
+tabled (suc count) rule = rule 0 ∷ tabled count (λ (i : ℕ). rule (suc i))
+
+unfoldable pub cellTable : List ℕ
+cellTable = tabled 534 tableCell
+
 -- what a 3C0h write stores into: the index, or the register behind it
 unfoldable pub asAttribute : Place → Place
 asAttribute (Register n) = Attribute n

@@ -2,13 +2,16 @@
 -- Assumes nothing.
 use Prim.Native.Nat.{ℕ, _%_}
 use mathlib.Core.Path.{_≡_}
-use mathlib.Core.Bool.{Bool, true, cond, not}
+use mathlib.Core.Bool.{Bool, true, cond, not, _||_}
 use mathlib.Core.List.{List}
 use lib.Dec.{eqb, ltb}
 use Rattle.file.specs.declared.answer.Answer.{Answer}
 use Rattle.file.specs.declared.answer.Answer.the-variants.{Malformed, SpaceOff, NotHeld, OtherHalf, WrongWidth}
+use Rattle.file.specs.declared.effect.Effect.{Effect}
+use Rattle.file.specs.declared.effect.Effect.the-variants.{Nothing}
 use Rattle.file.specs.declared.palette.Pointer.{Pointer}
 use Rattle.file.specs.declared.registers.File.{File}
+use Rattle.file.specs.Answers.{refused}
 use Rattle.file.specs.Palette.{component}
 use Rattle.access.specs.declared.engine.Decision.{Decision}
 use Rattle.access.specs.declared.engine.Looked.{Looked}
@@ -59,13 +62,25 @@ holds ToggleReset value = true
 holds NoRegister value = true
 holds NoAttribute value = true
 
--- the parts of a file that an answer looks at; of the entry that the pointer names, only the component of the next colour
-pub record Shows (f : File) (registers : List ℕ) (toggle : Bool) (pointer : Pointer) (shown : ℕ) : Type 0 where
+-- the parts of a file that an answer looks at, its colours apart
+pub record Shows (f : File) (registers : List ℕ) (toggle : Bool) (pointer : Pointer) : Type 0 where
   pub same-registers : f .registers ≡ registers
   pub same-toggle : f .toggle ≡ toggle
   pub same-pointer : f .pointer ≡ pointer
-  pub same-shown : component (entry f) (pointer .next) ≡ shown
+
+-- the component that pixel data shows: of the entry that the pointer names, that of the next colour
+unfoldable pub shownIn : File → ℕ
+shownIn f = component (entry f) (f .pointer .next)
+
+-- the addresses of pixel data: 3C9h, and ACh by MMIO
+unfoldable pub atPixels : ℕ → Bool
+atPixels address = eqb address 0x3C9 || eqb address 0xAC
 
 -- answer and effect of a record, as the engine computes them together
 unfoldable pub decision : File → Record → Decision
 decision f r = record { answer = answer f r; effect = effect f r }
+
+-- a decision of this answer and, unless it is a refusal, this effect
+pub record Decides (a : Answer) (e : Effect) (d : Decision) : Type 0 where
+  pub answers : d .answer ≡ a
+  pub does : d .effect ≡ cond (refused a) Nothing e

@@ -2,36 +2,35 @@
 -- Assumes nothing.
 use Prim.Native.Nat.{ℕ, _%_}
 use mathlib.Core.Path.{_≡_}
-use mathlib.Core.Bool.{Bool, true, cond}
+use mathlib.Core.Bool.{Bool, true, false, cond}
 use mathlib.Core.List.{List}
 use lib.Dec.{eqb, ltb}
-use lib.ListN.{getD, set}
+use lib.ListN.{set}
 use Rattle.file.specs.declared.effect.Effect.{Effect}
 use Rattle.file.specs.declared.effect.Effect.the-variants.{Nothing, Store, StoreAndFlip, Toggle, Move, Paint}
 use Rattle.file.specs.declared.palette.Pointer.{Pointer}
 use Rattle.file.specs.declared.registers.File.{File}
 use Rattle.file.specs.Answers.{codeOf, valueOf}
 use Rattle.file.specs.Effects.{apply}
-use Rattle.file.specs.File.{black}
 use Rattle.access.specs.declared.record.Record.{Record}
 use Rattle.access.specs.declared.running.Served.{Served}
 use Rattle.access.specs.Access.{answer, effect}
 
--- the parts of a file that one access reads: of the colours, the two entries that the pointer names
+-- the parts of a file that one access reads, its colours apart; nothing is painted yet
 pub record Parts (f : File) (registers : List ℕ) (s : Served) : Type 0 where
   pub same-registers : f .registers ≡ registers
   pub same-pointer : f .pointer ≡ s .pointer
   pub same-toggle : f .toggle ≡ s .toggle
-  pub same-palette : getD (f .palette) (s .pointer .address) black ≡ s .palette
-  pub same-bank : getD (f .bank) (s .pointer .address % 16) black ≡ s .bank
+  pub no-palette : s .palette ≡ false
+  pub no-bank : s .bank ≡ false
 
--- the file with the parts put back, the entries where the pointer stood
+-- the file with the parts put back, and the colour where the pointer stood, if one is painted
 abbrev pub putBack : File → Pointer → List ℕ → Served → File
 putBack f stood registers s =
     record {
       registers = registers;
-      palette = set (f .palette) (stood .address) (s .palette);
-      bank = set (f .bank) (stood .address % 16) (s .bank);
+      palette = cond (s .palette) (set (f .palette) (stood .address) (s .colour)) (f .palette);
+      bank = cond (s .bank) (set (f .bank) (stood .address % 16) (s .colour)) (f .bank);
       pointer = s .pointer;
       toggle = s .toggle;
     }

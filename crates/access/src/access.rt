@@ -1,9 +1,9 @@
 ghost use mathlib.Core.Path.{_≡_};
 ghost use lib.Dec.{T};
-ghost use Rattle.file.specs.Palette.{component};
 ghost use Rattle.file.specs.Sound.{sound};
-ghost use Rattle.access.specs.Looked.{decision};
-ghost use Rattle.access.specs.Access.{access as accessOf, entry, reach as reachOfAccess};
+ghost use Rattle.access.specs.Looked.{shownIn, decision};
+ghost use Rattle.access.specs.Access.{access as accessOf, reach as reachOfAccess};
+use crate::decode;
 use crate::engine;
 use crate::record::Record;
 use file::Answer;
@@ -19,7 +19,7 @@ pub struct Accessed {
 
 // The component of the next colour, in the entry that the pointer names.
 fn shown_in(whole: File) -> u8
-    ensures { λ r. ⌜ r ≡ component (entry whole) (whole .pointer .next) ⌝ }
+    ensures { λ r. ⌜ r ≡ shownIn whole ⌝ }
 {
     let registers = whole.registers;
     let pointer = whole.pointer;
@@ -40,7 +40,11 @@ fn decide(asked: Record, whole: File) -> engine::Decision
     ensures { λ r. ⌜ r ≡ decision whole asked ⌝ }
 {
     let registers = whole.registers;
+    let cells = decode::cells();
+    let stored = engine::stored();
     engine::decide(
+        &cells,
+        &stored,
         &registers,
         whole.toggle,
         whole.pointer,

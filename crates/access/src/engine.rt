@@ -5,15 +5,16 @@ ghost use mathlib.Core.Bool.{true, false, cond};
 ghost use lib.Dec.{T};
 ghost use Rattle.file.specs.declared.registers.File.{File as FileOf};
 ghost use Rattle.file.specs.File.{crtcLocked, withPointer, powerOn};
-ghost use Rattle.file.specs.Registers.{storedTable};
+ghost use Rattle.file.specs.Registers.{storedBits, storedTable};
 ghost use Rattle.file.specs.Sound.{allWithin, sound};
 ghost use Rattle.access.specs.Access.{reachIn, lockedOut, paletteUp, inBank, answerAt, pixelWrite, writeAt, readAt};
-ghost use Rattle.access.specs.Cells.{cellAt, seen};
+ghost use Rattle.access.specs.Cells.{cellAt, cellTable, seen};
 ghost use Rattle.access.specs.Checks.{malformed, spaceOff, otherHalf};
-ghost use Rattle.access.specs.Looked.{lookedAt, inFile, holds, Shows, decision};
-ghost use Rattle.file.specs.Answers.{refused};
-ghost use Rattle.file.specs.Palette.{pointerSound};
-ghost use Rattle.file.specs.declared.effect.Effect.the-variants.{Nothing};
+ghost use Rattle.access.specs.Looked.{lookedAt, inFile, holds, Shows, shownIn, atPixels, Decides, decision};
+ghost use Rattle.access.specs.declared.place.Place.the-variants.{PixelData as PixelDataPlace, Register as RegisterPlace};
+ghost use Rattle.file.specs.declared.answer.Answer.the-variants.{Done as DoneAnswer, PaletteDown as PaletteDownAnswer};
+ghost use Rattle.file.specs.Palette.{pointerSound, afterRead};
+ghost use Rattle.file.specs.declared.effect.Effect.the-variants.{Nothing, Store as StoreEffect, Move as MoveEffect};
 use crate::decode;
 use crate::place::Place;
 use crate::record::Record;
@@ -93,7 +94,8 @@ fn is_other_half(registers: &[u16; 100], asked: Record) -> bool
 }
 
 // The checks that every record passes before its place is asked, in 01's order.
-pub fn look(registers: &[u16; 100], asked: Record) -> Looked
+pub fn look(cells: &[u8; 534], registers: &[u16; 100], asked: Record) -> Looked
+    requires { ⌜ now cells ≡ cellTable ⌝ }
     ensures { λ r. ⌜ r ≡ lookedAt (seen (now (registers .entry)) false) asked ⌝ }
 {
     if is_malformed(asked) {
@@ -102,7 +104,7 @@ pub fn look(registers: &[u16; 100], asked: Record) -> Looked
     if is_space_off(registers, asked) {
         return Looked::Refused(Answer::SpaceOff);
     }
-    let cell = decode::cell_at(asked.kind, asked.address);
+    let cell = decode::cell_at(cells, asked.kind, asked.address);
     if cell == decode::NOTHING {
         return Looked::Refused(Answer::NotHeld);
     }
@@ -133,17 +135,32 @@ fn is_locked(registers: &[u16; 100]) -> bool
     registers[42] / 128 % 2 == 1
 }
 
+// The stored bits of every register. They are made once and lent, as the cells are.
+pub fn stored() -> [u16; 100]
+    ensures { λ r. ⌜ r ≡ storedTable ⌝ }
+{
+    File::STORED
+}
+
+fn stored_bits(stored: &[u16; 100], number: usize) -> u16
+    requires { ⌜ now stored ≡ storedTable ⌝ }
+    ensures { λ r. ⌜ r ≡ storedBits number ⌝ }
+{
+    if number < 100 { stored[number] } else { 0 }
+}
+
 // The bits of a register that a write may change.
-pub fn reach_in(registers: &[u16; 100], number: usize) -> u16
+fn reach_in(stored: &[u16; 100], registers: &[u16; 100], number: usize) -> u16
+    requires { ⌜ now stored ≡ storedTable ⌝ }
     ensures { λ r. ⌜ r ≡ reachIn (seen (now (registers .entry)) false) number ⌝ }
 {
     if number != 32 {
-        return File::stored_bits(number);
+        return stored_bits(stored, number);
     }
     if is_locked(registers) {
         0x10
     } else {
-        File::stored_bits(number)
+        stored_bits(stored, number)
     }
 }
 
@@ -160,72 +177,6 @@ pub fn is_in_bank(registers: &[u16; 100]) -> bool
     registers[85] / 8 % 2 == 1
 }
 
-// What a place answers to a write.
-fn answer_write(registers: &[u16; 100], place: Place) -> Answer
-    ensures { λ r. ⌜ r ≡ answerAt true (seen (now (registers .entry)) false) place ⌝ }
-{
-    match place {
-        Place::Register(number) => {
-            if is_locked_out(registers, number) {
-                Answer::Locked
-            } else {
-                Answer::Done(0)
-            }
-        }
-        Place::Attribute(_) => Answer::Done(0),
-        Place::Fixed(_) => Answer::ReadOnly,
-        Place::ToggleState => Answer::ReadOnly,
-        Place::AttributeIndex => Answer::ReadOnly,
-        Place::PaletteState => Answer::Done(0),
-        Place::ReadAddress => Answer::Done(0),
-        Place::WriteAddress => Answer::Done(0),
-        Place::PixelData => {
-            if is_palette_up(registers) {
-                Answer::Done(0)
-            } else {
-                Answer::PaletteDown
-            }
-        }
-        Place::ToggleReset => Answer::Done(0),
-        Place::NoRegister => Answer::NoRegister,
-        Place::NoAttribute => Answer::NoRegister,
-    }
-}
-
-// What a place answers to a read; `shown` is the component that pixel data would show.
-fn answer_read(
-    registers: &[u16; 100],
-    toggle: bool,
-    pointer: Pointer,
-    shown: u8,
-    place: Place,
-) -> Answer
-    requires { ⌜ T (inFile place) ⌝ }
-    requires { ⌜ T (allWithin storedTable (now registers)) ⌝ }
-    ensures { λ r. ⌜ ((f : FileOf) → Shows f (now (registers .entry)) toggle pointer shown → r ≡ answerAt false f place) ⌝ }
-{
-    match place {
-        Place::Register(number) => Answer::Done(registers[number]),
-        Place::Attribute(_) => Answer::Done(0),
-        Place::Fixed(value) => Answer::Done(value),
-        Place::ToggleState => Answer::Done(if toggle { 0x80 } else { 0 }),
-        Place::AttributeIndex => Answer::Done(registers[4]),
-        Place::PaletteState => Answer::Done(registers[85] + pointer.palette_state()),
-        Place::ReadAddress => Answer::Done(pointer.dac_state()),
-        Place::WriteAddress => Answer::Done(pointer.address as u16),
-        Place::PixelData => {
-            if is_palette_up(registers) {
-                Answer::Done(shown as u16)
-            } else {
-                Answer::PaletteDown
-            }
-        }
-        Place::ToggleReset => Answer::Done(0),
-        Place::NoRegister => Answer::NoRegister,
-        Place::NoAttribute => Answer::NoRegister,
-    }
-}
-
 fn low(value: u16) -> u8
     requires { ⌜ value < 256 ⌝ }
     ensures { λ r. ⌜ r ≡ value ⌝ }
@@ -233,7 +184,82 @@ fn low(value: u16) -> u8
     value as u8
 }
 
-// A pixel data write: at blue it stores an entry.
+// An address of pixel data.
+pub fn is_at_pixels(address: u16) -> bool
+    ensures { λ r. ⌜ r ≡ atPixels address ⌝ }
+{
+    if address == 0x3C9 {
+        return true;
+    }
+    address == 0xAC
+}
+
+// The number of the entry that an address names.
+pub fn entry_number(bank: bool, address: u8) -> usize
+    ensures { λ r. ⌜ r ≡ cond bank (address % 16) address ⌝ }
+{
+    if bank {
+        (address % 16) as usize
+    } else {
+        address as usize
+    }
+}
+
+// What an access answers and what it does, both computed from the parts of a file that it looks at.
+pub struct Decision {
+    pub answer: Answer,
+    pub effect: Effect,
+}
+
+// An answer that does nothing, as every refusal.
+fn only(answer: Answer) -> Decision
+    ensures { λ r. ⌜ (r .answer ≡ answer) × (r .effect ≡ Nothing) ⌝ }
+{
+    Decision {
+        answer,
+        effect: Effect::Nothing,
+    }
+}
+
+// An access that is done and gives no value.
+fn done(effect: Effect) -> Decision
+    ensures { λ r. ⌜ (r .answer ≡ DoneAnswer 0) × (r .effect ≡ effect) ⌝ }
+{
+    Decision {
+        answer: Answer::Done(0),
+        effect,
+    }
+}
+
+// What a write does to a register.
+fn store(stored: &[u16; 100], registers: &[u16; 100], number: usize, value: u16) -> Effect
+    requires { ⌜ now stored ≡ storedTable ⌝ }
+    ensures { λ r. ⌜ r ≡ StoreEffect number (reachIn (seen (now (registers .entry)) false) number) value ⌝ }
+{
+    Effect::Store {
+        register: number,
+        reach: reach_in(stored, registers, number),
+        value,
+    }
+}
+
+// A write to a register: the lock refuses CR0 to CR6.
+fn write_register(
+    stored: &[u16; 100],
+    registers: &[u16; 100],
+    number: usize,
+    value: u16,
+) -> Decision
+    requires { ⌜ now stored ≡ storedTable ⌝ }
+    ensures { λ r. ⌜ Decides (answerAt true (seen (now (registers .entry)) false) (RegisterPlace number)) (writeAt (seen (now (registers .entry)) false) (RegisterPlace number) value) r ⌝ }
+{
+    if is_locked_out(registers, number) {
+        return only(Answer::Locked);
+    }
+    done(store(stored, registers, number, value))
+}
+
+// What a pixel data write does: at blue it stores an entry.
 fn pixel_write(registers: &[u16; 100], pointer: Pointer, byte: u8) -> Effect
     ensures { λ r. ⌜ r ≡ pixelWrite (withPointer pointer (seen (now (registers .entry)) false)) byte ⌝ }
 {
@@ -251,93 +277,87 @@ fn pixel_write(registers: &[u16; 100], pointer: Pointer, byte: u8) -> Effect
     }
 }
 
-// The number of the entry that an address names.
-pub fn entry_number(bank: bool, address: u8) -> usize
-    ensures { λ r. ⌜ r ≡ cond bank (address % 16) address ⌝ }
-{
-    if bank {
-        (address % 16) as usize
-    } else {
-        address as usize
-    }
-}
-
-// What a write does at a place.
-fn effect_write(
+// A write at a place.
+fn write_at(
+    stored: &[u16; 100],
     registers: &[u16; 100],
     toggle: bool,
     pointer: Pointer,
     place: Place,
     value: u16,
-) -> Effect
+) -> Decision
+    requires { ⌜ now stored ≡ storedTable ⌝ }
     requires { ⌜ T (holds place value) ⌝ }
-    ensures { λ r. ⌜ r ≡ writeAt (withPointer pointer (seen (now (registers .entry)) toggle)) place value ⌝ }
+    ensures { λ r. ⌜ Decides (answerAt true (seen (now (registers .entry)) false) place) (writeAt (withPointer pointer (seen (now (registers .entry)) toggle)) place value) r ⌝ }
 {
     match place {
-        Place::Register(number) => Effect::Store {
+        Place::Register(number) => write_register(stored, registers, number, value),
+        Place::Attribute(number) => done(Effect::StoreAndFlip {
             register: number,
-            reach: reach_in(registers, number),
+            reach: reach_in(stored, registers, number),
             value,
+        }),
+        Place::PaletteState => done(store(stored, registers, 85, value)),
+        Place::ReadAddress => done(Effect::Move(Pointer::addressed(true, low(value)))),
+        Place::WriteAddress => done(Effect::Move(Pointer::addressed(false, low(value)))),
+        Place::PixelData => {
+            if is_palette_up(registers) {
+                done(pixel_write(registers, pointer, low(value)))
+            } else {
+                only(Answer::PaletteDown)
+            }
+        }
+        Place::NoAttribute => Decision {
+            answer: Answer::NoRegister,
+            effect: Effect::Toggle(!toggle),
         },
-        Place::Attribute(number) => Effect::StoreAndFlip {
-            register: number,
-            reach: reach_in(registers, number),
-            value,
-        },
-        Place::PaletteState => Effect::Store {
-            register: 85,
-            reach: reach_in(registers, 85),
-            value,
-        },
-        Place::ReadAddress => Effect::Move(Pointer::addressed(true, low(value))),
-        Place::WriteAddress => Effect::Move(Pointer::addressed(false, low(value))),
-        Place::PixelData => pixel_write(registers, pointer, low(value)),
-        Place::NoAttribute => Effect::Toggle(!toggle),
-        Place::Fixed(_) => Effect::Nothing,
-        Place::ToggleState => Effect::Nothing,
-        Place::AttributeIndex => Effect::Nothing,
-        Place::ToggleReset => Effect::Nothing,
-        Place::NoRegister => Effect::Nothing,
+        Place::Fixed(_) => only(Answer::ReadOnly),
+        Place::ToggleState => only(Answer::ReadOnly),
+        Place::AttributeIndex => only(Answer::ReadOnly),
+        Place::ToggleReset => done(Effect::Nothing),
+        Place::NoRegister => only(Answer::NoRegister),
     }
 }
 
-// What a read does at a place.
-fn effect_read(pointer: Pointer, place: Place) -> Effect
-    ensures { λ r. ⌜ r ≡ readAt (withPointer pointer powerOn) place ⌝ }
+// A pixel data read, which moves the pointer; `shown` is the component that it shows.
+fn read_pixel(registers: &[u16; 100], pointer: Pointer, shown: u8) -> Decision
+    ensures { λ r. ⌜ Decides (cond (paletteUp (seen (now (registers .entry)) false)) (DoneAnswer shown) PaletteDownAnswer) (MoveEffect (afterRead pointer)) r ⌝ }
 {
-    match place {
-        Place::PixelData => Effect::Move(pointer.after_read()),
-        Place::ToggleReset => Effect::Toggle(false),
-        Place::Register(_) => Effect::Nothing,
-        Place::Attribute(_) => Effect::Nothing,
-        Place::Fixed(_) => Effect::Nothing,
-        Place::ToggleState => Effect::Nothing,
-        Place::AttributeIndex => Effect::Nothing,
-        Place::PaletteState => Effect::Nothing,
-        Place::ReadAddress => Effect::Nothing,
-        Place::WriteAddress => Effect::Nothing,
-        Place::NoRegister => Effect::Nothing,
-        Place::NoAttribute => Effect::Nothing,
-    }
-}
-
-// What an access answers and what it does, both computed from the parts of a file that it looks at.
-pub struct Decision {
-    pub answer: Answer,
-    pub effect: Effect,
-}
-
-// A refusal, code 2 or more, does nothing.
-fn settle(answer: Answer, effect: Effect) -> Decision
-    ensures { λ r. ⌜ (r .answer ≡ answer) × (r .effect ≡ cond (refused answer) Nothing effect) ⌝ }
-{
-    if 2 <= answer.code() {
+    if is_palette_up(registers) {
         return Decision {
-            answer,
-            effect: Effect::Nothing,
+            answer: Answer::Done(shown as u16),
+            effect: Effect::Move(pointer.after_read()),
         };
     }
-    Decision { answer, effect }
+    only(Answer::PaletteDown)
+}
+
+// A read at a place; `shown` is the component that pixel data shows, and anything where the place is another.
+fn read_at(
+    registers: &[u16; 100],
+    toggle: bool,
+    pointer: Pointer,
+    shown: u8,
+    place: Place,
+) -> Decision
+    requires { ⌜ T (inFile place) ⌝ }
+    requires { ⌜ T (allWithin storedTable (now registers)) ⌝ }
+    ensures { λ r. ⌜ ((f : FileOf) → Shows f (now (registers .entry)) toggle pointer → (place ≡ PixelDataPlace → shown ≡ shownIn f) → Decides (answerAt false f place) (readAt (withPointer pointer powerOn) place) r) ⌝ }
+{
+    match place {
+        Place::Register(number) => only(Answer::Done(registers[number])),
+        Place::Attribute(_) => only(Answer::Done(0)),
+        Place::Fixed(value) => only(Answer::Done(value)),
+        Place::ToggleState => only(Answer::Done(if toggle { 0x80 } else { 0 })),
+        Place::AttributeIndex => only(Answer::Done(registers[4])),
+        Place::PaletteState => only(Answer::Done(registers[85] + pointer.palette_state())),
+        Place::ReadAddress => only(Answer::Done(pointer.dac_state())),
+        Place::WriteAddress => only(Answer::Done(pointer.address as u16)),
+        Place::PixelData => read_pixel(registers, pointer, shown),
+        Place::ToggleReset => done(Effect::Toggle(false)),
+        Place::NoRegister => only(Answer::NoRegister),
+        Place::NoAttribute => only(Answer::NoRegister),
+    }
 }
 
 fn word(value: u32) -> u16
@@ -347,36 +367,34 @@ fn word(value: u32) -> u16
     value as u16
 }
 
-// Answer and effect of a record in a file of these registers, toggle and pointer. `shown` is the component that pixel data shows.
+// Answer and effect of a record in a file of these registers, toggle and pointer. `shown` is the component that pixel data shows, and anything at other addresses.
 pub fn decide(
+    cells: &[u8; 534],
+    stored: &[u16; 100],
     registers: &[u16; 100],
     toggle: bool,
     pointer: Pointer,
     shown: u8,
     asked: Record,
 ) -> Decision
+    requires { ⌜ now cells ≡ cellTable ⌝ }
+    requires { ⌜ now stored ≡ storedTable ⌝ }
     requires { ⌜ T (allWithin storedTable (now registers)) ⌝ }
     requires { ⌜ T (pointerSound pointer) ⌝ }
-    ensures { λ r. ⌜ ((f : FileOf) → T (sound f) → Shows f (now (registers .entry)) toggle pointer shown → r ≡ decision f asked) ⌝ }
+    ensures { λ r. ⌜ ((f : FileOf) → T (sound f) → Shows f (now (registers .entry)) toggle pointer → (T (atPixels (asked .address)) → shown ≡ shownIn f) → r ≡ decision f asked) ⌝ }
 {
-    match look(registers, asked) {
+    match look(cells, registers, asked) {
         Looked::Refused(answer) => Decision {
             answer,
             effect: Effect::Nothing,
         },
         Looked::At(cell) => {
-            let place = decode::place_in(registers, toggle, cell);
+            let place = decode::place_in(cells, registers, toggle, cell);
             if asked.kind % 2 == 1 {
                 let value = word(asked.value);
-                settle(
-                    answer_write(registers, place),
-                    effect_write(registers, toggle, pointer, place, value),
-                )
+                write_at(stored, registers, toggle, pointer, place, value)
             } else {
-                settle(
-                    answer_read(registers, toggle, pointer, shown, place),
-                    effect_read(pointer, place),
-                )
+                read_at(registers, toggle, pointer, shown, place)
             }
         }
     }

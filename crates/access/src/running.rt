@@ -1,6 +1,6 @@
 // A run over a trace: the file's parts are locals, and an access changes one of them.
 ghost use mathlib.Core.Path.{_≡_};
-ghost use mathlib.Core.Bool.{cond};
+ghost use mathlib.Core.Bool.{false, cond};
 ghost use mathlib.Core.List.{_++_};
 ghost use Prim.Native.Nat.{_+_, _*_, _%_, _<_, _≤_};
 ghost use lib.Dec.{T};
@@ -16,6 +16,9 @@ ghost use Rattle.file.specs.Palette.{pointerSound};
 ghost use Rattle.file.specs.Registers.{storedTable};
 ghost use Rattle.access.specs.Run.{fileAfter, replies as repliesOf, runCount, run as runOf};
 ghost use Rattle.access.specs.Served.{Parts, putBack, lands, Serves};
+ghost use Rattle.access.specs.Looked.{shownIn, atPixels};
+ghost use Rattle.access.specs.Cells.{cellTable};
+use crate::decode;
 use crate::engine;
 use crate::record::Record;
 use crate::wire::byte_at;
@@ -65,14 +68,34 @@ fn store_in(registers: &mut [u16; 100], number: usize, reach: u16, value: u16)
     }
 }
 
-// What an access leaves beside the registers: its reply's code and value, pointer, toggle, and the two entries that the pointer named.
+// What an access leaves beside the registers: its reply's code and value, pointer, toggle, and a colour for the palette or the bank.
 pub struct Served {
     pub code: u8,
     pub value: u16,
     pub pointer: Pointer,
     pub toggle: bool,
-    pub palette: Colour,
-    pub bank: Colour,
+    pub palette: bool,
+    pub bank: bool,
+    pub colour: Colour,
+}
+
+// The parts before an access: nothing is answered or painted yet.
+fn unpainted(pointer: Pointer, toggle: bool) -> Served
+    ensures { λ r. ⌜ (r .pointer ≡ pointer) × (r .toggle ≡ toggle) × (r .palette ≡ false) × (r .bank ≡ false) ⌝ }
+{
+    Served {
+        code: 0,
+        value: 0,
+        pointer,
+        toggle,
+        palette: false,
+        bank: false,
+        colour: Colour {
+            red: 0,
+            green: 0,
+            blue: 0,
+        },
+    }
 }
 
 // An effect on the registers where they stand, and on the other parts by value.
@@ -110,24 +133,40 @@ fn put_effect(registers: &mut [u16; 100], before: Served, effect: Effect) -> Ser
             colour,
             pointer: next,
         } => {
-            after.bank = pick(bank, colour, before.bank);
-            after.palette = pick(bank, before.palette, colour);
+            after.palette = !bank;
+            after.bank = bank;
+            after.colour = colour;
             after.pointer = next;
         }
     }
     after
 }
 
-// One access: the registers where they stand, the other parts by value.
-fn serve(registers: &mut [u16; 100], before: Served, asked: Record) -> Served
+// One access: the registers where they stand, the other parts by value. `shown` is the component that pixel data shows.
+fn serve(
+    cells: &[u8; 534],
+    stored: &[u16; 100],
+    registers: &mut [u16; 100],
+    before: Served,
+    shown: u8,
+    asked: Record,
+) -> Served
+    requires { ⌜ now cells ≡ cellTable ⌝ }
+    requires { ⌜ now stored ≡ storedTable ⌝ }
     requires { ⌜ T (allWithin storedTable (now registers)) ⌝ }
     requires { ⌜ T (pointerSound (before .pointer)) ⌝ }
-    ensures { λ r. ⌜ ((f : FileOf) → T (sound f) → Parts f (now (registers .entry)) before → Serves f asked (before .pointer) (now (registers .exit)) r) ⌝ }
+    ensures { λ r. ⌜ ((f : FileOf) → T (sound f) → Parts f (now (registers .entry)) before → (T (atPixels (asked .address)) → shown ≡ shownIn f) → Serves f asked (before .pointer) (now (registers .exit)) r) ⌝ }
 {
     let pointer = before.pointer;
-    let named = pick(engine::is_in_bank(registers), before.bank, before.palette);
-    let shown = named.component(pointer.next);
-    let decision = engine::decide(registers, before.toggle, pointer, shown, asked);
+    let decision = engine::decide(
+        cells,
+        stored,
+        registers,
+        before.toggle,
+        pointer,
+        shown,
+        asked,
+    );
     let answer = decision.answer;
     let mut said = before;
     said.code = answer.code();
@@ -149,20 +188,20 @@ fn run_whole(whole: File, trace: &[u8], replies: &mut [u8], count: usize) -> Fil
     let mut bank = whole.bank;
     let mut pointer = whole.pointer;
     let mut toggle = whole.toggle;
+    let cells = decode::cells();
+    let stored = engine::stored();
     let mut n: usize = 0;
     while n < count {
         let asked = record_at(trace, 8 * n);
         let at = palette_entry(pointer);
         let within = bank_entry(pointer);
-        let before = Served {
-            code: 0,
-            value: 0,
-            pointer,
-            toggle,
-            palette: palette[at],
-            bank: bank[within],
-        };
-        let after = serve(&mut registers, before, asked);
+        let mut shown: u8 = 0;
+        if engine::is_at_pixels(asked.address) {
+            let named = pick(engine::is_in_bank(&registers), bank[within], palette[at]);
+            shown = named.component(pointer.next);
+        }
+        let before = unpainted(pointer, toggle);
+        let after = serve(&cells, &stored, &mut registers, before, shown, asked);
         put_reply(
             replies,
             8 * n,
@@ -171,10 +210,13 @@ fn run_whole(whole: File, trace: &[u8], replies: &mut [u8], count: usize) -> Fil
             after.code,
             after.value,
         );
-        let entry = after.palette;
-        palette[at] = entry;
-        let colour = after.bank;
-        bank[within] = colour;
+        let colour = after.colour;
+        if after.palette {
+            palette[at] = colour;
+        }
+        if after.bank {
+            bank[within] = colour;
+        }
         pointer = after.pointer;
         toggle = after.toggle;
         n += 1;

@@ -1,7 +1,10 @@
--- Tests: joined by `&&`, chosen by, and as equations. Assumes nothing.
+-- Tests: joined by `&&`, chosen by, as equations, and of every number below another. Assumes nothing.
+use Prim.Native.Nat.{ℕ, zero, suc, _<_}
 use mathlib.Core.Path.{_≡_, refl, sym, subst}
 use mathlib.Core.Bool.{Bool, true, false, cond, true≢false, not, _&&_, _||_}
-use lib.Dec.{T}
+use native.Mathlib.Omega.{arith}
+use borrow.Author.Tests.{eqb-true, eqb-false}
+use lib.Dec.{T, eqb}
 
 pub left : (a b : Bool) → T (a && b) → T a
 left true b t = tt
@@ -79,3 +82,16 @@ neither false b t = (tt, t)
 pub twice : (b : Bool) → T (not (not b)) → T b
 twice true t = tt
 twice false t = absurd t
+
+-- a test passes at every number below another
+unfoldable pub everyBelow : (ℕ → Bool) → ℕ → Bool
+everyBelow test zero = true
+everyBelow test (suc k) = test k && everyBelow test k
+
+pub below : (test : ℕ → Bool) (k : ℕ) → T (everyBelow test k) → (n : ℕ) → n < k → T (test n)
+unfolding everyBelow
+below test zero t n h = absurd (omega arith)
+below test (suc k) t n h =
+    by-test (eqb n k)
+    (λ e. rw (eqb-true n k e) (left (test k) (everyBelow test k) t))
+    (λ e. below test k (right (test k) (everyBelow test k) t) n (omega (arith, eqb-false n k e)))

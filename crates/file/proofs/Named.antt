@@ -1,15 +1,15 @@
 -- The register of a name: a name is compared byte by byte, and the table is walked row by row. Assumes nothing.
 use Prim.Native.Nat.{ℕ, zero, suc, _+_, _*_, _<_, _≤_}
 use mathlib.Core.Path.{_≡_, refl, sym, ap, ap₂, _∙_}
-use mathlib.Core.Bool.{Bool, true, false, cond, _&&_}
-use mathlib.Core.List.{List, [], _∷_, _++_, map}
+use mathlib.Core.Bool.{Bool, true, false, cond, not, _&&_}
+use mathlib.Core.List.{List, [], _∷_, _++_}
 use native.Mathlib.Numerals.{add-one}
 use native.Mathlib.Omega.{arith}
 use borrow.Author.Tests.{eq-eqb, ne-eqb}
 use lib.Dec.{T, eqb, leb, leb→le}
-use lib.ListN.{getD, take, drop, replicate, length, length-take, length-append, drop-of-length-le, List·getD-append, List·getD-map}
+use lib.ListN.{getD, take, drop, replicate, length, length-take, length-append, drop-of-length-le, List·getD-append}
 use lib.Seq.{drop-cons, getD-take, getD-append-add}
-use Rattle.bits.proofs.Test.{left, right, and-false}
+use Rattle.bits.proofs.Test.{left, right, and-false, everyBelow, below}
 use Rattle.file.specs.Readers.{ascii, nameTable, position, same}
 use Rattle.file.specs.Registers.{registers, singles, sequencer, crtc, graphics, attribute, pipeline}
 
@@ -34,94 +34,134 @@ other-length (x ∷ xs) [] n = refl
 other-length (x ∷ xs) (y ∷ ys) n =
     ap (λ (b : Bool). eqb x y && b) (other-length xs ys (λ e. n (ap suc e))) ∙ and-false (eqb x y)
 
--- ---- the names as one text, ten bytes to a row
+-- ---- the names as one text, twelve bytes to a row
+
+unfoldable pub block : List ℕ → List ℕ
+block row = take 12 (0x2E ∷ row ++ replicate 11 0x2E)
 
 unfoldable pub flat : List (List ℕ) → List ℕ
 flat [] = []
-flat (row ∷ rows) = take 10 (row ++ replicate 10 0x20) ++ flat rows
+flat (row ∷ rows) = block row ++ flat rows
 
-block-length : (row : List ℕ) → length (take 10 (row ++ replicate 10 0x20)) ≡ 10
-block-length row = omega (arith, length-take 10 (row ++ replicate 10 0x20), length-append row (replicate 10 0x20))
+block-length : (row : List ℕ) → length (block row) ≡ 12
+unfolding block
+block-length row = omega (arith, length-take 12 (0x2E ∷ row ++ replicate 11 0x2E), length-append row (replicate 11 0x2E))
 
-first : (j : ℕ) → 10 * 0 + j ≡ j
+first : (j : ℕ) → 12 * 0 + j ≡ j
 first j = omega arith
 
-further : (i j n : ℕ) → n ≡ 10 → 10 * suc i + j ≡ n + (10 * i + j)
+further : (i j n : ℕ) → n ≡ 12 → 12 * suc i + j ≡ n + (12 * i + j)
 further i j n e = omega (arith, e)
 
-flat-at : (rows : List (List ℕ)) (i j : ℕ) → j < 10 → j < length (getD rows i []) → getD (flat rows) (10 * i + j) 0 ≡ getD (getD rows i []) j 0
+flat-at : (rows : List (List ℕ)) (i j : ℕ) → i < length rows → j < 12 → getD (flat rows) (12 * i + j) 0 ≡ getD (block (getD rows i [])) j 0
 unfolding flat
-flat-at [] i j h l = refl
-flat-at (row ∷ rows) zero j h l =
-    ap (λ (n : ℕ). getD (flat (row ∷ rows)) n 0) (first j)
-    ∙ List·getD-append (take 10 (row ++ replicate 10 0x20)) (flat rows) 0 j (omega (arith, h, block-length row))
-    ∙ getD-take 10 (row ++ replicate 10 0x20) j 0 h
-    ∙ List·getD-append row (replicate 10 0x20) 0 j l
-flat-at (row ∷ rows) (suc i) j h l =
-    ap (λ (n : ℕ). getD (flat (row ∷ rows)) n 0) (further i j (length (take 10 (row ++ replicate 10 0x20))) (block-length row))
-    ∙ getD-append-add (take 10 (row ++ replicate 10 0x20)) (flat rows) (10 * i + j) 0
-    ∙ flat-at rows i j h l
+flat-at [] i j l h = absurd (omega arith)
+flat-at (row ∷ rows) zero j l h =
+    ap (λ (n : ℕ). getD (flat (row ∷ rows)) n 0) (first j) ∙ List·getD-append (block row) (flat rows) 0 j (omega (arith, h, block-length row))
+flat-at (row ∷ rows) (suc i) j l h =
+    ap (λ (n : ℕ). getD (flat (row ∷ rows)) n 0) (further i j (length (block row)) (block-length row))
+    ∙ getD-append-add (block row) (flat rows) (12 * i + j) 0
+    ∙ flat-at rows i j (omega arith) h
 
--- ---- the lengths of the names
+-- a row's name begins behind the first dot
+block-at : (row : List ℕ) (j : ℕ) → j < 11 → j < length row → getD (block row) (j + 1) 0 ≡ getD row j 0
+unfolding block
+block-at row j h l =
+    getD-take 12 (0x2E ∷ row ++ replicate 11 0x2E) (j + 1) 0 (omega arith)
+    ∙ ap (λ (n : ℕ). getD (0x2E ∷ row ++ replicate 11 0x2E) n 0) (add-one j) ∙ List·getD-append row (replicate 11 0x2E) 0 j l
 
-unfoldable pub lengths : List ℕ
-unfolding nameTable registers singles sequencer crtc graphics attribute pipeline ascii
-lengths = map (λ (row : List ℕ). length row) nameTable
+-- ---- where the names end
 
-unfoldable short : List (List ℕ) → Bool
-short [] = true
-short (row ∷ rows) = leb (length row) 10 && short rows
+-- as many bytes as stand before the dots
+unfoldable ends : List ℕ → ℕ → Bool
+ends row k = cond (eqb (getD (block row) k 0) 0x2E) false (eqb (getD (block row) (k + 1) 0) 0x2E)
 
-short-at : (rows : List (List ℕ)) (i : ℕ) → T (short rows) → length (getD rows i []) ≤ 10
-unfolding short
-short-at [] i t = omega arith
-short-at (row ∷ rows) zero t = leb→le (length row) 10 (left (leb (length row) 10) (short rows) t)
-short-at (row ∷ rows) (suc i) t = short-at rows i (right (leb (length row) 10) (short rows) t)
+unfoldable agree : Bool → Bool → Bool
+agree a b = cond a b (not b)
 
-pub length-row : (number : ℕ) → getD lengths number 0 ≡ length (getD nameTable number [])
-unfolding lengths
-length-row number = List·getD-map (λ (row : List ℕ). length row) nameTable number []
+agreed : (a b : Bool) → T (agree a b) → a ≡ b
+unfolding agree
+agreed true true t = refl
+agreed true false t = absurd t
+agreed false true t = absurd t
+agreed false false t = refl
 
--- a text that is as long as the table says has the length of the row
-pub row-length : (number n w : ℕ) → n ≡ w → w ≡ getD lengths number 0 → length (getD nameTable number []) ≡ n
-row-length number n w e f = sym (e ∙ f ∙ length-row number)
+-- a name has ten bytes at most, and ends where its row shows it
+unfoldable fits : List ℕ → Bool
+fits row = leb (length row) 10 && everyBelow (λ (k : ℕ). agree (eqb (length row) k) (ends row k)) 11
 
--- which is ten at most
-pub row-short : (number : ℕ) → length (getD nameTable number []) ≤ 10
-unfolding short nameTable registers singles sequencer crtc graphics attribute pipeline ascii
-row-short number = short-at nameTable number tt
+unfoldable all-fit : List (List ℕ) → Bool
+all-fit [] = true
+all-fit (row ∷ rows) = fits row && all-fit rows
 
--- a row and a name of its length, from a byte on
-next-byte : (number i : ℕ) (name : List ℕ) → length (getD nameTable number []) ≡ length name → i < length name
-    → same (drop i (getD nameTable number [])) (drop i name)
-    ≡ (eqb (getD (flat nameTable) (10 * number + i) 0) (getD name i 0) && same (drop (i + 1) (getD nameTable number [])) (drop (i + 1) name))
-next-byte number i name e h =
-    same-from (getD nameTable number []) name i (omega (arith, e, h)) h
-    ∙ ap (λ (byte : ℕ). eqb byte (getD name i 0) && same (drop (i + 1) (getD nameTable number [])) (drop (i + 1) name))
-    (sym (flat-at nameTable number i (omega (arith, e, h, row-short number)) (omega (arith, e, h))))
-
--- where the bytes there differ, row and name do
-pub differs : (number i : ℕ) (name : List ℕ) → length (getD nameTable number []) ≡ length name → i < length name
-    → (getD (flat nameTable) (10 * number + i) 0 ≡ getD name i 0 → ⊥) → same (drop i (getD nameTable number [])) (drop i name) ≡ false
-differs number i name e h n =
-    next-byte number i name e h
-    ∙ ap (λ (b : Bool). b && same (drop (i + 1) (getD nameTable number [])) (drop (i + 1) name))
-    (ne-eqb (getD (flat nameTable) (10 * number + i) 0) (getD name i 0) n)
-
--- where they agree, the bytes behind them decide
-pub agrees : (number i : ℕ) (name : List ℕ) → length (getD nameTable number []) ≡ length name → i < length name
-    → getD (flat nameTable) (10 * number + i) 0 ≡ getD name i 0
-    → same (drop i (getD nameTable number [])) (drop i name) ≡ same (drop (i + 1) (getD nameTable number [])) (drop (i + 1) name)
-agrees number i name e h y =
-    next-byte number i name e h
-    ∙ ap (λ (b : Bool). b && same (drop (i + 1) (getD nameTable number [])) (drop (i + 1) name))
-    (eq-eqb (getD (flat nameTable) (10 * number + i) 0) (getD name i 0) y)
-
--- ---- the walk over the rows
+fits-at : (rows : List (List ℕ)) (i : ℕ) → i < length rows → T (all-fit rows) → T (fits (getD rows i []))
+unfolding all-fit
+fits-at [] i h t = absurd (omega arith)
+fits-at (row ∷ rows) zero h t = left (fits row) (all-fit rows) t
+fits-at (row ∷ rows) (suc i) h t = fits-at rows i (omega arith) (right (fits row) (all-fit rows) t)
 
 pub rows-count : length nameTable ≡ 100
 unfolding nameTable registers singles sequencer crtc graphics attribute pipeline ascii
 rows-count = refl
+
+names-fit : T (all-fit nameTable)
+unfolding all-fit fits agree ends everyBelow block nameTable registers singles sequencer crtc graphics attribute pipeline ascii
+names-fit = tt
+
+module _ (number : ℕ) (small : number < 100) where
+  abbrev Row : List ℕ
+  Row = getD nameTable number []
+
+  abbrev Byte : ℕ → ℕ
+  Byte j = getD (flat nameTable) (12 * number + j) 0
+
+  byte-at : (j : ℕ) → j < 12 → Byte j ≡ getD (block Row) j 0
+  byte-at j h = flat-at nameTable number j (rw rows-count small) h
+
+  row-fits : T (fits Row)
+  row-fits = fits-at nameTable number (rw rows-count small) names-fit
+
+  pub row-short : length Row ≤ 10
+  unfolding fits
+  row-short = leb→le (length Row) 10 (left (leb (length Row) 10) (everyBelow (λ (k : ℕ). agree (eqb (length Row) k) (ends Row k)) 11) row-fits)
+
+  pub too-long : (k : ℕ) → 10 < k → eqb (length Row) k ≡ false
+  too-long k h = ne-eqb (length Row) k (λ e. omega (arith, e, h, row-short))
+
+  module _ (k : ℕ) (h : k ≤ 10) where
+    by-bytes : eqb (length Row) k ≡ cond (eqb (Byte k) 0x2E) false (eqb (Byte (k + 1)) 0x2E)
+    unfolding fits ends
+    by-bytes =
+        agreed (eqb (length Row) k) (ends Row k)
+        (below (λ (m : ℕ). agree (eqb (length Row) m) (ends Row m)) 11
+        (right (leb (length Row) 10) (everyBelow (λ (k : ℕ). agree (eqb (length Row) k) (ends Row k)) 11) row-fits) k (omega arith))
+        ∙ ap₂ (λ (a b : ℕ). cond (eqb a 0x2E) false (eqb b 0x2E)) (sym (byte-at k (omega arith))) (sym (byte-at (k + 1) (omega arith)))
+
+    pub at-dot : Byte k ≡ 0x2E → eqb (length Row) k ≡ false
+    at-dot e = by-bytes ∙ ap (λ (b : Bool). cond b false (eqb (Byte (k + 1)) 0x2E)) (eq-eqb (Byte k) 0x2E e)
+
+    pub before-dot : (Byte k ≡ 0x2E → ⊥) → eqb (length Row) k ≡ eqb (getD (flat nameTable) (12 * number + k + 1) 0) 0x2E
+    before-dot n =
+        by-bytes ∙ ap (λ (b : Bool). cond b false (eqb (Byte (k + 1)) 0x2E)) (ne-eqb (Byte k) 0x2E n)
+        ∙ ap (λ (m : ℕ). eqb (getD (flat nameTable) m 0) 0x2E) (omega arith)
+
+  module _ (i : ℕ) (name : List ℕ) (e : length Row ≡ length name) (h : i < length name) where
+    -- a row and a name of its length, from a byte on
+    next-byte : same (drop i Row) (drop i name) ≡ (eqb (Byte (i + 1)) (getD name i 0) && same (drop (i + 1) Row) (drop (i + 1) name))
+    next-byte =
+        same-from Row name i (omega (arith, e, h)) h
+        ∙ ap (λ (byte : ℕ). eqb byte (getD name i 0) && same (drop (i + 1) Row) (drop (i + 1) name))
+        (sym (byte-at (i + 1) (omega (arith, e, h, row-short)) ∙ block-at Row i (omega (arith, e, h, row-short)) (omega (arith, e, h))))
+
+    -- where the bytes there differ, row and name do
+    pub differs : (Byte (i + 1) ≡ getD name i 0 → ⊥) → same (drop i Row) (drop i name) ≡ false
+    differs n = next-byte ∙ ap (λ (b : Bool). b && same (drop (i + 1) Row) (drop (i + 1) name)) (ne-eqb (Byte (i + 1)) (getD name i 0) n)
+
+    -- where they agree, the bytes behind them decide
+    pub agrees : Byte (i + 1) ≡ getD name i 0 → same (drop i Row) (drop i name) ≡ same (drop (i + 1) Row) (drop (i + 1) name)
+    agrees y = next-byte ∙ ap (λ (b : Bool). b && same (drop (i + 1) Row) (drop (i + 1) name)) (eq-eqb (Byte (i + 1)) (getD name i 0) y)
+
+-- ---- the walk over the rows
 
 module _ (table : List (List ℕ)) (name : List ℕ) (number : ℕ) where
   at-row : number < length table

@@ -18,7 +18,7 @@ use Rattle.file.specs.declared.palette.Colour.{Colour}
 use Rattle.file.specs.declared.palette.Pointer.{Pointer}
 use Rattle.file.specs.declared.registers.File.{File}
 use Rattle.file.specs.Effects.{apply, storeIn, paintIn}
-use Rattle.file.specs.File.{register, withRegisters, withPalette, withBank, withPointer, withToggle, powerOn, black}
+use Rattle.file.specs.File.{register, withRegisters, withPalette, withBank, withPointer, withToggle, powerOn}
 use Rattle.file.specs.Palette.{byColour, addressed, moved, afterWrite, afterRead, pointerSound}
 use Rattle.file.specs.Registers.{storedBits, storedTable, registers, singles, sequencer, crtc, graphics, attribute, pipeline}
 use Rattle.file.specs.Sound.{allWithin, sound}
@@ -77,7 +77,7 @@ set-within (stored ∷ table) (value ∷ values) (suc number) new t w =
     (set-within table values number new (right (within stored value) (allWithin table values) t) w)
 
 -- there are as many registers as rows
-pub within-count : (table values : List ℕ) → T (allWithin table values) → length values ≡ length table
+within-count : (table values : List ℕ) → T (allWithin table values) → length values ≡ length table
 unfolding allWithin
 within-count [] [] t = refl
 within-count [] (value ∷ values) t = absurd t
@@ -134,6 +134,11 @@ registers-sound f = left (allWithin storedTable (f .registers)) (pointerSound (f
 pub pointer-sound : (f : File) → T (sound f) → T (pointerSound (f .pointer))
 unfolding sound
 pointer-sound f = right (allWithin storedTable (f .registers)) (pointerSound (f .pointer))
+
+-- a sound file has a hundred registers
+pub sound-count : (f : File) → T (sound f) → length (f .registers) ≡ 100
+unfolding storedTable registers singles sequencer crtc graphics attribute pipeline
+sound-count f s = within-count storedTable (f .registers) (registers-sound f s)
 
 -- an effect that stores within the stored bits, and moves to a sound pointer
 unfoldable pub keeps : Effect → Bool

@@ -1,7 +1,7 @@
 -- 01, 'Accesses and replies': 'all other readers of a file answer 12 with all numbers 0, marks off'. What a host reads of a file without an access.
 -- Assumes nothing.
 use Prim.Native.Char.{code}
-use Prim.Native.Nat.{ℕ, zero, suc}
+use Prim.Native.Nat.{ℕ, suc}
 use Prim.Native.String.{String, [] as empty, _∷_ as _then_}
 use mathlib.Core.Bool.{Bool, true, false, cond, _&&_}
 use mathlib.Core.List.{List, [], _∷_, map}
@@ -54,16 +54,17 @@ readNamed f name = readRegister f (numberOf name)
 unfoldable pub noEntry : Answer → EntryRead
 noEntry a = record { answer = a; colour = black }
 
--- 01, 'The palette pointer': 'a bank of 16 cursor and border colours, else one of 256'
-unfoldable pub readEntry : File → ℕ → List Colour → ℕ → EntryRead
-readEntry f count entries n =
-    cond (sound f) (cond (ltb n count) (record { answer = Done 0; colour = getD entries n black }) (noEntry NoRegister)) (noEntry NotSound)
+-- an entry's colour, if the file is sound and there is the entry
+unfoldable pub entryTold : Bool → Bool → Colour → EntryRead
+entryTold isSound there colour =
+    cond isSound (cond there (record { answer = Done 0; colour = colour }) (noEntry NoRegister)) (noEntry NotSound)
 
+-- 01, 'The palette pointer': 'a bank of 16 cursor and border colours, else one of 256'
 unfoldable pub readPalette : File → ℕ → EntryRead
-readPalette f n = readEntry f 256 (f .palette) n
+readPalette f n = entryTold (sound f) (ltb n 256) (getD (f .palette) n black)
 
 unfoldable pub readBank : File → ℕ → EntryRead
-readBank f n = readEntry f 16 (f .bank) n
+readBank f n = entryTold (sound f) (ltb n 16) (getD (f .bank) n black)
 
 -- 01, 'The palette pointer': 'An address, a mode, a next colour .. and two held bytes'
 unfoldable pub readPointer : File → PointerRead

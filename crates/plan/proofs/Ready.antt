@@ -6,7 +6,7 @@ use mathlib.Core.Bool.{Bool, true, false, cond, not, _&&_}
 use mathlib.Core.List.{[], _∷_}
 use borrow.Author.Tests.{eqb-true, eqb-false}
 use lib.Dec.{T, eqb, leb, T-not}
-use lib.ListN.{set, length}
+use lib.ListN.{set}
 use lib.Seq.{getD-set-same, getD-set-other}
 use Rattle.bits.specs.Store.{bit, within}
 use Rattle.bits.proofs.Test.{both, by-test}
@@ -14,9 +14,9 @@ use Rattle.file.specs.declared.registers.File.{File}
 use Rattle.file.specs.File.{register, crtcLocked, withRegisters, withToggle}
 use Rattle.file.specs.Names.{MISC, SRX, CRX, GRX, ARX, PCI04, CR11}
 use Rattle.file.specs.Palette.{pointerSound}
-use Rattle.file.specs.Registers.{storedBits, storedTable, registers, singles, sequencer, crtc, graphics, attribute, pipeline}
+use Rattle.file.specs.Registers.{storedBits, storedTable}
 use Rattle.file.specs.Sound.{allWithin, sound}
-use Rattle.file.proofs.Soundness.{at, set-within, within-count, registers-sound, pointer-sound}
+use Rattle.file.proofs.Soundness.{at, set-within, registers-sound, sound-count, pointer-sound}
 use Rattle.access.specs.declared.record.Record.{Record}
 use Rattle.access.specs.Access.{lockedOut, reachIn}
 use Rattle.access.specs.Checks.{isPort, isMmio, isOneOf, spaceOff}
@@ -31,13 +31,9 @@ use Rattle.plan.proofs.Stored.{withRegister, flipped, Free, road-stores
 
 -- ---- one register anew
 
-pub count : (f : File) → T (sound f) → length (f .registers) ≡ 100
-unfolding storedTable registers singles sequencer crtc graphics attribute pipeline
-count f s = within-count storedTable (f .registers) (registers-sound f s)
-
 pub at-same : (f : File) (number value : ℕ) → T (sound f) → number < 100 → register (withRegister number value f) number ≡ value
 unfolding register withRegister withRegisters
-at-same f number value s h = getD-set-same (f .registers) number value 0 (rw (count f s) h)
+at-same f number value s h = getD-set-same (f .registers) number value 0 (rw (sound-count f s) h)
 
 pub at-other : (f : File) (number value n : ℕ) → (n ≡ number → ⊥) → register (withRegister number value f) n ≡ register f n
 unfolding register withRegister withRegisters

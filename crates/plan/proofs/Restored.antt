@@ -1,15 +1,15 @@
 -- Demand 3: from every sound start, each record of the plan is accepted and the run ends in the wanted file.
 -- Assumes nothing.
-use Prim.Native.Nat.{ℕ, zero, suc, _*_, _<_}
+use Prim.Native.Nat.{ℕ, _*_, _<_}
 use mathlib.Core.Path.{_≡_, refl, sym, ap, ap₂, _∙_, subst}
-use mathlib.Core.Bool.{Bool, true, false, cond, not, true≢false, _&&_}
+use mathlib.Core.Bool.{Bool, true, false, cond, not, true≢false}
 use mathlib.Core.List.{List, [], _∷_, _++_, map}
 use native.Mathlib.Omega.{arith}
-use borrow.Author.Tests.{eqb-true, eqb-false}
+use borrow.Author.Tests.{eqb-true}
 use lib.Dec.{T, eqb, leb, T-not, eqb→eq}
 use lib.ListN.{getD, length, drop}
 use lib.Seq.{ext-getD}
-use Rattle.bits.proofs.Test.{left, right, by-test, passes, is-true, chosen}
+use Rattle.bits.proofs.Test.{by-test, passes, is-true, chosen, everyBelow, below}
 use Rattle.file.specs.declared.answer.Answer.{Answer}
 use Rattle.file.specs.declared.answer.Answer.the-variants.{Done, ShortBuffer, NotSound, NotBeforeRed}
 use Rattle.file.specs.declared.registers.File.{File}
@@ -18,6 +18,7 @@ use Rattle.file.specs.Names.{MISC}
 use Rattle.file.specs.Registers.{sequencer, crtc, graphics, attribute, pipeline}
 use Rattle.file.specs.Answers.{codeOf, refused}
 use Rattle.file.specs.Sound.{sound}
+use Rattle.file.proofs.Soundness.{sound-count}
 use Rattle.access.specs.declared.record.Item.{Item}
 use Rattle.access.specs.declared.record.Item.the-variants.{Whole}
 use Rattle.access.specs.Checks.{isOneOf}
@@ -32,7 +33,7 @@ use Rattle.plan.proofs.Along.{afterSelecting, afterRoads, brought, Brin
 use Rattle.plan.proofs.Composed.{then}
 use Rattle.plan.proofs.Counted.{plan-room}
 use Rattle.plan.proofs.Fitting.{run-fits, trace-items}
-use Rattle.plan.proofs.Ready.{Ready, count}
+use Rattle.plan.proofs.Ready.{Ready}
 use Rattle.plan.proofs.Opening.{opened, opening-runs, opened-ready, opened-up}
 use Rattle.plan.proofs.Stages.{coloured, colours-run, coloured-ready, registers-bring, indexed, indices-run, indexed-ready, closed, closing-runs}
 use Rattle.plan.proofs.Stored.{withRegister}
@@ -47,19 +48,6 @@ lastRoads w = indexRoads w ++ toARX ∷ toB0 ∷ toCR11 ∷ toPCI04 ∷ []
 unfoldable pub planRoads : File → List Road
 planRoads w = registerRoads ++ lastRoads w
 
--- a test passes at every number below another
-unfoldable pub everyBelow : (ℕ → Bool) → ℕ → Bool
-everyBelow test zero = true
-everyBelow test (suc k) = test k && everyBelow test k
-
-below : (test : ℕ → Bool) (k : ℕ) → T (everyBelow test k) → (n : ℕ) → n < k → T (test n)
-unfolding everyBelow
-below test zero t n h = absurd (omega arith)
-below test (suc k) t n h =
-    by-test (eqb n k)
-    (λ e. rw (eqb-true n k e) (left (test k) (everyBelow test k) t))
-    (λ e. below test k (right (test k) (everyBelow test k) t) n (omega (arith, eqb-false n k e)))
-
 -- after them every register holds its wanted value, if MISC did before
 all-settle : (w : File) → T (everyBelow (λ (n : ℕ). settles (planRoads w) n (eqb n MISC)) 100)
 unfolding everyBelow settles planRoads lastRoads moves registerRoads indexRoads eachRoad but isOneOf sequencer crtc graphics attribute pipeline
@@ -70,7 +58,7 @@ registers-as-wanted : (w : File) (xs : List ℕ) → T (sound w) → length xs �
     → afterRoads w (planRoads w) xs ≡ w .registers
 unfolding register
 registers-as-wanted w xs s many misc =
-    ext-getD 0 (afterRoads w (planRoads w) xs) (w .registers) (after-length w (planRoads w) xs ∙ many ∙ sym (count w s))
+    ext-getD 0 (afterRoads w (planRoads w) xs) (w .registers) (after-length w (planRoads w) xs ∙ many ∙ sym (sound-count w s))
     (λ n h.
     let small : n < 100 = omega (arith, after-length w (planRoads w) xs) in
     settled w (planRoads w) xs n (eqb n MISC) (omega arith)
@@ -107,7 +95,7 @@ module _ (w f : File) (ws : T (sound w)) (fs : T (sound f)) (wf : IsFile w) (red
   ends-in =
       ap (λ (rs : List ℕ). withRegisters rs w)
       (sym (after-append w registerRoads (lastRoads w) (afterColours .registers))
-      ∙ registers-as-wanted w (afterColours .registers) ws (count afterColours (colours-ready .isSound)) (colours-ready .misc))
+      ∙ registers-as-wanted w (afterColours .registers) ws (sound-count afterColours (colours-ready .isSound)) (colours-ready .misc))
 
   pub plan-restores : Runs f (planRecords w) w
   unfolding planRecords brought withRegisters coloured opened withToggle withRegister

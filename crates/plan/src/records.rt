@@ -1,15 +1,17 @@
 // The records of a plan, by their number in it.
 ghost use mathlib.Core.Path.{_≡_};
 ghost use mathlib.Core.Bool.{cond};
-ghost use Prim.Native.Nat.{_<_};
+ghost use Prim.Native.Nat.{_+_, _*_, _<_};
 ghost use lib.Dec.{eqb};
-ghost use lib.ListN.{getD};
+ghost use lib.ListN.{getD, length};
 ghost use Rattle.bits.specs.Store.{bit};
+ghost use Rattle.file.specs.File.{black};
 ghost use Rattle.plan.specs.Plan.{mmioWrite, portRead, opening, entries, indices, closing};
-ghost use Rattle.plan.specs.Written.{nothing, recordAt};
+ghost use Rattle.plan.specs.Written.{nothing, recordAt, coloursIn};
 use crate::rows::held;
 use crate::rows::register_at;
 use access::Record;
+use file::Colour;
 use file::File;
 
 fn config_write(address: u16, value: u32) -> Record
@@ -86,29 +88,27 @@ fn opening_at(wanted: File, k: usize) -> Record
     stage[k]
 }
 
-// The address, then three bytes for each entry of the palette.
-fn palette_at(wanted: File, k: usize) -> Record
-    requires { ⌜ k < 769 ⌝ }
-    ensures { λ r. ⌜ r ≡ getD (entries 0 (wanted .palette)) k nothing ⌝ }
+// An entry of the bank or the palette.
+fn entry_in(wanted: File, bank: bool, entry: usize) -> Colour
+    requires { ⌜ entry < length (coloursIn bank wanted) ⌝ }
+    ensures { λ r. ⌜ r ≡ getD (coloursIn bank wanted) entry black ⌝ }
 {
-    if k == 0 {
-        return mmio_write(0xA8, 0);
+    if bank {
+        wanted.bank[entry]
+    } else {
+        wanted.palette[entry]
     }
-    let entry = (k - 1) / 3;
-    let colour = wanted.palette[entry];
-    mmio_write(0xAC, wide(colour.component(((k - 1) % 3) as u8)))
 }
 
-// The same for the bank.
-fn bank_at(wanted: File, k: usize) -> Record
-    requires { ⌜ k < 49 ⌝ }
-    ensures { λ r. ⌜ r ≡ getD (entries 0 (wanted .bank)) k nothing ⌝ }
+// The address, then three bytes for each entry of the bank or the palette.
+fn entries_at(wanted: File, bank: bool, k: usize) -> Record
+    requires { ⌜ k < 1 + 3 * length (coloursIn bank wanted) ⌝ }
+    ensures { λ r. ⌜ r ≡ getD (entries 0 (coloursIn bank wanted)) k nothing ⌝ }
 {
     if k == 0 {
         return mmio_write(0xA8, 0);
     }
-    let entry = (k - 1) / 3;
-    let colour = wanted.bank[entry];
+    let colour = entry_in(wanted, bank, (k - 1) / 3);
     mmio_write(0xAC, wide(colour.component(((k - 1) % 3) as u8)))
 }
 
@@ -176,13 +176,13 @@ pub fn record_at(wanted: File, k: usize) -> Record
         return opening_at(wanted, k);
     }
     if k < 774 {
-        return palette_at(wanted, k - 5);
+        return entries_at(wanted, false, k - 5);
     }
     if k < 775 {
         return mmio_write(0xB0, 0x08);
     }
     if k < 824 {
-        return bank_at(wanted, k - 775);
+        return entries_at(wanted, true, k - 775);
     }
     if k < 964 {
         return register_at(wanted, k - 824);

@@ -3,3 +3,5 @@ pub mod Stores
 pub mod Spelled
 pub mod Lines
 pub mod Spaced
+pub mod Replies
+pub mod Pieces

@@ -1,6 +1,7 @@
 -- Text stored byte by byte: one after the other, and from the back. Assumes nothing.
 use Prim.Native.Nat.{ℕ, suc, _+_, _≤_, _<_}
 use mathlib.Core.Path.{_≡_, refl, ap, _∙_}
+use mathlib.Core.Bool.{Bool, true, false}
 use mathlib.Core.List.{List, [], _∷_, _++_}
 use native.Mathlib.Nat.{add-zero, add-suc, suc-add, add-assoc}
 use native.Mathlib.Omega.{arith}
@@ -8,7 +9,7 @@ use native.Mathlib.Numerals.{add-one}
 use lib.ListN.{length, set, drop, getD, length-append}
 use borrow.Author.Tests.{le-leb, lt-leb}
 use lib.Seq.{sets, sets-eq, set-comm, drop-cons}
-use Rattle.text.specs.Lent.{Wrote, fits, placed, behind}
+use Rattle.text.specs.Lent.{Wrote, fits, placed, placedIf, behind, behindIf}
 
 -- one text behind another
 sets-append : (l : List ℕ) (at : ℕ) (a b : List ℕ) → sets l at (a ++ b) ≡ sets (sets l at a) (at + length a) b
@@ -35,17 +36,28 @@ module _ {before : List ℕ} {at : ℕ} {a b middle after : List ℕ} {p q : ℕ
 pub one-byte : (l : List ℕ) (at x : ℕ) → Wrote l at (x ∷ []) (set l at x) (at + 1)
 one-byte l at x = record { bytes = refl; place = refl }
 
+module _ (test : Bool) (buffer : List ℕ) (at : ℕ) (text : List ℕ) where
+  -- the test fails: the buffer and the place are as they were
+  pub unplaced-if : test ≡ false → (buffer ≡ placedIf test buffer at text) × (at ≡ behindIf test at text)
+  unfolding placedIf behindIf
+  unplaced-if e = rw e (refl, refl)
+
+  -- it passes, and there is room: what was stored is the text at its place
+  pub whole-if : {after : List ℕ} {end : ℕ} → test ≡ true → at + length text ≤ length buffer → Wrote buffer at text after end
+      → (after ≡ placedIf test buffer at text) × (end ≡ behindIf test at text)
+  unfolding placedIf behindIf
+  whole-if e h w = rw e (w .bytes ∙ sets-eq text buffer at h, w .place)
+
 module _ (buffer : List ℕ) (at : ℕ) (text : List ℕ) where
-  -- no room: the buffer and the place are as they were
+  -- the same where the test is that there is room
   pub unplaced : length buffer < at + length text → (buffer ≡ placed buffer at text) × (at ≡ behind buffer at text)
   unfolding placed behind fits
-  unplaced h = rw (lt-leb _ _ h) (refl, refl)
+  unplaced h = unplaced-if (fits buffer at text) buffer at text (lt-leb _ _ h)
 
-  -- room: what was stored is the text at its place
   pub whole : {after : List ℕ} {end : ℕ} → at + length text ≤ length buffer → Wrote buffer at text after end
       → (after ≡ placed buffer at text) × (end ≡ behind buffer at text)
   unfolding placed behind fits
-  whole h w = rw (le-leb _ _ h) (w .bytes ∙ sets-eq text buffer at h, w .place)
+  whole h w = whole-if (fits buffer at text) buffer at text (le-leb _ _ h) h w
 
 -- what is left of a text, stored behind its beginning
 pub rest-stored : {before : List ℕ} {at : ℕ} {a after : List ℕ} {p : ℕ} (rest : List ℕ)

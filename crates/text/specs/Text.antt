@@ -1,13 +1,14 @@
 -- 01, 'The replay program': the text that it prints, as bytes.
 -- Assumes nothing.
-use Prim.Native.Nat.{ℕ, zero, suc, _+_, _/_, _%_}
-use mathlib.Core.Bool.{true, false, cond}
+use Prim.Native.Nat.{ℕ, zero, suc, _+_, _*_, _/_, _%_}
+use mathlib.Core.Bool.{Bool, true, false, cond, _&&_}
 use mathlib.Core.List.{List, [], _∷_, _++_}
-use lib.Dec.{ltb}
+use lib.Dec.{leb, ltb}
+use lib.ListN.{getD, drop}
 use Rattle.io.specs.Digits.{digits}
 use Rattle.access.specs.declared.record.Item.{Item}
 use Rattle.access.specs.Access.{accessItem}
-use Rattle.access.specs.Records.{items, itemCount}
+use Rattle.access.specs.Records.{items, itemCount, two}
 use Rattle.access.specs.Run.{fileAfter}
 use Rattle.file.specs.declared.answer.Answer.{Answer}
 use Rattle.file.specs.declared.registers.File.{File}
@@ -46,6 +47,15 @@ lineOf number code value = decimal number ++ space ++ decimal code ++ space ++ h
 unfoldable pub recordLine : ℕ → Answer → List ℕ
 recordLine number a = lineOf number (codeOf a) (valueOf a)
 
+-- the lines of so many replies of 8 bytes, from a number on: code in byte 0, value in bytes 4-5
+unfoldable pub replyLines : ℕ → ℕ → List ℕ → List ℕ
+replyLines zero number replies = []
+replyLines (suc count) number replies = lineOf number (getD replies 0 0) (two replies 4) ++ replyLines count (suc number) (drop 8 replies)
+
+-- a line has at most 30 bytes: 20 and 3 decimal digits, four hex digits, two spaces, a newline. So many have room, and numbers of 64 bits
+unfoldable pub linesFit : ℕ → ℕ → ℕ → ℕ → Bool
+linesFit room at number count = leb (at + 30 * count) room && ltb (number + count) 18446744073709551616
+
 unfoldable pub spaced : List ℕ → List ℕ
 spaced [] = []
 spaced (n ∷ ns) = space ++ decimal n ++ spaced ns
@@ -63,7 +73,11 @@ unfoldable pub recordLines : ℕ → File → List Item → List ℕ
 recordLines number f [] = []
 recordLines number f (i ∷ is) = recordLine number (accessItem f i .answer) ++ recordLines (suc number) (accessItem f i .file) is
 
+-- what is printed of a trace that follows so many records, from the file that they left
+unfoldable pub replayedFrom : ℕ → File → List ℕ → List ℕ
+replayedFrom number f trace =
+    recordLines number f (items (itemCount trace) trace) ++ timingLine (timingIn (fileAfter f (items (itemCount trace) trace)))
+
 -- 'It reads a trace on standard input from power-on.'
 unfoldable pub replayed : List ℕ → List ℕ
-replayed trace =
-    recordLines 0 powerOn (items (itemCount trace) trace) ++ timingLine (timingIn (fileAfter powerOn (items (itemCount trace) trace)))
+replayed trace = replayedFrom 0 powerOn trace

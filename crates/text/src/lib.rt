@@ -4,4 +4,5 @@ mod number;
 mod numbers;
 
 pub use line::record_line;
+pub use line::reply_lines;
 pub use numbers::timing_line;

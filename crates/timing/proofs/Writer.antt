@@ -10,7 +10,7 @@ use lib.Bits.{bitAnd}
 use lib.Dec.{T, eqb}
 use lib.ListN.{getD, length}
 use Rattle.bits.specs.Numbers.{Number, readFrom, readNumbers, allInRange, writeNumbers}
-use Rattle.bits.specs.Store.{bit, within}
+use Rattle.bits.specs.Store.{bit}
 use Rattle.bits.proofs.Bit.{by-bits, bit-of-zero}
 use Rattle.bits.proofs.Split.{apart}
 use Rattle.bits.proofs.Tables.{tableReach, fitting, written-outside, read-back, write-back, read-ranged}
@@ -21,9 +21,8 @@ use Rattle.file.specs.declared.registers.File.{File}
 use Rattle.file.specs.Answers.{refused, codeOf}
 use Rattle.file.specs.File.{register, withRegisters, crtcLocked}
 use Rattle.file.specs.Names.{CR1A, CR1B}
-use Rattle.file.specs.Registers.{storedTable, registers, singles, sequencer, crtc, graphics, attribute, pipeline}
-use Rattle.file.specs.Sound.{sound, allWithin}
-use Rattle.file.proofs.Soundness.{registers-sound}
+use Rattle.file.specs.Sound.{sound}
+use Rattle.file.proofs.Soundness.{sound-count}
 use Rattle.timing.specs.declared.Timing.{Timing}
 use Rattle.timing.specs.Table.{table, wide}
 use Rattle.timing.specs.Timing.{timingOf, numbersOf, timingIn, readTiming, withTiming, timingAnswer, writtenFile, writeTiming}
@@ -128,18 +127,9 @@ unfolding withTiming
 timing-sound f t s =
     after-writer (λ (g : File). T (sound g)) f t s (written-sound (table (wide f)) (numbersOf t) f (table-stored (wide f)) s)
 
--- a sound file's registers are as many as the table has rows
-same-length : (rows values : List ℕ) → T (allWithin rows values) → length values ≡ length rows
-unfolding allWithin
-same-length [] [] t = refl
-same-length [] (value ∷ values) t = absurd t
-same-length (row ∷ rows) [] t = absurd t
-same-length (row ∷ rows) (value ∷ values) t = ap suc (same-length rows values (right (within row value) (allWithin rows values) t))
-
 fits : (f : File) → T (sound f) → T (fitting (length (f .registers)) (table (wide f)))
-unfolding storedTable registers singles sequencer crtc graphics attribute pipeline
 fits f s =
-    subst (λ (k : ℕ). T (fitting k (table (wide f)))) (sym (same-length storedTable (f .registers) (registers-sound f s))) (table-fits (wide f))
+    subst (λ (k : ℕ). T (fitting k (table (wide f)))) (sym (sound-count f s)) (table-fits (wide f))
 
 -- an accepted timing is written
 accepted-file : (f : File) (t : Timing) → timingAnswer f t ≡ Done 0 → writeTiming f t .file ≡ withTiming t f

@@ -5,12 +5,9 @@ use borrow.Author.Needs.{needs}
 use Rattle.timing.proofs.is_set.Statement.{statement}
 use Rattle.timing.proofs.is_set.Tie as tie
 
-shr-result : tie.Need-shr-result
-shr-result c = search needs
-
 returns : tie.Need-returns
 unfolding bit
 returns c = refl
 
 pub is-set-spec : {M : Type 1} → statement M
-is-set-spec = tie.close (tie.spec shr-result returns)
+is-set-spec = tie.close (tie.spec (λ c. search needs) returns)

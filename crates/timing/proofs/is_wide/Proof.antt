@@ -3,12 +3,6 @@ use borrow.Author.Needs.{needs}
 use Rattle.timing.proofs.is_wide.Statement.{statement}
 use Rattle.timing.proofs.is_wide.Tie as tie
 
-is-set-requires : tie.Need-is-set-requires
-is-set-requires c κs = search needs
-
-is-set-requires-2 : tie.Need-is-set-requires-2
-is-set-requires-2 c κs = search needs
-
 returns : tie.Need-returns
 returns c = rw (← c .before .is-set .ensures, c .if1 .taken)
 
@@ -16,4 +10,4 @@ returns-2 : tie.Need-returns-2
 returns-2 c = rw (← c .before .before .is-set .ensures, c .before .if1 .left) (c .is-set2 .ensures)
 
 pub is-wide-spec : {M : Type 1} → statement M
-is-wide-spec = tie.close (tie.spec is-set-requires is-set-requires-2 returns returns-2)
+is-wide-spec = tie.close (tie.spec (λ c κs. search needs) (λ c κs. search needs) returns returns-2)

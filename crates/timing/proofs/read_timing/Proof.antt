@@ -12,26 +12,8 @@ use borrow.Author.Needs.{needs}
 use Rattle.timing.proofs.read_timing.Statement.{statement}
 use Rattle.timing.proofs.read_timing.Tie as tie
 
-is-sound-requires : tie.Need-is-sound-requires
-is-sound-requires c κs = search needs
-
-none-requires : tie.Need-none-requires
-none-requires c κs = search needs
-
 returns : tie.Need-returns
 returns c = read-unsound (c .before .before .before .args .t1) (c .none .result) (sym (c .before .before .is-sound .ensures) ∙ not-true (c .before .before .is-sound .result) (c .before .if1 .taken)) (c .none .ensures)
-
-element-copy-out-is-wide : tie.Need-element-copy-out-is-wide
-element-copy-out-is-wide c = search needs
-
-is-wide-requires : tie.Need-is-wide-requires
-is-wide-requires c κs = search needs
-
-slice-aggregate-read : tie.Need-slice-aggregate-read
-slice-aggregate-read c = search needs
-
-read-requires : tie.Need-read-requires
-read-requires c κs = search needs
 
 of-requires : tie.Need-of-requires
 of-requires c κs =
@@ -45,13 +27,5 @@ returns-2 c =
 pub read-timing-spec : {M : Type 1} → statement M
 read-timing-spec =
     tie.close
-    (tie.spec
-    is-sound-requires
-    none-requires
-    returns
-    element-copy-out-is-wide
-    is-wide-requires
-    slice-aggregate-read
-    read-requires
-    of-requires
-    returns-2)
+    (tie.spec (λ c κs. search needs) (λ c κs. search needs) returns (λ c. search needs) (λ c κs. search needs) (λ c. search needs)
+    (λ c κs. search needs) of-requires returns-2)

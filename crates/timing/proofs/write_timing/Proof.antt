@@ -8,51 +8,18 @@ use borrow.Author.Needs.{needs}
 use Rattle.timing.proofs.write_timing.Statement.{statement}
 use Rattle.timing.proofs.write_timing.Tie as tie
 
-is-sound-requires : tie.Need-is-sound-requires
-is-sound-requires c κs = search needs
-
 returns : tie.Need-returns
 returns c = write-unsound (c .before .before .args .t1) (c .before .before .args .timing) (sym (c .before .is-sound .ensures) ∙ not-true (c .before .is-sound .result) (c .if1 .taken))
-
-element-copy-out-is-set : tie.Need-element-copy-out-is-set
-element-copy-out-is-set c = search needs
-
-is-set-requires : tie.Need-is-set-requires
-is-set-requires c κs = search needs
 
 returns-2 : tie.Need-returns-2
 unfolding crtcLocked register
 returns-2 c = write-locked (c .before .before .before .before .before .args .t1) (c .before .before .before .before .before .args .timing) (sym (c .before .before .before .before .is-sound .ensures) ∙ not-false (c .before .before .before .before .is-sound .result) (c .before .before .before .if1 .left)) (sym (c .before .is-set .ensures) ∙ c .if2 .taken)
-
-element-copy-out-is-wide : tie.Need-element-copy-out-is-wide
-element-copy-out-is-wide c = search needs
-
-is-wide-requires : tie.Need-is-wide-requires
-is-wide-requires c κs = search needs
-
-numbers-requires : tie.Need-numbers-requires
-numbers-requires c κs = search needs
-
-slice-aggregate-in-range : tie.Need-slice-aggregate-in-range
-slice-aggregate-in-range c = search needs
-
-in-range-requires : tie.Need-in-range-requires
-in-range-requires c κs = search needs
 
 returns-3 : tie.Need-returns-3
 unfolding crtcLocked wide register
 returns-3 c =
     write-outside (c .before .before .before .before .before .before .before .before .before .before .before .args .t1) (c .before .before .before .before .before .before .before .before .before .before .before .args .timing) (c .before .before .before .before .is-wide .result) (c .before .before .before .numbers .result) (sym (c .before .before .before .before .before .before .before .before .before .before .is-sound .ensures) ∙ not-false (c .before .before .before .before .before .before .before .before .before .before .is-sound .result) (c .before .before .before .before .before .before .before .before .before .if1 .left)) (sym (c .before .before .before .before .before .before .before .is-set .ensures) ∙ c .before .before .before .before .before .before .if2 .left) (c .before .before .before .before .is-wide .ensures) (c .before .before .before .numbers .ensures)
     (sym (c .before .in-range .ensures) ∙ not-true (c .before .in-range .result) (c .if3 .taken))
-
-slice-aggregate-write : tie.Need-slice-aggregate-write
-slice-aggregate-write c = search needs
-
-slice-aggregate-write-2 : tie.Need-slice-aggregate-write-2
-slice-aggregate-write-2 c = search needs
-
-write-requires : tie.Need-write-requires
-write-requires c κs = search needs
 
 returns-4 : tie.Need-returns-4
 unfolding crtcLocked wide register withRegisters
@@ -63,19 +30,6 @@ returns-4 c =
 pub write-timing-spec : {M : Type 1} → statement M
 write-timing-spec =
     tie.close
-    (tie.spec
-    is-sound-requires
-    returns
-    element-copy-out-is-set
-    is-set-requires
-    returns-2
-    element-copy-out-is-wide
-    is-wide-requires
-    numbers-requires
-    slice-aggregate-in-range
-    in-range-requires
-    returns-3
-    slice-aggregate-write
-    slice-aggregate-write-2
-    write-requires
-    returns-4)
+    (tie.spec (λ c κs. search needs) returns (λ c. search needs) (λ c κs. search needs) returns-2 (λ c. search needs) (λ c κs. search needs)
+    (λ c κs. search needs) (λ c. search needs) (λ c κs. search needs) returns-3 (λ c. search needs) (λ c. search needs)
+    (λ c κs. search needs) returns-4)

@@ -5,12 +5,9 @@ use Rattle.timing.specs.Timing.{timingOf}
 use Rattle.timing_examples.proofs.blanked.Statement.{statement}
 use Rattle.timing_examples.proofs.blanked.Tie as tie
 
-add-t5 : tie.Need-add-t5
-add-t5 c = search needs
-
 returns : tie.Need-returns
 unfolding timingOf
 returns c = refl
 
 pub blanked-spec : {M : Type 1} → statement M
-blanked-spec = tie.close (tie.spec add-t5 returns)
+blanked-spec = tie.close (tie.spec (λ c. search needs) returns)

@@ -29,9 +29,5 @@ cast-result-3 c = rw (back (c .before)) (above _ (c .before .fits .n) (rw (back 
 returns : tie.Need-returns
 returns c = rw (back (c .before), toZ-ofZ w64 _ (down c .widened), toZ-ofZ w64 _ (down c .opposite)) (down c .as-far)
 
-returns-2 : tie.Need-returns-2
-returns-2 c = search needs
-
 pub magnitude-spec : {M : Type 1} → statement M
-magnitude-spec =
-    tie.close (tie.spec cast-result sub-result cast-result-2 cast-result-3 returns returns-2)
+magnitude-spec = tie.close (tie.spec cast-result sub-result cast-result-2 cast-result-3 returns (λ c. search needs))

@@ -4,35 +4,14 @@ use Rattle.timing_examples.proofs.Behind.{all-taken, behind-within}
 use Rattle.timing_examples.proofs.print_timing.Statement.{statement}
 use Rattle.timing_examples.proofs.print_timing.Tie as tie
 
-slice-aggregate-timing-line : tie.Need-slice-aggregate-timing-line
-slice-aggregate-timing-line c = search needs
-
-read-timing-requires : tie.Need-read-timing-requires
-read-timing-requires c κs = search needs
-
-timing-line-requires : tie.Need-timing-line-requires
-timing-line-requires c κs = search needs
-
 array-share-prefix-line : tie.Need-array-share-prefix-line
 array-share-prefix-line c = rw (c .before .timing-line .ensures .0, c .before .timing-line .ensures .1) (behind-within _ _)
 
 slice-aggregate-write-all : tie.Need-slice-aggregate-write-all
 slice-aggregate-write-all c = all-taken _ _ (array-share-prefix-line (c .before))
 
-write-all-requires : tie.Need-write-all-requires
-write-all-requires c κs = search needs
-
-returns : tie.Need-returns
-returns c = search needs
-
 pub print-timing-spec : {M : Type 1} → statement M
 print-timing-spec =
     tie.close
-    (tie.spec
-    slice-aggregate-timing-line
-    read-timing-requires
-    timing-line-requires
-    array-share-prefix-line
-    slice-aggregate-write-all
-    write-all-requires
-    returns)
+    (tie.spec (λ c. search needs) (λ c κs. search needs) (λ c κs. search needs) array-share-prefix-line slice-aggregate-write-all
+    (λ c κs. search needs) (λ c. search needs))

@@ -5,14 +5,18 @@ use borrow.Author.Needs.{needs}
 use Rattle.access.proofs.access.decide.Statement.{statement}
 use Rattle.access.proofs.access.decide.Tie as tie
 
-shown-in-requires : tie.Need-shown-in-requires
-shown-in-requires c κs = search needs
-
 decide-requires : tie.Need-decide-requires
-decide-requires c κs = (registers-sound (c .before .before .before .args .whole) (c .before .before .before .pre), pointer-sound (c .before .before .before .args .whole) (c .before .before .before .pre))
+decide-requires c κs =
+    let whole = c .before .before .before .before .before .before .before .args .whole in
+    let pre = c .before .before .before .before .before .before .before .pre in
+    (c .before .before .before .before .before .cells .ensures, (c .before .before .before .before .stored .ensures, (registers-sound whole pre, pointer-sound whole pre)))
 
 returns : tie.Need-returns
-returns c = c .decide .ensures (c .before .before .before .before .args .whole) (c .before .before .before .before .pre) (record { same-registers = refl; same-toggle = refl; same-pointer = refl; same-shown = sym (c .before .shown-in .ensures) })
+returns c =
+    c .decide .ensures (c .before .before .before .before .before .before .before .before .args .whole) (c .before .before .before .before .before .before .before .before .pre)
+    (record { same-registers = refl; same-toggle = refl; same-pointer = refl }) (λ h. c .before .shown-in .ensures)
 
 pub decide-spec : {M : Type 1} → statement M
-decide-spec = tie.close (tie.spec shown-in-requires decide-requires returns)
+decide-spec =
+    tie.close
+    (tie.spec (λ c κs. search needs) (λ c κs. search needs) (λ c κs. search needs) decide-requires returns)

@@ -7,16 +7,11 @@ use Rattle.file.specs.Palette.{component}
 use Rattle.file.proofs.Typed.{address-byte, palette-count, bank-count}
 use Rattle.access.specs.Access.{inBank}
 use Rattle.access.specs.Cells.{seen}
+use Rattle.access.specs.Looked.{shownIn}
 use Rattle.access.proofs.Shown.{entry-in-bank, entry-in-palette}
 use borrow.Author.Needs.{needs}
 use Rattle.access.proofs.access.shown_in.Statement.{statement}
 use Rattle.access.proofs.access.shown_in.Tie as tie
-
-is-in-bank-requires : tie.Need-is-in-bank-requires
-is-in-bank-requires c κs = search needs
-
-entry-number-requires : tie.Need-entry-number-requires
-entry-number-requires c κs = search needs
 
 mul-colour : tie.Need-mul-colour
 mul-colour c = record { fits = omega (arith, rw (c .if1 .taken) at (c .before .entry-number .ensures)) }
@@ -24,27 +19,21 @@ mul-colour c = record { fits = omega (arith, rw (c .if1 .taken) at (c .before .e
 element-copy-out-colour : tie.Need-element-copy-out-colour
 element-copy-out-colour c = omega (arith, rw (c .if1 .taken) at (c .before .entry-number .ensures))
 
-component-requires : tie.Need-component-requires
-component-requires c κs = search needs
-
 mul-colour-2 : tie.Need-mul-colour-2
 mul-colour-2 c = record { fits = omega (arith, rw (c .if1 .left) at (c .before .entry-number .ensures), address-byte (c .before .before .before .before .before .before .args .t1) _ (c .before .before .before .before .before .before .good .0)) }
 
 element-copy-out-colour-2 : tie.Need-element-copy-out-colour-2
 element-copy-out-colour-2 c = omega (arith, rw (c .if1 .left) at (c .before .entry-number .ensures), address-byte (c .before .before .before .before .before .before .args .t1) _ (c .before .before .before .before .before .before .good .0))
 
-component-requires-2 : tie.Need-component-requires-2
-component-requires-2 c κs = search needs
-
 returns : tie.Need-returns
-unfolding inBank seen register withRegisters withToggle
+unfolding shownIn inBank seen register withRegisters withToggle
 returns c = c .component .ensures
     ∙ ap (λ (k : Colour). component k (c .before .before .before .before .before .before .before .before .args .t1 .pointer .next))
     (entry-in-bank (c .before .before .before .before .before .before .before .before .args .t1) (c .before .before .before .entry-number .result) _ (sym (c .before .before .before .before .is-in-bank .ensures) ∙ c .before .before .if1 .taken) (rw (c .before .before .if1 .taken) at (c .before .before .before .entry-number .ensures))
     (omega (arith, rw (c .before .before .if1 .taken) at (c .before .before .before .entry-number .ensures), bank-count (c .before .before .before .before .before .before .before .before .args .t1) _ (c .before .before .before .before .before .before .before .before .good .0))))
 
 returns-2 : tie.Need-returns-2
-unfolding inBank seen register withRegisters withToggle
+unfolding shownIn inBank seen register withRegisters withToggle
 returns-2 c = c .component2 .ensures
     ∙ ap (λ (k : Colour). component k (c .before .before .before .before .before .before .before .before .args .t1 .pointer .next))
     (entry-in-palette (c .before .before .before .before .before .before .before .before .args .t1) (c .before .before .before .entry-number .result) _ (sym (c .before .before .before .before .is-in-bank .ensures) ∙ c .before .before .if1 .left) (rw (c .before .before .if1 .left) at (c .before .before .before .entry-number .ensures))
@@ -53,14 +42,5 @@ returns-2 c = c .component2 .ensures
 pub shown-in-spec : {M : Type 1} → statement M
 shown-in-spec =
     tie.close
-    (tie.spec
-    is-in-bank-requires
-    entry-number-requires
-    mul-colour
-    element-copy-out-colour
-    component-requires
-    mul-colour-2
-    element-copy-out-colour-2
-    component-requires-2
-    returns
-    returns-2)
+    (tie.spec (λ c κs. search needs) (λ c κs. search needs) mul-colour element-copy-out-colour (λ c κs. search needs) mul-colour-2
+    element-copy-out-colour-2 (λ c κs. search needs) returns returns-2)

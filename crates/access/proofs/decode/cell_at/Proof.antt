@@ -1,59 +1,29 @@
 -- `cell_at` meets its contract. Assumes nothing.
-use mathlib.Core.Path.{_≡_}
+use Prim.Native.Nat.{ℕ, _/_}
+use mathlib.Core.Path.{_≡_, ap, ap₂, _∙_}
 use native.Mathlib.Omega.{arith}
+use Rattle.bits.proofs.Test.{by-test}
+use Rattle.access.specs.Cells.{cellAt}
+use Rattle.access.proofs.Tables.{of-space, port-kind}
 use borrow.Author.Needs.{needs}
 use Rattle.access.proofs.decode.cell_at.Statement.{statement}
 use Rattle.access.proofs.decode.cell_at.Tie as tie
 
-config-cell-requires : tie.Need-config-cell-requires
-config-cell-requires c κs = search needs
-
-config-cell-requires-2 : tie.Need-config-cell-requires-2
-config-cell-requires-2 c κs = search needs
-
-read-cell-requires : tie.Need-read-cell-requires
-read-cell-requires c κs = search needs
-
-write-cell-requires : tie.Need-write-cell-requires
-write-cell-requires c κs = search needs
-
-mmio-cell-requires : tie.Need-mmio-cell-requires
-mmio-cell-requires c κs = search needs
-
-mmio-cell-requires-2 : tie.Need-mmio-cell-requires-2
-mmio-cell-requires-2 c κs = search needs
-
 returns : tie.Need-returns
-returns c = rw (c .before .match .keys1) (c .config-cell .ensures .0)
+returns c = c .port-cell .ensures ∙ ap₂ cellAt (port-kind (c .before .before .before .args .kind) (c .before .if1 .taken)) (c .before .before .wide .ensures)
 
 returns-2 : tie.Need-returns-2
-returns-2 c = rw (c .before .match .keys2) (c .config-cell2 .ensures .1)
+returns-2 c =
+    let kind = c .before .before .before .before .args .kind in
+    of-space kind 2 _ _ (c .before .if2 .taken) (c .mmio-cell .ensures .0 ∙ ap (cellAt 4) (c .before .before .before .wide .ensures)) (c .mmio-cell .ensures .1 ∙ ap (cellAt 5) (c .before .before .before .wide .ensures))
 
 returns-3 : tie.Need-returns-3
-returns-3 c = rw (c .before .match .keys3) (c .read-cell .ensures)
-
-returns-4 : tie.Need-returns-4
-returns-4 c = rw (c .before .match .keys4) (c .write-cell .ensures)
-
-returns-5 : tie.Need-returns-5
-returns-5 c = rw (c .before .match .keys5) (c .mmio-cell .ensures .0)
-
-returns-6 : tie.Need-returns-6
-returns-6 c = let five : c .before .before .args .kind ≡ 5 = omega (arith, c .before .before .pre) in rw five (c .mmio-cell2 .ensures .1)
+returns-3 c =
+    let kind = c .before .before .before .before .args .kind in
+    let low : kind / 2 ≡ 0 = omega (arith, c .before .before .if1 .left, c .before .if2 .left, c .before .before .before .before .pre .1) in
+    of-space kind 0 _ _ low (c .config-cell .ensures .0 ∙ ap (cellAt 0) (c .before .before .before .wide .ensures)) (c .config-cell .ensures .1 ∙ ap (cellAt 1) (c .before .before .before .wide .ensures))
 
 pub cell-at-spec : {M : Type 1} → statement M
 cell-at-spec =
     tie.close
-    (tie.spec
-    config-cell-requires
-    config-cell-requires-2
-    read-cell-requires
-    write-cell-requires
-    mmio-cell-requires
-    mmio-cell-requires-2
-    returns
-    returns-2
-    returns-3
-    returns-4
-    returns-5
-    returns-6)
+    (tie.spec (λ c κs. search needs) (λ c κs. search needs) returns (λ c κs. search needs) returns-2 (λ c κs. search needs) returns-3)

@@ -7,12 +7,9 @@ use borrow.Author.Needs.{needs}
 use Rattle.access.proofs.engine.is_in_bank.Statement.{statement}
 use Rattle.access.proofs.engine.is_in_bank.Tie as tie
 
-element-copy-out-result : tie.Need-element-copy-out-result
-element-copy-out-result c = search needs
-
 returns : tie.Need-returns
 unfolding inBank bit seen register withRegisters withToggle
 returns c = search needs
 
 pub is-in-bank-spec : {M : Type 1} → statement M
-is-in-bank-spec = tie.close (tie.spec element-copy-out-result returns)
+is-in-bank-spec = tie.close (tie.spec (λ c. search needs) returns)

@@ -6,12 +6,9 @@ use borrow.Author.Needs.{needs}
 use Rattle.access.proofs.engine.is_locked.Statement.{statement}
 use Rattle.access.proofs.engine.is_locked.Tie as tie
 
-element-copy-out-result : tie.Need-element-copy-out-result
-element-copy-out-result c = search needs
-
 returns : tie.Need-returns
 unfolding crtcLocked bit seen register withRegisters withToggle
 returns c = search needs
 
 pub is-locked-spec : {M : Type 1} → statement M
-is-locked-spec = tie.close (tie.spec element-copy-out-result returns)
+is-locked-spec = tie.close (tie.spec (λ c. search needs) returns)

@@ -6,9 +6,6 @@ use borrow.Author.Needs.{needs}
 use Rattle.access.proofs.engine.is_locked_out.Statement.{statement}
 use Rattle.access.proofs.engine.is_locked_out.Tie as tie
 
-is-locked-requires : tie.Need-is-locked-requires
-is-locked-requires c κs = search needs
-
 returns : tie.Need-returns
 unfolding lockedOut
 returns c = rw (sym (c .before .before .is-locked .ensures) ∙ c .before .if1 .taken, le-leb _ _ (c .if2 .taken))
@@ -22,4 +19,4 @@ unfolding lockedOut
 returns-3 c = rw (sym (c .before .is-locked .ensures) ∙ c .if1 .left)
 
 pub is-locked-out-spec : {M : Type 1} → statement M
-is-locked-out-spec = tie.close (tie.spec is-locked-requires returns returns-2 returns-3)
+is-locked-out-spec = tie.close (tie.spec (λ c κs. search needs) returns returns-2 returns-3)

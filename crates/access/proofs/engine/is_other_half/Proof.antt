@@ -10,9 +10,6 @@ use borrow.Author.Needs.{needs}
 use Rattle.access.proofs.engine.is_other_half.Statement.{statement}
 use Rattle.access.proofs.engine.is_other_half.Tie as tie
 
-element-copy-out-half : tie.Need-element-copy-out-half
-element-copy-out-half c = search needs
-
 returns : tie.Need-returns
 unfolding otherHalf isPort seen register withRegisters withToggle
 returns c = rw (ne-eqb _ _ (c .if1 .taken))
@@ -33,5 +30,4 @@ returns-4 c = let h = halves powerOn (c .before .before .before .before .before 
     rw (h .0, h .1, c .before .before .if1 .left, ne-eqb _ _ (c .before .if2 .left), ne-eqb _ _ (c .if3 .left))
 
 pub is-other-half-spec : {M : Type 1} → statement M
-is-other-half-spec =
-    tie.close (tie.spec element-copy-out-half returns returns-2 returns-3 returns-4)
+is-other-half-spec = tie.close (tie.spec (λ c. search needs) returns returns-2 returns-3 returns-4)

@@ -7,12 +7,9 @@ use borrow.Author.Needs.{needs}
 use Rattle.access.proofs.engine.is_palette_up.Statement.{statement}
 use Rattle.access.proofs.engine.is_palette_up.Tie as tie
 
-element-copy-out-result : tie.Need-element-copy-out-result
-element-copy-out-result c = search needs
-
 returns : tie.Need-returns
 unfolding paletteUp bit seen register withRegisters withToggle
 returns c = search needs
 
 pub is-palette-up-spec : {M : Type 1} → statement M
-is-palette-up-spec = tie.close (tie.spec element-copy-out-result returns)
+is-palette-up-spec = tie.close (tie.spec (λ c. search needs) returns)

@@ -13,9 +13,6 @@ use borrow.Author.Needs.{needs}
 use Rattle.access.proofs.engine.is_space_off.Statement.{statement}
 use Rattle.access.proofs.engine.is_space_off.Tie as tie
 
-element-copy-out-enables : tie.Need-element-copy-out-enables
-element-copy-out-enables c = search needs
-
 returns : tie.Need-returns
 unfolding spaceOff isPort isMmio seen register withRegisters withToggle
 returns c = rw (c .if1 .taken, bit-zero, or-false)
@@ -29,4 +26,4 @@ unfolding spaceOff isPort isMmio seen register withRegisters withToggle
 returns-3 c = rw (ne-eqb _ _ (c .before .if1 .left), ne-eqb _ _ (c .if2 .left))
 
 pub is-space-off-spec : {M : Type 1} → statement M
-is-space-off-spec = tie.close (tie.spec element-copy-out-enables returns returns-2 returns-3)
+is-space-off-spec = tie.close (tie.spec (λ c. search needs) returns returns-2 returns-3)

@@ -9,15 +9,9 @@ use borrow.Author.Needs.{needs}
 use Rattle.access.proofs.engine.look.Statement.{statement}
 use Rattle.access.proofs.engine.look.Tie as tie
 
-is-malformed-requires : tie.Need-is-malformed-requires
-is-malformed-requires c κs = search needs
-
 returns : tie.Need-returns
 unfolding lookedAt malformed
 returns c = rw (sym (c .before .is-malformed .ensures) ∙ c .if1 .taken)
-
-is-space-off-requires : tie.Need-is-space-off-requires
-is-space-off-requires c κs = search needs
 
 returns-2 : tie.Need-returns-2
 unfolding lookedAt malformed
@@ -25,7 +19,7 @@ returns-2 c = rw (sym (c .before .before .before .is-malformed .ensures) ∙ c .
 
 cell-at-requires : tie.Need-cell-at-requires
 unfolding malformed
-cell-at-requires c κs = kind-below powerOn (c .before .before .before .before .args .asked) (sym (c .before .before .before .is-malformed .ensures) ∙ c .before .before .if1 .left)
+cell-at-requires c κs = (c .before .before .before .before .pre, kind-below powerOn (c .before .before .before .before .args .asked) (sym (c .before .before .before .is-malformed .ensures) ∙ c .before .before .if1 .left))
 
 returns-3 : tie.Need-returns-3
 unfolding lookedAt malformed
@@ -39,9 +33,6 @@ returns-4 : tie.Need-returns-4
 unfolding lookedAt malformed
 returns-4 c = rw (sym (c .before .before .before .before .before .before .before .is-malformed .ensures) ∙ c .before .before .before .before .before .before .if1 .left, sym (c .before .before .before .before .before .is-space-off .ensures) ∙ c .before .before .before .before .if2 .left, ← c .before .before .before .cell-at .ensures, ne-eqb _ _ (c .before .before .if3 .left), sym (c .before .is-other-half .ensures) ∙ c .if4 .taken)
 
-width-of-requires : tie.Need-width-of-requires
-width-of-requires c κs = search needs
-
 returns-5 : tie.Need-returns-5
 unfolding lookedAt malformed
 returns-5 c = rw (sym (c .before .before .before .before .before .before .before .before .before .before .is-malformed .ensures) ∙ c .before .before .before .before .before .before .before .before .before .if1 .left, sym (c .before .before .before .before .before .before .before .before .is-space-off .ensures) ∙ c .before .before .before .before .before .before .before .if2 .left, ← c .before .before .before .before .before .before .cell-at .ensures, ne-eqb _ _ (c .before .before .before .before .before .if3 .left), sym (c .before .before .before .before .is-other-half .ensures) ∙ c .before .before .before .if4 .left, ← c .before .before .width-of .ensures, ne-eqb _ _ (c .if5 .taken))
@@ -53,15 +44,5 @@ returns-6 c = rw (sym (c .before .before .before .before .before .before .before
 pub look-spec : {M : Type 1} → statement M
 look-spec =
     tie.close
-    (tie.spec
-    is-malformed-requires
-    returns
-    is-space-off-requires
-    returns-2
-    cell-at-requires
-    returns-3
-    is-other-half-requires
-    returns-4
-    width-of-requires
-    returns-5
-    returns-6)
+    (tie.spec (λ c κs. search needs) returns (λ c κs. search needs) returns-2 cell-at-requires returns-3 is-other-half-requires returns-4
+    (λ c κs. search needs) returns-5 returns-6)

@@ -8,24 +8,9 @@ use borrow.Author.Needs.{needs}
 use Rattle.access.proofs.engine.pixel_write.Statement.{statement}
 use Rattle.access.proofs.engine.pixel_write.Tie as tie
 
-after-write-requires : tie.Need-after-write-requires
-after-write-requires c κs = search needs
-
-stores-requires : tie.Need-stores-requires
-stores-requires c κs = search needs
-
 returns : tie.Need-returns
 unfolding pixelWrite seen register withRegisters withToggle withPointer
 returns c = rw (sym (c .before .stores .ensures) ∙ not-true _ (c .if1 .taken), c .before .before .after-write .ensures)
-
-is-in-bank-requires : tie.Need-is-in-bank-requires
-is-in-bank-requires c κs = search needs
-
-entry-number-requires : tie.Need-entry-number-requires
-entry-number-requires c κs = search needs
-
-mixed-requires : tie.Need-mixed-requires
-mixed-requires c κs = search needs
 
 returns-2 : tie.Need-returns-2
 unfolding pixelWrite entryNumber inBank seen register withRegisters withToggle withPointer
@@ -34,11 +19,5 @@ returns-2 c = rw (sym (c .before .before .before .before .stores .ensures) ∙ n
 pub pixel-write-spec : {M : Type 1} → statement M
 pixel-write-spec =
     tie.close
-    (tie.spec
-    after-write-requires
-    stores-requires
-    returns
-    is-in-bank-requires
-    entry-number-requires
-    mixed-requires
+    (tie.spec (λ c κs. search needs) (λ c κs. search needs) returns (λ c κs. search needs) (λ c κs. search needs) (λ c κs. search needs)
     returns-2)

@@ -7,18 +7,9 @@ use borrow.Author.Needs.{needs}
 use Rattle.access.proofs.engine.reach_in.Statement.{statement}
 use Rattle.access.proofs.engine.reach_in.Tie as tie
 
-stored-bits-requires : tie.Need-stored-bits-requires
-stored-bits-requires c κs = search needs
-
 returns : tie.Need-returns
 unfolding reachIn
 returns c = rw (ne-eqb _ _ (c .before .if1 .taken), and-false) (c .stored-bits .ensures)
-
-is-locked-requires : tie.Need-is-locked-requires
-is-locked-requires c κs = search needs
-
-stored-bits-requires-2 : tie.Need-stored-bits-requires-2
-stored-bits-requires-2 c κs = search needs
 
 returns-2 : tie.Need-returns-2
 unfolding reachIn lockedReach
@@ -31,10 +22,4 @@ returns-3 c = rw (sym (c .before .before .is-locked .ensures) ∙ c .before .if2
 pub reach-in-spec : {M : Type 1} → statement M
 reach-in-spec =
     tie.close
-    (tie.spec
-    stored-bits-requires
-    returns
-    is-locked-requires
-    stored-bits-requires-2
-    returns-2
-    returns-3)
+    (tie.spec (λ c κs. search needs) returns (λ c κs. search needs) (λ c κs. search needs) returns-2 returns-3)

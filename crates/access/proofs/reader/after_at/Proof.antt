@@ -8,12 +8,6 @@ use Rattle.access.proofs.reader.after_at.Tie as tie
 returns : tie.Need-returns
 returns c = omega (arith, after-is (c .before .args .trace .now) (c .before .args .at))
 
-sub-if2 : tie.Need-sub-if2
-sub-if2 c = search needs
-
-add-result : tie.Need-add-result
-add-result c = search needs
-
 returns-2 : tie.Need-returns-2
 returns-2 c = omega (arith, after-is (c .before .before .args .trace .now) (c .before .before .args .at))
 
@@ -21,4 +15,4 @@ returns-3 : tie.Need-returns-3
 returns-3 c = omega (arith, after-is (c .before .before .args .trace .now) (c .before .before .args .at))
 
 pub after-at-spec : {M : Type 1} → statement M
-after-at-spec = tie.close (tie.spec returns sub-if2 add-result returns-2 returns-3)
+after-at-spec = tie.close (tie.spec returns (λ c. search needs) (λ c. search needs) returns-2 returns-3)

@@ -7,12 +7,6 @@ use borrow.Author.Needs.{needs}
 use Rattle.access.proofs.reader.after_many.Statement.{statement}
 use Rattle.access.proofs.reader.after_many.Tie as tie
 
-left-at-requires : tie.Need-left-at-requires
-left-at-requires c κs = search needs
-
-place-after-requires : tie.Need-place-after-requires
-place-after-requires c κs = search needs
-
 add-result : tie.Need-add-result
 add-result c =
     record { fits = omega (arith, c .place-after .ensures, ap length (c .before .left-at .ensures), length-drop (c .before .before .before .args .at) (c .before .before .before .args .trace .now)) }
@@ -21,4 +15,4 @@ returns : tie.Need-returns
 returns c = many-after (c .before .before .before .args .trace .now) _ (c .before .before .before .args .at) (c .before .before .before .args .count) _ (c .before .left-at .ensures) (c .place-after .ensures)
 
 pub after-many-spec : {M : Type 1} → statement M
-after-many-spec = tie.close (tie.spec left-at-requires place-after-requires add-result returns)
+after-many-spec = tie.close (tie.spec (λ c κs. search needs) (λ c κs. search needs) add-result returns)

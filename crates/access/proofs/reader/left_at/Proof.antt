@@ -4,24 +4,6 @@ use borrow.Author.Needs.{needs}
 use Rattle.access.proofs.reader.left_at.Statement.{statement}
 use Rattle.access.proofs.reader.left_at.Tie as tie
 
-sub-result : tie.Need-sub-result
-sub-result c = search needs
-
-part-result-start : tie.Need-part-result-start
-part-result-start c = search needs
-
-part-result-end : tie.Need-part-result-end
-part-result-end c = search needs
-
-sub-result-2 : tie.Need-sub-result-2
-sub-result-2 c = search needs
-
-part-result-start-2 : tie.Need-part-result-start-2
-part-result-start-2 c = search needs
-
-part-result-end-2 : tie.Need-part-result-end-2
-part-result-end-2 c = search needs
-
 returns : tie.Need-returns
 returns c = part-left (c .before .before .args .trace .now) (c .before .before .args .at)
 
@@ -31,12 +13,5 @@ returns-2 c = nothing-left (c .before .before .args .trace .now) (c .before .bef
 pub left-at-spec : {M : Type 1} → statement M
 left-at-spec =
     tie.close
-    (tie.spec
-    sub-result
-    part-result-start
-    part-result-end
-    sub-result-2
-    part-result-start-2
-    part-result-end-2
-    returns
-    returns-2)
+    (tie.spec (λ c. search needs) (λ c. search needs) (λ c. search needs) (λ c. search needs) (λ c. search needs) (λ c. search needs)
+    returns returns-2)

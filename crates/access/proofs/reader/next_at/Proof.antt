@@ -4,18 +4,6 @@ use borrow.Author.Needs.{needs}
 use Rattle.access.proofs.reader.next_at.Statement.{statement}
 use Rattle.access.proofs.reader.next_at.Tie as tie
 
-sub-left : tie.Need-sub-left
-sub-left c = search needs
-
-part-left-start : tie.Need-part-left-start
-part-left-start c = search needs
-
-part-left-end : tie.Need-part-left-end
-part-left-end c = search needs
-
-item-of-requires : tie.Need-item-of-requires
-item-of-requires c κs = search needs
-
 returns : tie.Need-returns
 returns c = next-read (c .before .before .before .before .args .trace .now) (c .before .before .before .before .args .at) _ (c .before .before .if1 .taken) (c .item-of .ensures)
 
@@ -24,4 +12,5 @@ returns-2 c = end-read (c .before .before .args .trace .now) (c .before .before 
 
 pub next-at-spec : {M : Type 1} → statement M
 next-at-spec =
-    tie.close (tie.spec sub-left part-left-start part-left-end item-of-requires returns returns-2)
+    tie.close
+    (tie.spec (λ c. search needs) (λ c. search needs) (λ c. search needs) (λ c κs. search needs) returns returns-2)

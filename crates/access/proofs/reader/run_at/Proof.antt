@@ -4,18 +4,6 @@ use borrow.Author.Needs.{needs}
 use Rattle.access.proofs.reader.run_at.Statement.{statement}
 use Rattle.access.proofs.reader.run_at.Tie as tie
 
-left-at-requires : tie.Need-left-at-requires
-left-at-requires c κs = search needs
-
-run-requires : tie.Need-run-requires
-run-requires c κs = search needs
-
-after-many-requires : tie.Need-after-many-requires
-after-many-requires c κs = search needs
-
-same-length : tie.Need-same-length
-same-length c = search needs
-
 returns : tie.Need-returns
 returns c =
     let start = c .before .before .before .before .before .before .before .before in
@@ -23,4 +11,5 @@ returns c =
 
 pub run-at-spec : {M : Type 1} → statement M
 run-at-spec =
-    tie.close (tie.spec left-at-requires run-requires after-many-requires same-length returns)
+    tie.close
+    (tie.spec (λ c κs. search needs) (λ c κs. search needs) (λ c κs. search needs) (λ c. search needs) returns)

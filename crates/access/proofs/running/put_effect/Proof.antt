@@ -5,36 +5,6 @@ use borrow.Author.Needs.{needs}
 use Rattle.access.proofs.running.put_effect.Statement.{statement}
 use Rattle.access.proofs.running.put_effect.Tie as tie
 
-enum-told : tie.Need-enum-told
-enum-told c = search needs
-
-enum-known-effect : tie.Need-enum-known-effect
-enum-known-effect c = search needs
-
-store-in-requires : tie.Need-store-in-requires
-store-in-requires c κs = search needs
-
-enum-known-effect-2 : tie.Need-enum-known-effect-2
-enum-known-effect-2 c = search needs
-
-store-in-requires-2 : tie.Need-store-in-requires-2
-store-in-requires-2 c κs = search needs
-
-enum-known-effect-3 : tie.Need-enum-known-effect-3
-enum-known-effect-3 c = search needs
-
-enum-known-effect-4 : tie.Need-enum-known-effect-4
-enum-known-effect-4 c = search needs
-
-enum-known-effect-5 : tie.Need-enum-known-effect-5
-enum-known-effect-5 c = search needs
-
-pick-requires : tie.Need-pick-requires
-pick-requires c κs = search needs
-
-pick-requires-2 : tie.Need-pick-requires-2
-pick-requires-2 c κs = search needs
-
 returns : tie.Need-returns
 returns c = (
   (refl, refl),
@@ -68,26 +38,11 @@ returns-5 c = (
 returns-6 : tie.Need-returns-6
 returns-6 c = (
   (refl, refl),
-  λ f p l. by-told f _ (c .before .before .before .before .before .args .before) p _ _ _ (c .before .before .before .effect5 .given .1) (paint-put f _ (c .before .before .before .before .before .args .before) p _ _ _ _ _ _ (c .pick2 .ensures) (c .before .pick .ensures)) l,
+  λ f p l. by-told f _ (c .before .before .before .args .before) p _ _ _ (c .before .effect5 .given .1) (paint-put f _ (c .before .before .before .args .before) p _ _ _ _) l,
 )
 
 pub put-effect-spec : {M : Type 1} → statement M
 put-effect-spec =
     tie.close
-    (tie.spec
-    enum-told
-    enum-known-effect
-    store-in-requires
-    enum-known-effect-2
-    store-in-requires-2
-    enum-known-effect-3
-    enum-known-effect-4
-    enum-known-effect-5
-    pick-requires
-    pick-requires-2
-    returns
-    returns-2
-    returns-3
-    returns-4
-    returns-5
-    returns-6)
+    (tie.spec (λ c. search needs) (λ c. search needs) (λ c κs. search needs) (λ c. search needs) (λ c κs. search needs) (λ c. search needs)
+    (λ c. search needs) (λ c. search needs) returns returns-2 returns-3 returns-4 returns-5 returns-6)

@@ -12,30 +12,6 @@ use borrow.Author.Needs.{needs}
 use Rattle.access.proofs.running.put_fragment.Statement.{statement}
 use Rattle.access.proofs.running.put_fragment.Tie as tie
 
-add-byte-at : tie.Need-add-byte-at
-add-byte-at c = search needs
-
-byte-at-requires : tie.Need-byte-at-requires
-byte-at-requires c κs = search needs
-
-add-byte-at-2 : tie.Need-add-byte-at-2
-add-byte-at-2 c = search needs
-
-byte-at-requires-2 : tie.Need-byte-at-requires-2
-byte-at-requires-2 c κs = search needs
-
-shared-slice-read-put-reply : tie.Need-shared-slice-read-put-reply
-shared-slice-read-put-reply c = search needs
-
-two-requires : tie.Need-two-requires
-two-requires c κs = search needs
-
-put-reply-requires : tie.Need-put-reply-requires
-put-reply-requires c κs = search needs
-
-same-length : tie.Need-same-length
-same-length c = search needs
-
 returns : tie.Need-returns
 unfolding replyTo codeOf valueOf
 returns c =
@@ -51,13 +27,5 @@ returns c =
 pub put-fragment-spec : {M : Type 1} → statement M
 put-fragment-spec =
     tie.close
-    (tie.spec
-    add-byte-at
-    byte-at-requires
-    add-byte-at-2
-    byte-at-requires-2
-    shared-slice-read-put-reply
-    two-requires
-    put-reply-requires
-    same-length
-    returns)
+    (tie.spec (λ c. search needs) (λ c κs. search needs) (λ c. search needs) (λ c κs. search needs) (λ c. search needs)
+    (λ c κs. search needs) (λ c κs. search needs) (λ c. search needs) returns)

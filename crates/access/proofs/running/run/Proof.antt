@@ -12,9 +12,6 @@ is-sound-requires c κs = tt
 run-sound-requires : tie.Need-run-sound-requires
 run-sound-requires c κs = passes _ (sym (c .before .before .is-sound .ensures) ∙ c .before .if1 .taken)
 
-same-length : tie.Need-same-length
-same-length c = search needs
-
 returns : tie.Need-returns
 unfolding run ran
 returns c = rw (sym (c .before .before .before .before .before .is-sound .ensures) ∙ c .before .before .before .before .if1 .taken) (c .before .before .run-sound .ensures)
@@ -24,4 +21,4 @@ unfolding run
 returns-2 c = rw (sym (c .before .is-sound .ensures) ∙ c .if1 .left) ((refl, refl, refl), refl)
 
 pub run-spec : {M : Type 1} → statement M
-run-spec = tie.close (tie.spec is-sound-requires run-sound-requires same-length returns returns-2)
+run-spec = tie.close (tie.spec is-sound-requires run-sound-requires (λ c. search needs) returns returns-2)

@@ -12,12 +12,6 @@ use borrow.Author.Needs.{needs}
 use Rattle.access.proofs.running.run_sound.Statement.{statement}
 use Rattle.access.proofs.running.run_sound.Tie as tie
 
-run-whole-requires : tie.Need-run-whole-requires
-run-whole-requires c κs = search needs
-
-same-length : tie.Need-same-length
-same-length c = search needs
-
 returns : tie.Need-returns
 returns c =
     let start = c .before .before .before .before .before .before .before in
@@ -31,12 +25,6 @@ returns c =
       c .before .before .run-whole .ensures .1 ∙ ap (λ (k : ℕ). replies (start .args .whole) (items k trace) ++ drop (8 * k) (start .args .replies .now)) (sym count),
     )
 
-run-whole-requires-2 : tie.Need-run-whole-requires-2
-run-whole-requires-2 c κs = search needs
-
-same-length-2 : tie.Need-same-length-2
-same-length-2 c = search needs
-
 returns-2 : tie.Need-returns-2
 returns-2 c =
     let start = c .before .before .before .before .before .before .before .before in
@@ -49,18 +37,6 @@ returns-2 c =
       ),
       c .before .before .before .run-whole2 .ensures .1 ∙ ap (λ (k : ℕ). replies (start .args .whole) (items k trace) ++ drop (8 * k) (start .args .replies .now)) (sym count),
     )
-
-mul-put-fragment : tie.Need-mul-put-fragment
-mul-put-fragment c = search needs
-
-put-fragment-requires : tie.Need-put-fragment-requires
-put-fragment-requires c κs = search needs
-
-add-t15 : tie.Need-add-t15
-add-t15 c = search needs
-
-same-length-3 : tie.Need-same-length-3
-same-length-3 c = search needs
 
 returns-3 : tie.Need-returns-3
 returns-3 c =
@@ -79,15 +55,5 @@ returns-3 c =
 pub run-sound-spec : {M : Type 1} → statement M
 run-sound-spec =
     tie.close
-    (tie.spec
-    run-whole-requires
-    same-length
-    returns
-    run-whole-requires-2
-    same-length-2
-    returns-2
-    mul-put-fragment
-    put-fragment-requires
-    add-t15
-    same-length-3
-    returns-3)
+    (tie.spec (λ c κs. search needs) (λ c. search needs) returns (λ c κs. search needs) (λ c. search needs) returns-2 (λ c. search needs)
+    (λ c κs. search needs) (λ c. search needs) (λ c. search needs) returns-3)

@@ -4,9 +4,6 @@ use borrow.Author.Needs.{needs}
 use Rattle.access.proofs.wire.item_of.Statement.{statement}
 use Rattle.access.proofs.wire.item_of.Tie as tie
 
-record-of-requires : tie.Need-record-of-requires
-record-of-requires c κs = search needs
-
 returns : tie.Need-returns
 returns c = fragment-read (c .before .before .before .args .bytes .now) _ (c .before .record-of .ensures) (c .if1 .taken)
 
@@ -14,4 +11,4 @@ returns-2 : tie.Need-returns-2
 returns-2 c = whole-read (c .before .before .before .args .bytes .now) _ (c .before .record-of .ensures) (c .if1 .left)
 
 pub item-of-spec : {M : Type 1} → statement M
-item-of-spec = tie.close (tie.spec record-of-requires returns returns-2)
+item-of-spec = tie.close (tie.spec (λ c κs. search needs) returns returns-2)

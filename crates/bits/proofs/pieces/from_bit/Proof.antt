@@ -5,14 +5,8 @@ use borrow.Author.Needs.{needs}
 use Rattle.bits.proofs.pieces.from_bit.Statement.{statement}
 use Rattle.bits.proofs.pieces.from_bit.Tie as tie
 
-shr-result : tie.Need-shr-result
-shr-result c = search needs
-
-returns : tie.Need-returns
-returns c = search needs
-
 returns-2 : tie.Need-returns-2
 returns-2 c = sym (shifted-out (c .before .args .number) (c .before .args .low) (c .before .fits .number .fits) (c .if1 .left))
 
 pub from-bit-spec : {M : Type 1} → statement M
-from-bit-spec = tie.close (tie.spec shr-result returns returns-2)
+from-bit-spec = tie.close (tie.spec (λ c. search needs) (λ c. search needs) returns-2)

@@ -27,29 +27,8 @@ abbrev μ-loop : tie.MeasureT-loop
 loop-holds : tie.Need-loop-holds Inv-loop μ-loop
 loop-holds c = (omega arith, lit< tt, followed-first (now (c .before .before .args .registers)) (now (c .before .before .args .pieces)) (2 ^ 32))
 
-mul-piece : tie.Need-mul-piece Inv-loop μ-loop
-mul-piece c = search needs
-
-shared-slice-read-piece : tie.Need-shared-slice-read-piece Inv-loop μ-loop
-shared-slice-read-piece c = search needs
-
-held-requires : tie.Need-held-requires Inv-loop μ-loop
-held-requires c κs = search needs
-
-piece-width-requires : tie.Need-piece-width-requires Inv-loop μ-loop
-piece-width-requires c κs = search needs
-
 shl-wrapping-add-u32 : tie.Need-shl-wrapping-add-u32 Inv-loop μ-loop
 shl-wrapping-add-u32 c = omega (arith, in-register (getD (now (c .before .before .before .before .before .before .before .args .pieces)) (c .before .before .before .before .loop .k) 0))
-
-wrapping-add-u32-requires : tie.Need-wrapping-add-u32-requires Inv-loop μ-loop
-wrapping-add-u32-requires c κs = search needs
-
-add-k : tie.Need-add-k Inv-loop μ-loop
-add-k c = search needs
-
-loop-less : tie.Need-loop-less Inv-loop μ-loop
-loop-less c = search needs
 
 loop-again : tie.Need-loop-again Inv-loop μ-loop
 loop-again c = (
@@ -70,17 +49,5 @@ returns c =
 pub gather-spec : {M : Type 1} → statement M
 gather-spec =
     tie.close
-    (tie.spec
-    Inv-loop
-    μ-loop
-    loop-holds
-    mul-piece
-    shared-slice-read-piece
-    held-requires
-    piece-width-requires
-    shl-wrapping-add-u32
-    wrapping-add-u32-requires
-    add-k
-    loop-less
-    loop-again
-    returns)
+    (tie.spec Inv-loop μ-loop loop-holds (λ c. search needs) (λ c. search needs) (λ c κs. search needs) (λ c κs. search needs)
+    shl-wrapping-add-u32 (λ c κs. search needs) (λ c. search needs) (λ c. search needs) loop-again returns)

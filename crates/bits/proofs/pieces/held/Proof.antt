@@ -10,24 +10,6 @@ use borrow.Author.Needs.{needs}
 use Rattle.bits.proofs.pieces.held.Statement.{statement}
 use Rattle.bits.proofs.pieces.held.Tie as tie
 
-cast-register : tie.Need-cast-register
-cast-register c = search needs
-
-piece-low-requires : tie.Need-piece-low-requires
-piece-low-requires c κs = search needs
-
-piece-mask-requires : tie.Need-piece-mask-requires
-piece-mask-requires c κs = search needs
-
-mul-wide : tie.Need-mul-wide
-mul-wide c = search needs
-
-shared-slice-read-wide : tie.Need-shared-slice-read-wide
-shared-slice-read-wide c = search needs
-
-wide-requires : tie.Need-wide-requires
-wide-requires c κs = search needs
-
 shr-result : tie.Need-shr-result
 shr-result c = omega (arith, low-below (c .before .before .before .before .before .before .args .piece))
 
@@ -41,13 +23,5 @@ returns-2 c = sym (held-absent (now (c .before .before .before .before .args .re
 pub held-spec : {M : Type 1} → statement M
 held-spec =
     tie.close
-    (tie.spec
-    cast-register
-    piece-low-requires
-    piece-mask-requires
-    mul-wide
-    shared-slice-read-wide
-    wide-requires
-    shr-result
-    returns
-    returns-2)
+    (tie.spec (λ c. search needs) (λ c κs. search needs) (λ c κs. search needs) (λ c. search needs) (λ c. search needs)
+    (λ c κs. search needs) shr-result returns returns-2)

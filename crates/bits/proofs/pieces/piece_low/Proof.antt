@@ -4,12 +4,9 @@ use borrow.Author.Needs.{needs}
 use Rattle.bits.proofs.pieces.piece_low.Statement.{statement}
 use Rattle.bits.proofs.pieces.piece_low.Tie as tie
 
-wide-requires : tie.Need-wide-requires
-wide-requires c κs = search needs
-
 returns : tie.Need-returns
 unfolding pieceOf
 returns c = c .wide .ensures
 
 pub piece-low-spec : {M : Type 1} → statement M
-piece-low-spec = tie.close (tie.spec wide-requires returns)
+piece-low-spec = tie.close (tie.spec (λ c κs. search needs) returns)

@@ -7,9 +7,6 @@ use Rattle.bits.proofs.Encoded.{in-register, ones-whole}
 use Rattle.bits.proofs.pieces.piece_mask.Statement.{statement}
 use Rattle.bits.proofs.pieces.piece_mask.Tie as tie
 
-piece-width-requires : tie.Need-piece-width-requires
-piece-width-requires c κs = search needs
-
 shl-result : tie.Need-shl-result
 shl-result c = omega (arith, in-register (c .before .args .piece))
 
@@ -20,4 +17,4 @@ returns : tie.Need-returns
 returns c = rw (c .piece-width .ensures, ones-whole)
 
 pub piece-mask-spec : {M : Type 1} → statement M
-piece-mask-spec = tie.close (tie.spec piece-width-requires shl-result sub-result returns)
+piece-mask-spec = tie.close (tie.spec (λ c κs. search needs) shl-result sub-result returns)

@@ -7,15 +7,6 @@ use Rattle.bits.proofs.Encoded.{low-below, put-absent, put-shifted, rea
 use Rattle.bits.proofs.pieces.put.Statement.{statement}
 use Rattle.bits.proofs.pieces.put.Tie as tie
 
-cast-register : tie.Need-cast-register
-cast-register c = search needs
-
-piece-low-requires : tie.Need-piece-low-requires
-piece-low-requires c κs = search needs
-
-piece-mask-requires : tie.Need-piece-mask-requires
-piece-mask-requires c κs = search needs
-
 shl-reach : tie.Need-shl-reach
 shl-reach c = omega (arith, low-below (c .before .before .before .before .args .piece))
 
@@ -30,24 +21,6 @@ cast-value : tie.Need-cast-value
 cast-value c =
     record { fits = rw (c .before .piece-mask .ensures, c .before .before .piece-low .ensures, value-whole (c .before .before .before .before .args .piece) (c .before .before .before .before .args .number)) (value-below (c .before .before .before .before .args .piece) (c .before .before .before .before .args .number)) }
 
-mul-store : tie.Need-mul-store
-mul-store c = search needs
-
-slice-read-store : tie.Need-slice-read-store
-slice-read-store c = search needs
-
-store-requires : tie.Need-store-requires
-store-requires c κs = search needs
-
-mul-registers : tie.Need-mul-registers
-mul-registers c = search needs
-
-slice-write-registers : tie.Need-slice-write-registers
-slice-write-registers c = search needs
-
-same-length : tie.Need-same-length
-same-length c = search needs
-
 returns : tie.Need-returns
 returns c =
     rw (c .store .ensures, c .before .before .before .piece-mask .ensures, c .before .before .before .before .piece-low .ensures)
@@ -59,19 +32,6 @@ returns-2 c = sym (put-absent (now (c .before .before .before .before .args .reg
 pub put-spec : {M : Type 1} → statement M
 put-spec =
     tie.close
-    (tie.spec
-    cast-register
-    piece-low-requires
-    piece-mask-requires
-    shl-reach
-    cast-reach
-    shl-value
-    cast-value
-    mul-store
-    slice-read-store
-    store-requires
-    mul-registers
-    slice-write-registers
-    same-length
-    returns
+    (tie.spec (λ c. search needs) (λ c κs. search needs) (λ c κs. search needs) shl-reach cast-reach shl-value cast-value
+    (λ c. search needs) (λ c. search needs) (λ c κs. search needs) (λ c. search needs) (λ c. search needs) (λ c. search needs) returns
     returns-2)

@@ -26,23 +26,8 @@ loop-holds c = (lit< tt, omega arith)
 returns : tie.Need-returns Inv-loop μ-loop
 returns c = omega (arith, c .before .before .loop .inv)
 
-mul-piece-width : tie.Need-mul-piece-width Inv-loop μ-loop
-mul-piece-width c = search needs
-
-shared-slice-read-piece-width : tie.Need-shared-slice-read-piece-width Inv-loop μ-loop
-shared-slice-read-piece-width c = search needs
-
-piece-width-requires : tie.Need-piece-width-requires Inv-loop μ-loop
-piece-width-requires c κs = search needs
-
 add-bits : tie.Need-add-bits Inv-loop μ-loop
 add-bits c = omega (arith, in-register (getD (now (c .before .before .before .before .before .before .args .pieces)) (c .before .before .before .before .loop .k) 0))
-
-add-k : tie.Need-add-k Inv-loop μ-loop
-add-k c = search needs
-
-loop-less : tie.Need-loop-less Inv-loop μ-loop
-loop-less c = search needs
 
 loop-again : tie.Need-loop-again Inv-loop μ-loop
 loop-again c = (
@@ -59,17 +44,5 @@ returns-3 c = omega (arith, width-last (now (c .before .before .before .before .
 pub width-spec : {M : Type 1} → statement M
 width-spec =
     tie.close
-    (tie.spec
-    Inv-loop
-    μ-loop
-    loop-holds
-    returns
-    mul-piece-width
-    shared-slice-read-piece-width
-    piece-width-requires
-    add-bits
-    add-k
-    loop-less
-    loop-again
-    returns-2
-    returns-3)
+    (tie.spec Inv-loop μ-loop loop-holds returns (λ c. search needs) (λ c. search needs) (λ c κs. search needs) add-bits (λ c. search needs)
+    (λ c. search needs) loop-again returns-2 returns-3)

@@ -10,18 +10,6 @@ use borrow.Author.Needs.{needs}
 use Rattle.file.proofs.effect.painted.Statement.{statement}
 use Rattle.file.proofs.effect.painted.Tie as tie
 
-mul-colour : tie.Need-mul-colour
-mul-colour c = search needs
-
-element-set-from-colour : tie.Need-element-set-from-colour
-element-set-from-colour c = search needs
-
-mul-colour-2 : tie.Need-mul-colour-2
-mul-colour-2 c = search needs
-
-element-set-from-colour-2 : tie.Need-element-set-from-colour-2
-element-set-from-colour-2 c = search needs
-
 returns : tie.Need-returns
 unfolding paintIn withBank
 returns c = rw (c .before .if1 .taken)
@@ -45,12 +33,4 @@ returns-4 c = let beyond : length (c .before .before .args .file .palette) ≤ c
 pub painted-spec : {M : Type 1} → statement M
 painted-spec =
     tie.close
-    (tie.spec
-    mul-colour
-    element-set-from-colour
-    mul-colour-2
-    element-set-from-colour-2
-    returns
-    returns-2
-    returns-3
-    returns-4)
+    (tie.spec (λ c. search needs) (λ c. search needs) (λ c. search needs) (λ c. search needs) returns returns-2 returns-3 returns-4)

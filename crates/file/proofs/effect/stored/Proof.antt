@@ -1,6 +1,5 @@
 -- `stored` meets its contract; beyond the last register nothing is stored. Assumes nothing.
 use Prim.Native.Nat.{_≤_}
-use mathlib.Core.Path.{sym, ap}
 use native.Mathlib.Omega.{arith}
 use lib.ListN.{length}
 use lib.Seq.{set-out}
@@ -10,21 +9,6 @@ use Rattle.file.proofs.Typed.{registers-count}
 use borrow.Author.Needs.{needs}
 use Rattle.file.proofs.effect.stored.Statement.{statement}
 use Rattle.file.proofs.effect.stored.Tie as tie
-
-mul-old : tie.Need-mul-old
-mul-old c = search needs
-
-element-copy-out-old : tie.Need-element-copy-out-old
-element-copy-out-old c = search needs
-
-store-requires : tie.Need-store-requires
-store-requires c κs = search needs
-
-mul-after : tie.Need-mul-after
-mul-after c = search needs
-
-element-write-after : tie.Need-element-write-after
-element-write-after c = search needs
 
 returns : tie.Need-returns
 unfolding storeIn withRegisters register
@@ -39,11 +23,4 @@ returns-2 c = let beyond : length (c .before .args .file .registers) ≤ c .befo
 pub stored-spec : {M : Type 1} → statement M
 stored-spec =
     tie.close
-    (tie.spec
-    mul-old
-    element-copy-out-old
-    store-requires
-    mul-after
-    element-write-after
-    returns
-    returns-2)
+    (tie.spec (λ c. search needs) (λ c. search needs) (λ c κs. search needs) (λ c. search needs) (λ c. search needs) returns returns-2)

@@ -3,14 +3,5 @@ use borrow.Author.Needs.{needs}
 use Rattle.file.proofs.palette.risen.Statement.{statement}
 use Rattle.file.proofs.palette.risen.Tie as tie
 
-add-result : tie.Need-add-result
-add-result c = search needs
-
-returns : tie.Need-returns
-returns c = search needs
-
-returns-2 : tie.Need-returns-2
-returns-2 c = search needs
-
 pub risen-spec : {M : Type 1} → statement M
-risen-spec = tie.close (tie.spec add-result returns returns-2)
+risen-spec = tie.close (tie.spec (λ c. search needs) (λ c. search needs) (λ c. search needs))

@@ -4,8 +4,7 @@ use mathlib.Core.Path.{_≡_, sym, _∙_}
 use native.Mathlib.Omega.{arith}
 use borrow.Author.Needs.{needs}
 use lib.ListN.{drop}
-use Rattle.file.specs.Readers.{ascii, nameTable, numberOf, position}
-use Rattle.file.specs.Registers.{registers, singles, sequencer, crtc, graphics, attribute, pipeline}
+use Rattle.file.specs.Readers.{nameTable, numberOf, position}
 use Rattle.file.proofs.Named.{found, passed, ended, rows-count}
 use Rattle.file.proofs.readers.number_named.Statement.{statement}
 use Rattle.file.proofs.readers.number_named.Tie as tie
@@ -20,19 +19,10 @@ loop-holds : tie.Need-loop-holds Inv-loop μ-loop
 unfolding numberOf
 loop-holds c = (omega arith, omega arith)
 
-is-name-requires : tie.Need-is-name-requires Inv-loop μ-loop
-is-name-requires c κs = search needs
-
 returns : tie.Need-returns Inv-loop μ-loop
 returns c =
     omega
     (arith, c .before .before .before .loop .inv .1, found nameTable _ (c .before .before .before .loop .number) (omega (arith, rows-count, c .before .before .loop-test .taken)) (sym (c .before .is-name .ensures) ∙ c .if1 .taken))
-
-add-number : tie.Need-add-number Inv-loop μ-loop
-add-number c = search needs
-
-loop-less : tie.Need-loop-less Inv-loop μ-loop
-loop-less c = search needs
 
 loop-again : tie.Need-loop-again Inv-loop μ-loop
 loop-again c = (
@@ -49,13 +39,4 @@ returns-2 c =
 pub number-named-spec : {M : Type 1} → statement M
 number-named-spec =
     tie.close
-    (tie.spec
-    Inv-loop
-    μ-loop
-    loop-holds
-    is-name-requires
-    returns
-    add-number
-    loop-less
-    loop-again
-    returns-2)
+    (tie.spec Inv-loop μ-loop loop-holds (λ c κs. search needs) returns (λ c. search needs) (λ c. search needs) loop-again returns-2)

@@ -24,27 +24,6 @@ abbrev μ-loop : tie.MeasureT-loop
 loop-holds : tie.Need-loop-holds Inv-loop μ-loop
 loop-holds c = (omega arith, refl)
 
-mul-stray : tie.Need-mul-stray Inv-loop μ-loop
-mul-stray c = search needs
-
-array-read-stray : tie.Need-array-read-stray Inv-loop μ-loop
-array-read-stray c = search needs
-
-mul-stray-2 : tie.Need-mul-stray-2 Inv-loop μ-loop
-mul-stray-2 c = search needs
-
-element-copy-out-stray : tie.Need-element-copy-out-stray Inv-loop μ-loop
-element-copy-out-stray c = search needs
-
-stray-requires : tie.Need-stray-requires Inv-loop μ-loop
-stray-requires c κs = search needs
-
-add-i : tie.Need-add-i Inv-loop μ-loop
-add-i c = search needs
-
-loop-less : tie.Need-loop-less Inv-loop μ-loop
-loop-less c = search needs
-
 loop-again : tie.Need-loop-again Inv-loop μ-loop
 unfolding storedTable
 loop-again c = (
@@ -53,9 +32,6 @@ loop-again c = (
       (omega (arith, registers-count (c .before .before .before .before .args .t1) _ (c .before .before .before .before .good .0))) (c .stray .ensures)
       ∙ c .before .before .before .loop .inv .1,
 )
-
-pointer-sound-requires : tie.Need-pointer-sound-requires Inv-loop μ-loop
-pointer-sound-requires c κs = search needs
 
 -- the registers are sound if no bit is stray
 done : (c : tie.After-loop Inv-loop μ-loop) → allWithin storedTable (c .before .before .args .t1 .registers) ≡ eqb (c .before .loop .stray) 0
@@ -76,18 +52,5 @@ returns-2 c = rw (done (c .before), ne-eqb (c .before .before .loop .stray) 0 (c
 pub is-sound-spec : {M : Type 1} → statement M
 is-sound-spec =
     tie.close
-    (tie.spec
-    Inv-loop
-    μ-loop
-    loop-holds
-    mul-stray
-    array-read-stray
-    mul-stray-2
-    element-copy-out-stray
-    stray-requires
-    add-i
-    loop-less
-    loop-again
-    pointer-sound-requires
-    returns
-    returns-2)
+    (tie.spec Inv-loop μ-loop loop-holds (λ c. search needs) (λ c. search needs) (λ c. search needs) (λ c. search needs)
+    (λ c κs. search needs) (λ c. search needs) (λ c. search needs) loop-again (λ c κs. search needs) returns returns-2)

@@ -7,12 +7,6 @@ use Rattle.geometry.proofs.Signed.{difference, difference-fits}
 use Rattle.geometry.proofs.edge.less_preset.Statement.{statement}
 use Rattle.geometry.proofs.edge.less_preset.Tie as tie
 
-cast-result : tie.Need-cast-result
-cast-result c = search needs
-
-cast-result-2 : tie.Need-cast-result-2
-cast-result-2 c = search needs
-
 sub-result : tie.Need-sub-result
 sub-result c =
     let args = c .args in
@@ -26,4 +20,4 @@ returns c =
     (toZ-ofZ w16 _ (difference-fits (args .edge) (args .preset) (omega arith) (omega arith)))
 
 pub less-preset-spec : {M : Type 1} → statement M
-less-preset-spec = tie.close (tie.spec cast-result cast-result-2 sub-result returns)
+less-preset-spec = tie.close (tie.spec (λ c. search needs) (λ c. search needs) sub-result returns)

@@ -12,47 +12,17 @@ use Rattle.geometry.proofs.Twelve.{twelve}
 use Rattle.geometry.proofs.reader.cursor_in.Statement.{statement}
 use Rattle.geometry.proofs.reader.cursor_in.Tie as tie
 
-element-copy-out-across : tie.Need-element-copy-out-across
-element-copy-out-across c = search needs
-
-element-copy-out-down : tie.Need-element-copy-out-down
-element-copy-out-down c = search needs
-
-element-copy-out-t8 : tie.Need-element-copy-out-t8
-element-copy-out-t8 c = search needs
-
-element-copy-out-less-preset : tie.Need-element-copy-out-less-preset
-element-copy-out-less-preset c = search needs
-
 less-preset-requires : tie.Need-less-preset-requires
 unfolding storedBits storedTable
 less-preset-requires c κs =
     let start = c .before .before .before .before in
     omega (arith, twelve (start .args .t1) 95 tt (start .pre))
 
-element-copy-out-less-preset-2 : tie.Need-element-copy-out-less-preset-2
-element-copy-out-less-preset-2 c = search needs
-
 less-preset-requires-2 : tie.Need-less-preset-requires-2
 unfolding storedBits storedTable
 less-preset-requires-2 c κs =
     let start = c .before .before .before .before .before .before in
     omega (arith, twelve (start .args .t1) 96 tt (start .pre))
-
-shown-requires : tie.Need-shown-requires
-shown-requires c κs = search needs
-
-shown-requires-2 : tie.Need-shown-requires-2
-shown-requires-2 c κs = search needs
-
-element-copy-out-t26 : tie.Need-element-copy-out-t26
-element-copy-out-t26 c = search needs
-
-cast-t29 : tie.Need-cast-t29
-cast-t29 c = search needs
-
-mul-t30 : tie.Need-mul-t30
-mul-t30 c = search needs
 
 returns : tie.Need-returns
 unfolding cursorIn register mark bit bits
@@ -64,17 +34,5 @@ returns c =
 pub cursor-in-spec : {M : Type 1} → statement M
 cursor-in-spec =
     tie.close
-    (tie.spec
-    element-copy-out-across
-    element-copy-out-down
-    element-copy-out-t8
-    element-copy-out-less-preset
-    less-preset-requires
-    element-copy-out-less-preset-2
-    less-preset-requires-2
-    shown-requires
-    shown-requires-2
-    element-copy-out-t26
-    cast-t29
-    mul-t30
-    returns)
+    (tie.spec (λ c. search needs) (λ c. search needs) (λ c. search needs) (λ c. search needs) less-preset-requires (λ c. search needs)
+    less-preset-requires-2 (λ c κs. search needs) (λ c κs. search needs) (λ c. search needs) (λ c. search needs) (λ c. search needs) returns)

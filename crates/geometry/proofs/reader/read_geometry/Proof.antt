@@ -10,12 +10,6 @@ use Rattle.geometry.specs.Geometry.{readGeometry}
 use Rattle.geometry.proofs.reader.read_geometry.Statement.{statement}
 use Rattle.geometry.proofs.reader.read_geometry.Tie as tie
 
-is-sound-requires : tie.Need-is-sound-requires
-is-sound-requires c κs = search needs
-
-read-timing-requires : tie.Need-read-timing-requires
-read-timing-requires c κs = search needs
-
 -- past the test the file is sound
 is-sound : (c : tie.Then1) → sound (c .before .before .args .file) ≡ true
 is-sound c = sym (c .before .is-sound .ensures) ∙ c .if1 .taken
@@ -31,12 +25,6 @@ cursor-in-requires c κs = passes _ (is-sound (c .before .before))
 window-in-requires : tie.Need-window-in-requires
 window-in-requires c κs = rw (timing-read (c .before .before)) (refl, refl)
 
-no-cursor-requires : tie.Need-no-cursor-requires
-no-cursor-requires c κs = search needs
-
-no-window-requires : tie.Need-no-window-requires
-no-window-requires c κs = search needs
-
 returns : tie.Need-returns
 unfolding readGeometry
 returns c =
@@ -51,12 +39,5 @@ returns-2 c =
 pub read-geometry-spec : {M : Type 1} → statement M
 read-geometry-spec =
     tie.close
-    (tie.spec
-    is-sound-requires
-    read-timing-requires
-    cursor-in-requires
-    window-in-requires
-    no-cursor-requires
-    no-window-requires
-    returns
-    returns-2)
+    (tie.spec (λ c κs. search needs) (λ c κs. search needs) cursor-in-requires window-in-requires (λ c κs. search needs)
+    (λ c κs. search needs) returns returns-2)

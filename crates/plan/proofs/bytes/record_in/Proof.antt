@@ -9,21 +9,6 @@ use borrow.Author.Needs.{needs}
 use Rattle.plan.proofs.bytes.record_in.Statement.{statement}
 use Rattle.plan.proofs.bytes.record_in.Tie as tie
 
-mul-at : tie.Need-mul-at
-mul-at c = search needs
-
-sub-bytes : tie.Need-sub-bytes
-sub-bytes c = search needs
-
-part-bytes-start : tie.Need-part-bytes-start
-part-bytes-start c = search needs
-
-part-bytes-end : tie.Need-part-bytes-end
-part-bytes-end c = search needs
-
-record-of-requires : tie.Need-record-of-requires
-record-of-requires c κs = search needs
-
 returns : tie.Need-returns
 returns c =
     let start = c .before .before .before in
@@ -32,4 +17,4 @@ returns c =
 pub record-in-spec : {M : Type 1} → statement M
 record-in-spec =
     tie.close
-    (tie.spec mul-at sub-bytes part-bytes-start part-bytes-end record-of-requires returns)
+    (tie.spec (λ c. search needs) (λ c. search needs) (λ c. search needs) (λ c. search needs) (λ c κs. search needs) returns)

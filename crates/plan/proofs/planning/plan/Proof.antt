@@ -10,32 +10,14 @@ use Rattle.plan.proofs.Kept.{plan-unsound, plan-not-red, plan-short, pl
 use Rattle.plan.proofs.planning.plan.Statement.{statement}
 use Rattle.plan.proofs.planning.plan.Tie as tie
 
-is-sound-requires : tie.Need-is-sound-requires
-is-sound-requires c κs = search needs
-
-refused-requires : tie.Need-refused-requires
-refused-requires c κs = search needs
-
 returns : tie.Need-returns
 returns c = plan-unsound (c .before .before .before .before .args .wanted) (now (c .before .before .before .before .args .buffer)) (sym (c .before .before .is-sound .ensures) ∙ not-true _ (c .before .if1 .taken)) (c .refused .result) (c .refused .ensures)
-
-refused-requires-2 : tie.Need-refused-requires-2
-refused-requires-2 c κs = search needs
 
 returns-2 : tie.Need-returns-2
 returns-2 c = plan-not-red (c .before .before .before .before .before .before .args .wanted) (now (c .before .before .before .before .before .before .args .buffer)) (sym (c .before .before .before .before .is-sound .ensures) ∙ not-false _ (c .before .before .before .if1 .left)) (c .before .if2 .taken) (c .refused2 .result) (c .refused2 .ensures)
 
-refused-requires-3 : tie.Need-refused-requires-3
-refused-requires-3 c κs = search needs
-
 returns-3 : tie.Need-returns-3
 returns-3 c = plan-short (c .before .before .before .before .before .before .before .args .wanted) (now (c .before .before .before .before .before .before .before .args .buffer)) (sym (c .before .before .before .before .before .is-sound .ensures) ∙ not-false _ (c .before .before .before .before .if1 .left)) (c .before .before .if2 .left) (omega (arith, c .before .if3 .taken)) (c .refused3 .result) (c .refused3 .ensures)
-
-write-records-requires : tie.Need-write-records-requires
-write-records-requires c κs = search needs
-
-same-length : tie.Need-same-length
-same-length c = search needs
 
 returns-4 : tie.Need-returns-4
 returns-4 c = let whole = is-file (c .before .before .before .before .before .before .before .before .before .before .args .wanted) _ (c .before .before .before .before .before .before .before .before .before .before .good .0) in
@@ -45,14 +27,5 @@ returns-4 c = let whole = is-file (c .before .before .before .before .before .be
 pub plan-spec : {M : Type 1} → statement M
 plan-spec =
     tie.close
-    (tie.spec
-    is-sound-requires
-    refused-requires
-    returns
-    refused-requires-2
-    returns-2
-    refused-requires-3
-    returns-3
-    write-records-requires
-    same-length
-    returns-4)
+    (tie.spec (λ c κs. search needs) (λ c κs. search needs) returns (λ c κs. search needs) returns-2 (λ c κs. search needs) returns-3
+    (λ c κs. search needs) (λ c. search needs) returns-4)

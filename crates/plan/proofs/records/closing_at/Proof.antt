@@ -12,33 +12,6 @@ use Rattle.plan.specs.Plan.{mmioWrite, closing}
 use Rattle.plan.proofs.records.closing_at.Statement.{statement}
 use Rattle.plan.proofs.records.closing_at.Tie as tie
 
-pointer-write-requires : tie.Need-pointer-write-requires
-pointer-write-requires c κs = search needs
-
-held-requires : tie.Need-held-requires
-held-requires c κs = search needs
-
-mmio-write-requires : tie.Need-mmio-write-requires
-mmio-write-requires c κs = search needs
-
-held-requires-2 : tie.Need-held-requires-2
-held-requires-2 c κs = search needs
-
-mmio-write-requires-2 : tie.Need-mmio-write-requires-2
-mmio-write-requires-2 c κs = search needs
-
-held-requires-3 : tie.Need-held-requires-3
-held-requires-3 c κs = search needs
-
-config-write-requires : tie.Need-config-write-requires
-config-write-requires c κs = search needs
-
-mul-result : tie.Need-mul-result
-mul-result c = search needs
-
-array-copy-out-result : tie.Need-array-copy-out-result
-array-copy-out-result c = search needs
-
 returns : tie.Need-returns
 unfolding closing along stepsOf selecting stepRecord valueFrom register
 returns c = ap (λ (l : List Record). getD l (c .before .before .before .before .before .before .before .before .before .before .args .k) nothing)
@@ -50,14 +23,5 @@ returns c = ap (λ (l : List Record). getD l (c .before .before .before .before 
 pub closing-at-spec : {M : Type 1} → statement M
 closing-at-spec =
     tie.close
-    (tie.spec
-    pointer-write-requires
-    held-requires
-    mmio-write-requires
-    held-requires-2
-    mmio-write-requires-2
-    held-requires-3
-    config-write-requires
-    mul-result
-    array-copy-out-result
-    returns)
+    (tie.spec (λ c κs. search needs) (λ c κs. search needs) (λ c κs. search needs) (λ c κs. search needs) (λ c κs. search needs)
+    (λ c κs. search needs) (λ c κs. search needs) (λ c. search needs) (λ c. search needs) returns)

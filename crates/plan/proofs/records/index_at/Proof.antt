@@ -16,45 +16,6 @@ use Rattle.plan.specs.Roads.{byHalf, indexRoads}
 use Rattle.plan.proofs.records.index_at.Statement.{statement}
 use Rattle.plan.proofs.records.index_at.Tie as tie
 
-held-requires : tie.Need-held-requires
-held-requires c κs = search needs
-
-held-requires-2 : tie.Need-held-requires-2
-held-requires-2 c κs = search needs
-
-port-write-requires : tie.Need-port-write-requires
-port-write-requires c κs = search needs
-
-held-requires-3 : tie.Need-held-requires-3
-held-requires-3 c κs = search needs
-
-port-write-requires-2 : tie.Need-port-write-requires-2
-port-write-requires-2 c κs = search needs
-
-by-half-requires : tie.Need-by-half-requires
-by-half-requires c κs = search needs
-
-held-requires-4 : tie.Need-held-requires-4
-held-requires-4 c κs = search needs
-
-port-write-requires-3 : tie.Need-port-write-requires-3
-port-write-requires-3 c κs = search needs
-
-held-requires-5 : tie.Need-held-requires-5
-held-requires-5 c κs = search needs
-
-port-write-requires-4 : tie.Need-port-write-requires-4
-port-write-requires-4 c κs = search needs
-
-toggle-read-requires : tie.Need-toggle-read-requires
-toggle-read-requires c κs = search needs
-
-mul-result : tie.Need-mul-result
-mul-result c = search needs
-
-array-copy-out-result : tie.Need-array-copy-out-result
-array-copy-out-result c = search needs
-
 returns : tie.Need-returns
 unfolding indices indexRoads along stepsOf selecting stepRecord valueFrom byHalf register
 returns c = ap (λ (l : List Record). getD l (c .before .before .before .before .before .before .before .before .before .before .before .before .before .args .k) nothing)
@@ -67,18 +28,6 @@ returns c = ap (λ (l : List Record). getD l (c .before .before .before .before 
 pub index-at-spec : {M : Type 1} → statement M
 index-at-spec =
     tie.close
-    (tie.spec
-    held-requires
-    held-requires-2
-    port-write-requires
-    held-requires-3
-    port-write-requires-2
-    by-half-requires
-    held-requires-4
-    port-write-requires-3
-    held-requires-5
-    port-write-requires-4
-    toggle-read-requires
-    mul-result
-    array-copy-out-result
-    returns)
+    (tie.spec (λ c κs. search needs) (λ c κs. search needs) (λ c κs. search needs) (λ c κs. search needs) (λ c κs. search needs)
+    (λ c κs. search needs) (λ c κs. search needs) (λ c κs. search needs) (λ c κs. search needs) (λ c κs. search needs)
+    (λ c κs. search needs) (λ c. search needs) (λ c. search needs) returns)

@@ -15,33 +15,6 @@ use Rattle.plan.specs.Plan.{mmioWrite, portRead, openSpaces, openLock, o
 use Rattle.plan.proofs.records.opening_at.Statement.{statement}
 use Rattle.plan.proofs.records.opening_at.Tie as tie
 
-held-requires : tie.Need-held-requires
-held-requires c κs = search needs
-
-config-write-requires : tie.Need-config-write-requires
-config-write-requires c κs = search needs
-
-mmio-write-requires : tie.Need-mmio-write-requires
-mmio-write-requires c κs = search needs
-
-mmio-write-requires-2 : tie.Need-mmio-write-requires-2
-mmio-write-requires-2 c κs = search needs
-
-mmio-write-requires-3 : tie.Need-mmio-write-requires-3
-mmio-write-requires-3 c κs = search needs
-
-by-half-requires : tie.Need-by-half-requires
-by-half-requires c κs = search needs
-
-port-read-requires : tie.Need-port-read-requires
-port-read-requires c κs = search needs
-
-mul-result : tie.Need-mul-result
-mul-result c = search needs
-
-array-copy-out-result : tie.Need-array-copy-out-result
-array-copy-out-result c = search needs
-
 returns : tie.Need-returns
 unfolding opening openSpaces openLock openPalette byHalf register
 returns c = ap (λ (l : List Record). getD l (c .before .before .before .before .before .before .before .before .before .args .k) nothing)
@@ -54,14 +27,5 @@ returns c = ap (λ (l : List Record). getD l (c .before .before .before .before 
 pub opening-at-spec : {M : Type 1} → statement M
 opening-at-spec =
     tie.close
-    (tie.spec
-    held-requires
-    config-write-requires
-    mmio-write-requires
-    mmio-write-requires-2
-    mmio-write-requires-3
-    by-half-requires
-    port-read-requires
-    mul-result
-    array-copy-out-result
-    returns)
+    (tie.spec (λ c κs. search needs) (λ c κs. search needs) (λ c κs. search needs) (λ c κs. search needs) (λ c κs. search needs)
+    (λ c κs. search needs) (λ c κs. search needs) (λ c. search needs) (λ c. search needs) returns)

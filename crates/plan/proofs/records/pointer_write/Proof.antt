@@ -5,18 +5,6 @@ use Rattle.plan.specs.Plan.{mmioWrite}
 use Rattle.plan.proofs.records.pointer_write.Statement.{statement}
 use Rattle.plan.proofs.records.pointer_write.Tie as tie
 
-wide-requires : tie.Need-wide-requires
-wide-requires c κs = search needs
-
-mmio-write-requires : tie.Need-mmio-write-requires
-mmio-write-requires c κs = search needs
-
-wide-requires-2 : tie.Need-wide-requires-2
-wide-requires-2 c κs = search needs
-
-mmio-write-requires-2 : tie.Need-mmio-write-requires-2
-mmio-write-requires-2 c κs = search needs
-
 returns : tie.Need-returns
 returns c = rw (c .before .before .if1 .taken) (c .mmio-write .ensures ∙ ap (mmioWrite 0xA4) (c .before .wide .ensures))
 
@@ -26,10 +14,4 @@ returns-2 c = rw (c .before .before .if1 .left) (c .mmio-write2 .ensures ∙ ap 
 pub pointer-write-spec : {M : Type 1} → statement M
 pointer-write-spec =
     tie.close
-    (tie.spec
-    wide-requires
-    mmio-write-requires
-    wide-requires-2
-    mmio-write-requires-2
-    returns
-    returns-2)
+    (tie.spec (λ c κs. search needs) (λ c κs. search needs) (λ c κs. search needs) (λ c κs. search needs) returns returns-2)

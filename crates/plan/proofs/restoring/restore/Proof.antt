@@ -9,26 +9,8 @@ use Rattle.plan.proofs.Kept.{restore-unsound, restore-unplanned, room, 
 use Rattle.plan.proofs.restoring.restore.Statement.{statement}
 use Rattle.plan.proofs.restoring.restore.Tie as tie
 
-is-sound-requires : tie.Need-is-sound-requires
-is-sound-requires c κs = search needs
-
-refused-requires : tie.Need-refused-requires
-refused-requires c κs = search needs
-
 returns : tie.Need-returns
 returns c = restore-unsound (c .before .before .before .before .args .current) (c .before .before .before .before .args .wanted) (now (c .before .before .before .before .args .buffer)) (sym (c .before .before .is-sound .ensures) ∙ not-true _ (c .before .if1 .taken)) (c .refused .result) (c .refused .ensures)
-
-plan-requires : tie.Need-plan-requires
-plan-requires c κs = search needs
-
-code-requires : tie.Need-code-requires
-code-requires c κs = search needs
-
-refused-requires-2 : tie.Need-refused-requires-2
-refused-requires-2 c κs = search needs
-
-same-length : tie.Need-same-length
-same-length c = search needs
 
 returns-2 : tie.Need-returns-2
 returns-2 c = restore-unplanned (c .before .before .before .before .before .before .before .before .before .before .args .current) (c .before .before .before .before .before .before .before .before .before .before .args .wanted) (now (c .before .before .before .before .before .before .before .before .before .before .args .buffer)) (is-file (c .before .before .before .before .before .before .before .before .before .before .args .current) _ (c .before .before .before .before .before .before .before .before .before .before .good .0)) (is-file (c .before .before .before .before .before .before .before .before .before .before .args .wanted) _ (c .before .before .before .before .before .before .before .before .before .before .good .1 .0))
@@ -40,19 +22,10 @@ run-plan-requires c κs = room (c .before .before .before .before .before .befor
     (sym (c .before .before .before .before .before .before .before .before .is-sound .ensures) ∙ not-false _ (c .before .before .before .before .before .before .before .if1 .left)) _ (c .before .before .before .before .before .plan .result) (c .before .before .before .before .before .plan .ensures)
     (omega (arith, c .before .before .code .ensures, c .before .if2 .left))
 
-refused-requires-3 : tie.Need-refused-requires-3
-refused-requires-3 c κs = search needs
-
-same-length-2 : tie.Need-same-length-2
-same-length-2 c = search needs
-
 returns-3 : tie.Need-returns-3
 returns-3 c = absurd (never-refused (c .before .before .before .before .before .before .before .before .before .before .before .before .before .before .args .current) (c .before .before .before .before .before .before .before .before .before .before .before .before .before .before .args .wanted) (now (c .before .before .before .before .before .before .before .before .before .before .before .before .before .before .args .buffer)) (is-file (c .before .before .before .before .before .before .before .before .before .before .before .before .before .before .args .current) _ (c .before .before .before .before .before .before .before .before .before .before .before .before .before .before .good .0)) (is-file (c .before .before .before .before .before .before .before .before .before .before .before .before .before .before .args .wanted) _ (c .before .before .before .before .before .before .before .before .before .before .before .before .before .before .good .1 .0))
     (sym (c .before .before .before .before .before .before .before .before .before .before .before .before .is-sound .ensures) ∙ not-false _ (c .before .before .before .before .before .before .before .before .before .before .before .if1 .left)) _ (c .before .before .before .before .before .before .before .before .before .plan .result) (c .before .before .before .before .before .before .before .before .before .plan .ensures)
     (omega (arith, c .before .before .before .before .before .before .code .ensures, c .before .before .before .before .before .if2 .left)) (sym (not-true _ (c .before .if3 .taken)) ∙ c .before .before .before .run-plan .ensures .0))
-
-same-length-3 : tie.Need-same-length-3
-same-length-3 c = search needs
 
 returns-4 : tie.Need-returns-4
 returns-4 c = restore-done (c .before .before .before .before .before .before .before .before .before .before .before .before .before .before .args .current) (c .before .before .before .before .before .before .before .before .before .before .before .before .before .before .args .wanted) (now (c .before .before .before .before .before .before .before .before .before .before .before .before .before .before .args .buffer)) (is-file (c .before .before .before .before .before .before .before .before .before .before .before .before .before .before .args .current) _ (c .before .before .before .before .before .before .before .before .before .before .before .before .before .before .good .0)) (is-file (c .before .before .before .before .before .before .before .before .before .before .before .before .before .before .args .wanted) _ (c .before .before .before .before .before .before .before .before .before .before .before .before .before .before .good .1 .0))
@@ -62,18 +35,5 @@ returns-4 c = restore-done (c .before .before .before .before .before .before .b
 pub restore-spec : {M : Type 1} → statement M
 restore-spec =
     tie.close
-    (tie.spec
-    is-sound-requires
-    refused-requires
-    returns
-    plan-requires
-    code-requires
-    refused-requires-2
-    same-length
-    returns-2
-    run-plan-requires
-    refused-requires-3
-    same-length-2
-    returns-3
-    same-length-3
-    returns-4)
+    (tie.spec (λ c κs. search needs) (λ c κs. search needs) returns (λ c κs. search needs) (λ c κs. search needs) (λ c κs. search needs)
+    (λ c. search needs) returns-2 run-plan-requires (λ c κs. search needs) (λ c. search needs) returns-3 (λ c. search needs) returns-4)

@@ -52,15 +52,4 @@ returns-2 c = (
 pub run-plan-spec : {M : Type 1} → statement M
 run-plan-spec =
     tie.close
-    (tie.spec
-    Inv-loop
-    μ-loop
-    loop-holds
-    record-in-requires
-    access-requires
-    code-requires
-    returns
-    add-k
-    loop-less
-    loop-again
-    returns-2)
+    (tie.spec Inv-loop μ-loop loop-holds record-in-requires access-requires code-requires returns add-k loop-less loop-again returns-2)

@@ -6,20 +6,10 @@ use lib.ListN.{List·getD-eq-default}
 use Rattle.plan.proofs.rows.held.Statement.{statement}
 use Rattle.plan.proofs.rows.held.Tie as tie
 
-mul-wide : tie.Need-mul-wide
-mul-wide c = search needs
-
-array-read-wide : tie.Need-array-read-wide
-array-read-wide c = search needs
-
-wide-requires : tie.Need-wide-requires
-wide-requires c κs = search needs
-
-returns : tie.Need-returns
-returns c = search needs
-
 returns-2 : tie.Need-returns-2
 returns-2 c = sym (List·getD-eq-default (c .before .args .t1) 0 {n = c .before .args .number} (omega (arith, c .before .good .0 .1 .0 .1)))
 
 pub held-spec : {M : Type 1} → statement M
-held-spec = tie.close (tie.spec mul-wide array-read-wide wide-requires returns returns-2)
+held-spec =
+    tie.close
+    (tie.spec (λ c. search needs) (λ c. search needs) (λ c κs. search needs) (λ c. search needs) returns-2)

@@ -5,12 +5,6 @@ use Rattle.plan.specs.Written.{rowValue}
 use Rattle.plan.proofs.rows.row_value.Statement.{statement}
 use Rattle.plan.proofs.rows.row_value.Tie as tie
 
-cast-result : tie.Need-cast-result
-cast-result c = search needs
-
-held-requires : tie.Need-held-requires
-held-requires c κs = search needs
-
 returns : tie.Need-returns
 unfolding rowValue
 returns c = rw (lt-ltb (c .before .args .source) 256 (c .if1 .taken))
@@ -20,4 +14,4 @@ unfolding rowValue
 returns-2 c = rw (le-ltb (c .before .before .args .source) 256 (c .before .if1 .left)) (c .held .ensures)
 
 pub row-value-spec : {M : Type 1} → statement M
-row-value-spec = tie.close (tie.spec cast-result held-requires returns returns-2)
+row-value-spec = tie.close (tie.spec (λ c. search needs) (λ c κs. search needs) returns returns-2)

@@ -7,20 +7,14 @@ use Rattle.text.proofs.Stores.{then-text}
 use Rattle.text.proofs.line.spell_spaced.Statement.{statement}
 use Rattle.text.proofs.line.spell_spaced.Tie as tie
 
-spell-requires : tie.Need-spell-requires
-spell-requires c κs = search needs
-
 byte-requires : tie.Need-byte-requires
 byte-requires c κs =
     let args = c .before .before .before .before .before .before .args in
     omega (arith, digits-length (args .count) (args .n))
-
-same-length : tie.Need-same-length
-same-length c = search needs
 
 returns : tie.Need-returns
 unfolding space
 returns c = then-text (c .before .before .before .before .before .before .spell .ensures) (c .before .before .byte .ensures)
 
 pub spell-spaced-spec : {M : Type 1} → statement M
-spell-spaced-spec = tie.close (tie.spec spell-requires byte-requires same-length returns)
+spell-spaced-spec = tie.close (tie.spec (λ c κs. search needs) byte-requires (λ c. search needs) returns)

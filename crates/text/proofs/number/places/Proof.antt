@@ -24,13 +24,7 @@ returns-5 c = (so-many 4 _ (c .before .if4 .left) (c .if5 .taken), lit≤ tt)
 returns-6 : tie.Need-returns-6
 returns-6 c = (so-many 5 _ (c .before .if5 .left) (c .if6 .taken), lit≤ tt)
 
-many-places-requires : tie.Need-many-places-requires
-many-places-requires c κs = search needs
-
-returns-7 : tie.Need-returns-7
-returns-7 c = search needs
-
 pub places-spec : {M : Type 1} → statement M
 places-spec =
     tie.close
-    (tie.spec returns returns-2 returns-3 returns-4 returns-5 returns-6 many-places-requires returns-7)
+    (tie.spec returns returns-2 returns-3 returns-4 returns-5 returns-6 (λ c κs. search needs) (λ c. search needs))

@@ -26,12 +26,6 @@ mul-wide c = omega arith
 element-copy-out-wide : tie.Need-element-copy-out-wide Inv-loop μ-loop
 element-copy-out-wide c = omega arith
 
-wide-requires : tie.Need-wide-requires Inv-loop μ-loop
-wide-requires c κs = search needs
-
-places-requires : tie.Need-places-requires Inv-loop μ-loop
-places-requires c κs = search needs
-
 add-size : tie.Need-add-size Inv-loop μ-loop
 add-size c = omega arith
 
@@ -60,17 +54,5 @@ returns c =
 pub spaced-size-spec : {M : Type 1} → statement M
 spaced-size-spec =
     tie.close
-    (tie.spec
-    Inv-loop
-    μ-loop
-    loop-holds
-    mul-wide
-    element-copy-out-wide
-    wide-requires
-    places-requires
-    add-size
-    add-size-2
-    add-i
-    loop-less
-    loop-again
-    returns)
+    (tie.spec Inv-loop μ-loop loop-holds mul-wide element-copy-out-wide (λ c κs. search needs) (λ c κs. search needs) add-size add-size-2
+    add-i loop-less loop-again returns)

@@ -31,9 +31,6 @@ mul-wide c = omega arith
 element-copy-out-wide : tie.Need-element-copy-out-wide Inv-loop μ-loop
 element-copy-out-wide c = omega arith
 
-wide-requires : tie.Need-wide-requires Inv-loop μ-loop
-wide-requires c κs = search needs
-
 spell-behind-requires : tie.Need-spell-behind-requires Inv-loop μ-loop
 spell-behind-requires c κs =
     let at-loop = c .before .before .before .before in
@@ -77,16 +74,5 @@ returns c =
 pub spell-each-spec : {M : Type 1} → statement M
 spell-each-spec =
     tie.close
-    (tie.spec
-    Inv-loop
-    μ-loop
-    loop-holds
-    mul-wide
-    element-copy-out-wide
-    wide-requires
-    spell-behind-requires
-    add-i
-    loop-less
-    loop-again
-    same-length
-    returns)
+    (tie.spec Inv-loop μ-loop loop-holds mul-wide element-copy-out-wide (λ c κs. search needs) spell-behind-requires add-i loop-less
+    loop-again same-length returns)

@@ -26,24 +26,6 @@ loop-holds : tie.Need-loop-holds Inv-loop μ-loop
 unfolding allInRange
 loop-holds c = (c .before .before .before .pre .0, c .before .before .before .pre .1, refl)
 
-mul-row : tie.Need-mul-row Inv-loop μ-loop
-mul-row c = search needs
-
-shared-slice-read-row : tie.Need-shared-slice-read-row Inv-loop μ-loop
-shared-slice-read-row c = search needs
-
-row-pieces-requires : tie.Need-row-pieces-requires Inv-loop μ-loop
-row-pieces-requires c κs = search needs
-
-mul-number : tie.Need-mul-number Inv-loop μ-loop
-mul-number c = search needs
-
-shared-slice-read-number : tie.Need-shared-slice-read-number Inv-loop μ-loop
-shared-slice-read-number c = search needs
-
-width-requires : tie.Need-width-requires Inv-loop μ-loop
-width-requires c κs = search needs
-
 -- the row of this turn
 turn : (c : tie.After-width Inv-loop μ-loop)
     → Turn (now (c .before .before .before .before .before .before .before .before .before .args .rows)) (now (c .before .before .before .before .before .before .before .before .before .args .pieces)) (c .before .before .before .before .before .loop .k) (c .before .before .before .before .before .loop .last) (c .width .result) (now (c .before .before .row-pieces .result))
@@ -62,12 +44,6 @@ in-range-requires c κs = row-most (turn c)
 returns : tie.Need-returns Inv-loop μ-loop
 returns c = sym (rw (not-true (c .before .in-range .result) (c .if1 .taken)) at (step (c .before)))
 
-add-k : tie.Need-add-k Inv-loop μ-loop
-add-k c = search needs
-
-loop-less : tie.Need-loop-less Inv-loop μ-loop
-loop-less c = search needs
-
 loop-again : tie.Need-loop-again Inv-loop μ-loop
 loop-again c = (
   c .before .before .before .before .before .before .before .loop .inv .0,
@@ -84,19 +60,5 @@ returns-2 c =
 pub all-in-range-spec : {M : Type 1} → statement M
 all-in-range-spec =
     tie.close
-    (tie.spec
-    Inv-loop
-    μ-loop
-    loop-holds
-    mul-row
-    shared-slice-read-row
-    row-pieces-requires
-    mul-number
-    shared-slice-read-number
-    width-requires
-    in-range-requires
-    returns
-    add-k
-    loop-less
-    loop-again
-    returns-2)
+    (tie.spec Inv-loop μ-loop loop-holds (λ c. search needs) (λ c. search needs) (λ c κs. search needs) (λ c. search needs)
+    (λ c. search needs) (λ c κs. search needs) in-range-requires returns (λ c. search needs) (λ c. search needs) loop-again returns-2)

@@ -11,15 +11,9 @@ use borrow.Author.Needs.{needs}
 use Rattle.timing.proofs.numbers.end_after.Statement.{statement}
 use Rattle.timing.proofs.numbers.end_after.Tie as tie
 
-add-next : tie.Need-add-next
-add-next c = search needs
-
 power-requires : tie.Need-power-requires
 unfolding most
 power-requires c κs = width-below endOfLast (c .args .n) (c .args .start) (c .pre .0)
-
-add-low-bits : tie.Need-add-low-bits
-add-low-bits c = search needs
 
 low-bits-requires : tie.Need-low-bits-requires
 unfolding most
@@ -43,12 +37,4 @@ returns c = rw (c .low-bits2 .ensures, c .before .low-bits .ensures, c .before .
 pub end-after-spec : {M : Type 1} → statement M
 end-after-spec =
     tie.close
-    (tie.spec
-    add-next
-    power-requires
-    add-low-bits
-    low-bits-requires
-    sub-low-bits
-    low-bits-requires-2
-    add-result
-    returns)
+    (tie.spec (λ c. search needs) power-requires (λ c. search needs) low-bits-requires sub-low-bits low-bits-requires-2 add-result returns)

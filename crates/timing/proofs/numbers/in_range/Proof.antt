@@ -40,6 +40,4 @@ unfolding inRange
 returns-4 c = rw (meaning-plus (c .before .before .before .args .meaning) (c .before .if1 .left), le-leb _ _ (c .if3 .left), c .before .before .power .ensures)
 
 pub in-range-spec : {M : Type 1} → statement M
-in-range-spec =
-    tie.close
-    (tie.spec power-requires returns add-result returns-2 returns-3 add-result-2 returns-4)
+in-range-spec = tie.close (tie.spec power-requires returns add-result returns-2 returns-3 add-result-2 returns-4)

@@ -5,9 +5,6 @@ use borrow.Author.Needs.{needs}
 use Rattle.timing.proofs.numbers.low_bits.Statement.{statement}
 use Rattle.timing.proofs.numbers.low_bits.Tie as tie
 
-power-requires : tie.Need-power-requires
-power-requires c κs = search needs
-
 sub-result : tie.Need-sub-result
 sub-result c = rw (c .power .ensures) (pow-pos (c .before .args .n))
 
@@ -15,4 +12,4 @@ returns : tie.Need-returns
 returns c = rw (c .power .ensures) (and-mask (c .before .args .number) (c .before .args .n))
 
 pub low-bits-spec : {M : Type 1} → statement M
-low-bits-spec = tie.close (tie.spec power-requires sub-result returns)
+low-bits-spec = tie.close (tie.spec (λ c κs. search needs) sub-result returns)

@@ -12,9 +12,6 @@ use borrow.Author.Needs.{needs}
 use Rattle.timing.proofs.numbers.meant.Statement.{statement}
 use Rattle.timing.proofs.numbers.meant.Tie as tie
 
-width-requires : tie.Need-width-requires
-width-requires c κs = search needs
-
 end-after-requires : tie.Need-end-after-requires
 unfolding most
 end-after-requires c κs =
@@ -33,4 +30,4 @@ unfolding meant
 returns-2 c = rw (meaning-plus (c .before .before .args .meaning) (c .if1 .left))
 
 pub meant-spec : {M : Type 1} → statement M
-meant-spec = tie.close (tie.spec width-requires end-after-requires add-result returns returns-2)
+meant-spec = tie.close (tie.spec (λ c κs. search needs) end-after-requires add-result returns returns-2)

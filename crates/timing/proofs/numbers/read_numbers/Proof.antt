@@ -27,18 +27,6 @@ loop-holds : tie.Need-loop-holds Inv-loop μ-loop
 unfolding readNumbers
 loop-holds c = (c .before .before .before .before .pre .0, c .before .before .before .before .pre .1, refl)
 
-mul-row : tie.Need-mul-row Inv-loop μ-loop
-mul-row c = search needs
-
-shared-slice-read-row : tie.Need-shared-slice-read-row Inv-loop μ-loop
-shared-slice-read-row c = search needs
-
-row-pieces-requires : tie.Need-row-pieces-requires Inv-loop μ-loop
-row-pieces-requires c κs = search needs
-
-gather-requires : tie.Need-gather-requires Inv-loop μ-loop
-gather-requires c κs = search needs
-
 -- the row of this turn
 turn : (c : tie.After-row-pieces Inv-loop μ-loop)
     → Turn (now (c .before .before .before .before .before .before .before .before .args .rows)) (now (c .before .before .before .before .before .before .before .before .args .pieces)) (c .before .before .before .loop .k) (c .before .before .before .loop .last) (min 32 (width (map pieceOf (now (c .row-pieces .result))))) (now (c .row-pieces .result))
@@ -47,18 +35,6 @@ turn c = record { inside = c .before .before .loop-test .taken; bound = c .befor
 meant-requires : tie.Need-meant-requires Inv-loop μ-loop
 meant-requires c κs =
     (row-most (turn (c .before)), row-below (turn (c .before)) (now (c .before .before .before .before .before .before .before .before .before .args .registers)) (c .gather .result) (c .gather .ensures))
-
-mul-numbers : tie.Need-mul-numbers Inv-loop μ-loop
-mul-numbers c = search needs
-
-slice-write-numbers : tie.Need-slice-write-numbers Inv-loop μ-loop
-slice-write-numbers c = search needs
-
-add-k : tie.Need-add-k Inv-loop μ-loop
-add-k c = search needs
-
-loop-less : tie.Need-loop-less Inv-loop μ-loop
-loop-less c = search needs
 
 loop-again : tie.Need-loop-again Inv-loop μ-loop
 loop-again c = (
@@ -80,19 +56,5 @@ returns c =
 pub read-numbers-spec : {M : Type 1} → statement M
 read-numbers-spec =
     tie.close
-    (tie.spec
-    Inv-loop
-    μ-loop
-    loop-holds
-    mul-row
-    shared-slice-read-row
-    row-pieces-requires
-    gather-requires
-    meant-requires
-    mul-numbers
-    slice-write-numbers
-    add-k
-    loop-less
-    loop-again
-    same-length
-    returns)
+    (tie.spec Inv-loop μ-loop loop-holds (λ c. search needs) (λ c. search needs) (λ c κs. search needs) (λ c κs. search needs)
+    meant-requires (λ c. search needs) (λ c. search needs) (λ c. search needs) (λ c. search needs) loop-again same-length returns)

@@ -22,33 +22,6 @@ abbrev μ-loop : tie.MeasureT-loop
 loop-holds : tie.Need-loop-holds Inv-loop μ-loop
 loop-holds c = (refl, c .before .before .before .before .pre, refl)
 
-mul-row : tie.Need-mul-row Inv-loop μ-loop
-mul-row c = search needs
-
-shared-slice-read-row : tie.Need-shared-slice-read-row Inv-loop μ-loop
-shared-slice-read-row c = search needs
-
-row-pieces-requires : tie.Need-row-pieces-requires Inv-loop μ-loop
-row-pieces-requires c κs = search needs
-
-mul-stored-for : tie.Need-mul-stored-for Inv-loop μ-loop
-mul-stored-for c = search needs
-
-shared-slice-read-stored-for : tie.Need-shared-slice-read-stored-for Inv-loop μ-loop
-shared-slice-read-stored-for c = search needs
-
-stored-for-requires : tie.Need-stored-for-requires Inv-loop μ-loop
-stored-for-requires c κs = search needs
-
-scatter-requires : tie.Need-scatter-requires Inv-loop μ-loop
-scatter-requires c κs = search needs
-
-add-k : tie.Need-add-k Inv-loop μ-loop
-add-k c = search needs
-
-loop-less : tie.Need-loop-less Inv-loop μ-loop
-loop-less c = search needs
-
 loop-again : tie.Need-loop-again Inv-loop μ-loop
 loop-again c = (
   c .before .before .scatter .kept .0 ∙ c .before .before .before .before .before .before .before .before .before .loop .inv .0,
@@ -69,19 +42,5 @@ returns c =
 pub write-numbers-spec : {M : Type 1} → statement M
 write-numbers-spec =
     tie.close
-    (tie.spec
-    Inv-loop
-    μ-loop
-    loop-holds
-    mul-row
-    shared-slice-read-row
-    row-pieces-requires
-    mul-stored-for
-    shared-slice-read-stored-for
-    stored-for-requires
-    scatter-requires
-    add-k
-    loop-less
-    loop-again
-    same-length
-    returns)
+    (tie.spec Inv-loop μ-loop loop-holds (λ c. search needs) (λ c. search needs) (λ c κs. search needs) (λ c. search needs)
+    (λ c. search needs) (λ c κs. search needs) (λ c κs. search needs) (λ c. search needs) (λ c. search needs) loop-again same-length returns)

@@ -11,18 +11,12 @@ use borrow.Author.Needs.{needs}
 use Rattle.access.proofs.record.Record.access.Statement.{statement}
 use Rattle.access.proofs.record.Record.access.Tie as tie
 
-is-sound-requires : tie.Need-is-sound-requires
-is-sound-requires c κs = search needs
-
 returns : tie.Need-returns
 unfolding access apply
 returns c = λ i. record { file = apply (sym (unsound-effect (c .before .before .args .whole) (c .before .before .args .self) (sym (c .before .is-sound .ensures) ∙ not-true _ (c .if1 .taken))) i) (c .before .before .args .whole); answer = sym (unsound-answer (c .before .before .args .whole) (c .before .before .args .self) (sym (c .before .is-sound .ensures) ∙ not-true _ (c .if1 .taken))) i }
 
 decide-requires : tie.Need-decide-requires
 decide-requires c κs = passes _ (sym (c .before .is-sound .ensures) ∙ not-false _ (c .if1 .left))
-
-apply-requires : tie.Need-apply-requires
-apply-requires c κs = search needs
 
 returns-2 : tie.Need-returns-2
 unfolding access decision
@@ -33,5 +27,4 @@ returns-2 c = λ i.
     }
 
 pub access-spec : {M : Type 1} → statement M
-access-spec =
-    tie.close (tie.spec is-sound-requires returns decide-requires apply-requires returns-2)
+access-spec = tie.close (tie.spec (λ c κs. search needs) returns decide-requires (λ c κs. search needs) returns-2)

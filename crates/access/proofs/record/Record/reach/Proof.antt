@@ -11,21 +11,12 @@ use borrow.Author.Needs.{needs}
 use Rattle.access.proofs.record.Record.reach.Statement.{statement}
 use Rattle.access.proofs.record.Record.reach.Tie as tie
 
-is-sound-requires : tie.Need-is-sound-requires
-is-sound-requires c κs = search needs
-
-none-requires : tie.Need-none-requires
-none-requires c κs = search needs
-
 returns : tie.Need-returns
 unfolding reach
 returns c = c .none .ensures ∙ ap reachOf (sym (unsound-effect (c .before .before .before .args .whole) (c .before .before .before .args .self) (sym (c .before .before .is-sound .ensures) ∙ not-true _ (c .before .if1 .taken))))
 
 decide-requires : tie.Need-decide-requires
 decide-requires c κs = passes _ (sym (c .before .is-sound .ensures) ∙ not-false _ (c .if1 .left))
-
-reach-requires : tie.Need-reach-requires
-reach-requires c κs = search needs
 
 returns-2 : tie.Need-returns-2
 unfolding reach decision
@@ -34,4 +25,4 @@ returns-2 c = c .reach .ensures ∙ ap (λ (d : Decision). reachOf (d .effect)) 
 pub reach-spec : {M : Type 1} → statement M
 reach-spec =
     tie.close
-    (tie.spec is-sound-requires none-requires returns decide-requires reach-requires returns-2)
+    (tie.spec (λ c κs. search needs) (λ c κs. search needs) returns decide-requires (λ c κs. search needs) returns-2)

@@ -35,9 +35,6 @@ no-value NotSound k = refl
 no-value NotBeforeRed k = refl
 no-value PlanRefused k = refl
 
-enum-known-self : tie.Need-enum-known-self
-enum-known-self c = search needs
-
 returns : tie.Need-returns
 unfolding valueOf
 returns c = search needs
@@ -47,4 +44,4 @@ unfolding others
 returns-2 c = no-value (c .before .args .self) (c .match .keys2)
 
 pub value-spec : {M : Type 1} → statement M
-value-spec = tie.close (tie.spec enum-known-self returns returns-2)
+value-spec = tie.close (tie.spec (λ c. search needs) returns returns-2)

@@ -4,12 +4,9 @@ use borrow.Author.Needs.{needs}
 use Rattle.file.proofs.effect.Reach.none.Statement.{statement}
 use Rattle.file.proofs.effect.Reach.none.Tie as tie
 
-bits-of-requires : tie.Need-bits-of-requires
-bits-of-requires c κs = search needs
-
 returns : tie.Need-returns
 unfolding reachOf
 returns c = c .bits-of .ensures
 
 pub none-spec : {M : Type 1} → statement M
-none-spec = tie.close (tie.spec bits-of-requires returns)
+none-spec = tie.close (tie.spec (λ c κs. search needs) returns)

@@ -6,12 +6,6 @@ use borrow.Author.Needs.{needs}
 use Rattle.file.proofs.palette.Pointer.after_read.Statement.{statement}
 use Rattle.file.proofs.palette.Pointer.after_read.Tie as tie
 
-risen-requires : tie.Need-risen-requires
-risen-requires c κs = search needs
-
-addressed-requires : tie.Need-addressed-requires
-addressed-requires c κs = search needs
-
 returns : tie.Need-returns
 unfolding afterRead moved
 returns c = rw (c .match .keys1)
@@ -26,5 +20,4 @@ returns-3 c = c .addressed .ensures ∙ ap (addressed _) (c .before .risen .ensu
     ∙ sym (blue-left (c .before .before .before .args .self .next) _ _ _ (c .before .before .match .rest .0 .1) (c .before .before .match .rest .1))
 
 pub after-read-spec : {M : Type 1} → statement M
-after-read-spec =
-    tie.close (tie.spec risen-requires addressed-requires returns returns-2 returns-3)
+after-read-spec = tie.close (tie.spec (λ c κs. search needs) (λ c κs. search needs) returns returns-2 returns-3)

@@ -6,15 +6,6 @@ use borrow.Author.Needs.{needs}
 use Rattle.file.proofs.palette.Pointer.palette_state.Statement.{statement}
 use Rattle.file.proofs.palette.Pointer.palette_state.Tie as tie
 
-wide-requires : tie.Need-wide-requires
-wide-requires c κs = search needs
-
-add-colour : tie.Need-add-colour
-add-colour c = search needs
-
-add-result : tie.Need-add-result
-add-result c = search needs
-
 returns : tie.Need-returns
 unfolding paletteState
 returns c = rw (c .if1 .taken, ← c .before .wide .ensures)
@@ -24,4 +15,6 @@ unfolding paletteState
 returns-2 c = rw (c .if1 .left, ← c .before .wide .ensures) (sym (zero-add _))
 
 pub palette-state-spec : {M : Type 1} → statement M
-palette-state-spec = tie.close (tie.spec wide-requires add-colour add-result returns returns-2)
+palette-state-spec =
+    tie.close
+    (tie.spec (λ c κs. search needs) (λ c. search needs) (λ c. search needs) returns returns-2)

@@ -5,12 +5,6 @@ use borrow.Author.Needs.{needs}
 use Rattle.file.proofs.registers.File.pointer_now.Statement.{statement}
 use Rattle.file.proofs.registers.File.pointer_now.Tie as tie
 
-is-sound-requires : tie.Need-is-sound-requires
-is-sound-requires c κs = search needs
-
-addressed-requires : tie.Need-addressed-requires
-addressed-requires c κs = search needs
-
 returns : tie.Need-returns
 unfolding readPointer
 returns c = rw (sym (c .before .before .is-sound .ensures) ∙ c .before .if1 .taken)
@@ -20,4 +14,4 @@ unfolding readPointer
 returns-2 c = rw (sym (c .before .before .is-sound .ensures) ∙ c .before .if1 .left, c .addressed .ensures)
 
 pub pointer-now-spec : {M : Type 1} → statement M
-pointer-now-spec = tie.close (tie.spec is-sound-requires addressed-requires returns returns-2)
+pointer-now-spec = tie.close (tie.spec (λ c κs. search needs) (λ c κs. search needs) returns returns-2)

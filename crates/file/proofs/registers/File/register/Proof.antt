@@ -7,18 +7,9 @@ use borrow.Author.Needs.{needs}
 use Rattle.file.proofs.registers.File.register.Statement.{statement}
 use Rattle.file.proofs.registers.File.register.Tie as tie
 
-is-sound-requires : tie.Need-is-sound-requires
-is-sound-requires c κs = search needs
-
 returns : tie.Need-returns
 unfolding readRegister
 returns c = rw (sym (c .before .is-sound .ensures) ∙ not-true _ (c .if1 .taken))
-
-mul-t8 : tie.Need-mul-t8
-mul-t8 c = search needs
-
-element-copy-out-t11 : tie.Need-element-copy-out-t11
-element-copy-out-t11 c = search needs
 
 returns-2 : tie.Need-returns-2
 unfolding readRegister register
@@ -30,4 +21,5 @@ returns-3 c = rw (sym (c .before .before .is-sound .ensures) ∙ not-false _ (c 
 
 pub register-spec : {M : Type 1} → statement M
 register-spec =
-    tie.close (tie.spec is-sound-requires returns mul-t8 element-copy-out-t11 returns-2 returns-3)
+    tie.close
+    (tie.spec (λ c κs. search needs) returns (λ c. search needs) (λ c. search needs) returns-2 returns-3)

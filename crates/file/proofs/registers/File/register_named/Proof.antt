@@ -6,15 +6,9 @@ use Rattle.file.specs.Readers.{readNamed, readRegister}
 use Rattle.file.proofs.registers.File.register_named.Statement.{statement}
 use Rattle.file.proofs.registers.File.register_named.Tie as tie
 
-number-named-requires : tie.Need-number-named-requires
-number-named-requires c κs = search needs
-
-register-requires : tie.Need-register-requires
-register-requires c κs = search needs
-
 returns : tie.Need-returns
 unfolding readNamed
 returns c = c .register .ensures ∙ ap (λ (n : ℕ). readRegister (c .before .before .before .args .self) n) (c .before .number-named .ensures)
 
 pub register-named-spec : {M : Type 1} → statement M
-register-named-spec = tie.close (tie.spec number-named-requires register-requires returns)
+register-named-spec = tie.close (tie.spec (λ c κs. search needs) (λ c κs. search needs) returns)

@@ -6,12 +6,6 @@ use Rattle.file.specs.Registers.{storedBits, storedTable}
 use Rattle.file.proofs.registers.File.stored_bits.Statement.{statement}
 use Rattle.file.proofs.registers.File.stored_bits.Tie as tie
 
-mul-result : tie.Need-mul-result
-mul-result c = search needs
-
-array-read-result : tie.Need-array-read-result
-array-read-result c = search needs
-
 returns : tie.Need-returns
 unfolding storedBits storedTable
 returns c = search needs
@@ -21,4 +15,4 @@ unfolding storedBits storedTable
 returns-2 c = sym (List·getD-eq-default storedTable 0 (c .if1 .left))
 
 pub stored-bits-spec : {M : Type 1} → statement M
-stored-bits-spec = tie.close (tie.spec mul-result array-read-result returns returns-2)
+stored-bits-spec = tie.close (tie.spec (λ c. search needs) (λ c. search needs) returns returns-2)

@@ -5,9 +5,6 @@ use borrow.Author.Needs.{needs}
 use Rattle.file.proofs.registers.File.toggle_now.Statement.{statement}
 use Rattle.file.proofs.registers.File.toggle_now.Tie as tie
 
-is-sound-requires : tie.Need-is-sound-requires
-is-sound-requires c κs = search needs
-
 returns : tie.Need-returns
 unfolding readToggle
 returns c = rw (sym (c .before .is-sound .ensures) ∙ c .if1 .taken)
@@ -17,4 +14,4 @@ unfolding readToggle
 returns-2 c = rw (sym (c .before .is-sound .ensures) ∙ c .if1 .left)
 
 pub toggle-now-spec : {M : Type 1} → statement M
-toggle-now-spec = tie.close (tie.spec is-sound-requires returns returns-2)
+toggle-now-spec = tie.close (tie.spec (λ c κs. search needs) returns returns-2)

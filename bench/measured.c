@@ -1,0 +1,83 @@
+/*
+ * The C side of crates/measured: runs the trace on standard input from power-on and prints nothing
+ * of it; then does one thing some hundred times with the file that it ends in. Words: `run`, or
+ * `read`, `write` (the timing) or `plan` and a digit for the hundreds.
+ */
+#include <inttypes.h>
+#include <stdio.h>
+
+#include "../reference/sedgecoil.h"
+
+enum { BYTES = 8192 };
+
+static uint64_t mix(uint64_t sum, uint64_t more)
+{
+    return (uint64_t)(uint32_t)sum * 31 + (uint32_t)more;
+}
+
+static uint64_t run_input(struct sc_file *f)
+{
+    static uint8_t trace[BYTES], replies[BYTES];
+    uint64_t sum = 0;
+    size_t length;
+
+    sc_power_on(f);
+    do {
+        length = fread(trace, 1, sizeof trace, stdin);
+        sc_run(f, trace, length, replies, sizeof replies);
+        sum = mix(sum, replies[sum % BYTES]);
+    } while (length == sizeof trace);
+    return sum;
+}
+
+static uint64_t read_many(const struct sc_file *f, unsigned times)
+{
+    struct sc_timing t;
+    uint64_t sum = 0;
+
+    for (; times > 0; times--) {
+        sc_timing_read(f, &t);
+        sum = mix(sum, t.number[SC_SCREEN_START]);
+    }
+    return mix(sum, 0);
+}
+
+static uint64_t write_many(struct sc_file *f, unsigned times)
+{
+    struct sc_timing t;
+    uint64_t sum = 0;
+
+    sc_timing_read(f, &t);
+    for (; times > 0; times--)
+        sum = mix(sum, sc_timing_write(f, &t));
+    return sum;
+}
+
+static uint64_t plan_many(const struct sc_file *f, unsigned times)
+{
+    static uint8_t buffer[SC_PLAN_BYTES];
+    uint64_t sum = 0;
+    size_t count;
+
+    for (; times > 0; times--) {
+        sc_plan(f, buffer, sizeof buffer, &count);
+        sum = mix(sum, count);
+    }
+    return mix(sum, buffer[sum % SC_PLAN_BYTES]);
+}
+
+int main(int words, char **word)
+{
+    struct sc_file f;
+    uint64_t sum = run_input(&f), done;
+    char what = words > 1 ? word[1][0] : 0;
+    unsigned times = words > 2 ? word[2][0] % 16 * 100u : 0;
+
+    switch (what) {
+    case 'w': done = write_many(&f, times); break;
+    case 'p': done = plan_many(&f, times); break;
+    default: done = read_many(&f, times);
+    }
+    printf("%" PRIu64 "\n", mix(sum, done));
+    return 0;
+}

@@ -1,0 +1,120 @@
+// For bench/run: runs the trace on standard input from power-on and prints nothing of it; then does one thing some hundred times with
+// the file that it ends in. Words: `run`, or `read`, `write` (the timing) or `plan` and a digit for the hundreds. The number that it
+// prints hangs on all that it did.
+use file::File;
+use libc::STDIN_FILENO;
+use libc::STDOUT_FILENO;
+use timing::Timing;
+use timing::read_timing;
+use timing::write_timing;
+
+// A sum that hangs on the order.
+fn mix(sum: u64, more: u64) -> u64 {
+    (sum % 0x1_0000_0000) * 31 + more % 0x1_0000_0000
+}
+
+fn wide(x: u8) -> u64 {
+    x as u64
+}
+
+// How far a run has come: the file, the sum of a reply byte of each buffer, and whether there is more to read.
+struct Course {
+    file: File,
+    sum: u64,
+    more: bool,
+}
+
+fn run_some(before: Course, trace: &mut [u8; 8192], replies: &mut [u8; 8192]) -> Course {
+    let size = io::read_full(STDIN_FILENO, trace);
+    let trace: &[u8] = trace;
+    let ran = access::run(before.file, &trace[..size], replies);
+    let at = (before.sum % 8192) as usize;
+    let file = ran.file;
+    Course {
+        file,
+        sum: mix(before.sum, wide(replies[at])),
+        more: size == 8192,
+    }
+}
+
+// A proved loop has to end, so this one counts its turns down, from a number that no run uses up.
+fn run_input() -> Course {
+    let mut trace = [0u8; 8192];
+    let mut replies = [0u8; 8192];
+    let mut course = Course {
+        file: File::power_on(),
+        sum: 0,
+        more: true,
+    };
+    let mut turns = u64::MAX;
+    while turns > 0 && course.more {
+        let next = run_some(course, &mut trace, &mut replies);
+        course = next;
+        turns -= 1;
+    }
+    course
+}
+
+fn counted(n: usize) -> u64 {
+    n as u64
+}
+
+fn placed(n: u32) -> u64 {
+    n as u64
+}
+
+// The timing read, or a plan made.
+fn look(what: u8, file: File, buffer: &mut [u8; 8192]) -> u64 {
+    if what == b'p' {
+        return counted(plan::plan(file, buffer).count);
+    }
+    placed(read_timing(file).timing.screen_start)
+}
+
+fn look_many(what: u8, file: File, times: u64) -> u64 {
+    let mut buffer = [0u8; 8192];
+    let mut sum = 0;
+    let mut left = times;
+    while left > 0 {
+        sum = mix(sum, look(what, file, &mut buffer));
+        left -= 1;
+    }
+    let at = (sum % 8192) as usize;
+    mix(sum, wide(buffer[at]))
+}
+
+fn write_many(file: File, timing: Timing, times: u64) -> u64 {
+    let mut current = file;
+    let mut sum = 0;
+    let mut left = times;
+    while left > 0 {
+        let written = write_timing(current, timing);
+        let answer = written.answer;
+        let after = written.file;
+        current = after;
+        sum = mix(sum, wide(answer.code()));
+        left -= 1;
+    }
+    sum
+}
+
+// The first byte of a word that the program was started with.
+fn letter(place: usize) -> u8 {
+    let mut word = [0u8; 16];
+    os::arg(place, &mut word);
+    word[0]
+}
+
+fn main() {
+    let course = run_input();
+    let file = course.file;
+    let what = letter(1);
+    let times = wide(letter(2)) % 16 * 100;
+    let done = if what == b'w' {
+        write_many(file, read_timing(file).timing, times)
+    } else {
+        look_many(what, file, times)
+    };
+    io::print_decimal(STDOUT_FILENO, mix(course.sum, done));
+    io::write_all(STDOUT_FILENO, b"\n");
+}

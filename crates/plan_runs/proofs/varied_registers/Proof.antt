@@ -1,0 +1,19 @@
+-- `varied_registers` is safe and ends. Assumes nothing.
+use Prim.Native.Nat.{_-_, _≤_}
+use mathlib.Core.Path.{_≡_}
+use borrow.Author.Needs.{needs}
+use lib.ListN.{length}
+use Rattle.plan_runs.proofs.varied_registers.Statement.{statement}
+use Rattle.plan_runs.proofs.varied_registers.Tie as tie
+
+abbrev Inv-loop : tie.InvT-loop
+Inv-loop registers₀ i₀ registers i = (i ≤ 100) × (length registers ≡ 100)
+
+abbrev μ-loop : tie.MeasureT-loop
+μ-loop registers₀ i₀ registers i = 100 - i
+
+pub varied-registers-spec : {M : Type 1} → statement M
+varied-registers-spec =
+    tie.close
+    (tie.spec Inv-loop μ-loop (λ c. search needs) (λ c κs. search needs) (λ c. search needs) (λ c κs. search needs) (λ c κs. search needs)
+    (λ c. search needs) (λ c. search needs) (λ c. search needs) (λ c. search needs) (λ c. search needs) (λ c. search needs))

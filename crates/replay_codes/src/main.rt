@@ -1,0 +1,4 @@
+// Replay: every code of an access, in order.
+fn main() {
+    shell::replay();
+}

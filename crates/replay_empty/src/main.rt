@@ -1,0 +1,4 @@
+// Replay: an empty trace prints the timing line alone.
+fn main() {
+    shell::replay();
+}

@@ -1,0 +1,4 @@
+// Replay: three records and a fragment of five bytes.
+fn main() {
+    shell::replay();
+}

@@ -1,0 +1,5 @@
+pub mod Bounds
+pub mod Printed
+pub mod Joined
+pub mod Timed
+pub mod Turns

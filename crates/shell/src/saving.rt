@@ -1,0 +1,35 @@
+// Snapshot: reads a trace and writes the plan of the file after it.
+use crate::course::run_input;
+use crate::telling::write_out;
+use libc::STDERR_FILENO;
+
+// A refusal in words, with its code.
+fn tell_refusal(code: u8) {
+    io::write_all(STDERR_FILENO, b"snapshot: no plan, code ");
+    io::print_decimal(STDERR_FILENO, code as u64);
+    if code == 13 {
+        io::write_all(
+            STDERR_FILENO,
+            b": the palette pointer doesn't rest before red",
+        );
+    }
+    io::write_all(STDERR_FILENO, b"\n");
+}
+
+// Runs the trace on standard input from power-on and writes the plan of the file that it ends in, as bytes, on standard output.
+pub fn snapshot() {
+    let course = run_input(b"snapshot", false);
+    if course.failed {
+        return;
+    }
+    let mut buffer = [0u8; 8192];
+    let planned = plan::plan(course.file, &mut buffer);
+    let answer = planned.answer;
+    let code = answer.code();
+    if code != 0 {
+        tell_refusal(code);
+        return;
+    }
+    let size = 8 * planned.count;
+    write_out(b"snapshot", &buffer[..size]);
+}

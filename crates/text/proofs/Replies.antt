@@ -1,0 +1,75 @@
+-- The lines of replies: one after the other, and the room for them. Assumes nothing.
+use Prim.Native.Nat.{ℕ, suc, _+_, _-_, _*_, _≤_, _<_}
+use mathlib.Core.Path.{_≡_, refl, sym, ap, ap₂, _∙_}
+use mathlib.Core.Bool.{true, false}
+use mathlib.Core.List.{List, [], _++_}
+use native.Mathlib.Nat.{add-zero, add-assoc, sub-zero}
+use native.Mathlib.Omega.{arith}
+use borrow.Author.Tests.{le-leb, lt-leb, lt-ltb, ltb-true, ltb-false}
+use lib.Dec.{leb, ltb, leb→le, ltb→lt}
+use lib.ListN.{length, getD, drop, length-append}
+use lib.Seq.{drop-drop, getD-drop}
+use Rattle.access.specs.Records.{two}
+use Rattle.bits.proofs.Test.{by-test, left, right, passes}
+use Rattle.text.specs.Text.{lineOf, linesFit, replyLines}
+
+module _ (replies : List ℕ) (from : ℕ) where
+  code-there : getD (drop from replies) 0 0 ≡ getD replies from 0
+  code-there = getD-drop from replies 0 0 ∙ ap (λ (n : ℕ). getD replies n 0) (add-zero from)
+
+  value-there : two (drop from replies) 4 ≡ two replies (from + 4)
+  unfolding two
+  value-there =
+      ap₂ (λ (x y : ℕ). x + 256 * y) (getD-drop from replies 4 0)
+      (getD-drop from replies 5 0 ∙ ap (λ (n : ℕ). getD replies n 0) (sym (add-assoc from 4 1)))
+
+  -- the value by its two bytes
+  pub value-bytes : getD replies (from + 4) 0 + 256 * getD replies (from + 5) 0 ≡ two replies (from + 4)
+  unfolding two
+  value-bytes = ap (λ (n : ℕ). getD replies (from + 4) 0 + 256 * getD replies n 0) (sym (add-assoc from 4 1))
+
+pub all-lines : (count number : ℕ) (replies : List ℕ) → replyLines (count - 0) (number + 0) (drop (8 * 0) replies) ≡ replyLines count number replies
+all-lines count number replies = rw (sub-zero, add-zero)
+
+module _ (count number : ℕ) (replies : List ℕ) (n : ℕ) (h : n < count) where
+  -- the line of the next reply, and the rest
+  pub next-line : lineOf (number + n) (getD replies (8 * n) 0) (two replies (8 * n + 4))
+      ++ replyLines (count - (n + 1)) (number + (n + 1)) (drop (8 * (n + 1)) replies)
+      ≡ replyLines (count - n) (number + n) (drop (8 * n) replies)
+  unfolding replyLines
+  next-line =
+      let less : count - n ≡ suc (count - (n + 1)) = omega arith in
+      let up : number + (n + 1) ≡ suc (number + n) = omega arith in
+      let on : 8 * (n + 1) ≡ 8 * n + 8 = omega arith in
+      rw (less, up, on, drop-drop, code-there, value-there)
+
+  pub next-line-length : length (lineOf (number + n) (getD replies (8 * n) 0) (two replies (8 * n + 4)))
+      + length (replyLines (count - (n + 1)) (number + (n + 1)) (drop (8 * (n + 1)) replies))
+      ≡ length (replyLines (count - n) (number + n) (drop (8 * n) replies))
+  next-line-length = rw (← next-line, length-append)
+
+-- behind the last reply there is no line
+pub no-line-left : (count number : ℕ) (replies : List ℕ) (n : ℕ) → count ≤ n → replyLines (count - n) number replies ≡ []
+unfolding replyLines
+no-line-left count number replies n h = let none : count - n ≡ 0 = omega arith in rw none
+
+-- numbers that a difference leaves room for
+pub numbers-left : (count number most : ℕ) → number ≤ most → leb count (most - number) ≡ ltb (number + count) (suc most)
+numbers-left count number most h =
+    by-test (ltb (number + count) (suc most))
+    (λ e. let l : number + count < suc most = ltb-true _ _ e in le-leb count (most - number) (omega arith) ∙ sym e)
+    (λ e. let l : suc most ≤ number + count = ltb-false _ _ e in lt-leb count (most - number) (omega arith) ∙ sym e)
+
+module _ (room at number count : ℕ) where
+  -- what the test says
+  pub lines-room : linesFit room at number count ≡ true → (at + 30 * count ≤ room) × (number + count < 18446744073709551616)
+  unfolding linesFit
+  lines-room e =
+      let both = passes (linesFit room at number count) e in (
+        leb→le _ _ (left (leb (at + 30 * count) room) (ltb (number + count) 18446744073709551616) both),
+        ltb→lt _ _ (right (leb (at + 30 * count) room) (ltb (number + count) 18446744073709551616) both),
+      )
+
+  pub room-lines : at + 30 * count ≤ room → number + count < 18446744073709551616 → linesFit room at number count ≡ true
+  unfolding linesFit
+  room-lines h l = rw (le-leb _ _ h, lt-ltb _ _ l)

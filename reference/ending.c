@@ -1,0 +1,94 @@
+/*
+ * What a trace on standard input ends in, from power-on: every part of the file, a line each, or
+ * with the word `plan` the bytes of a plan of it, if the pointer is before red.
+ */
+#include <stdio.h>
+#include <string.h>
+
+#include "sedgecoil.h"
+
+enum { PLACES = 1 << 12 };
+
+static bool run_input(struct sc_file *f)
+{
+    static uint8_t trace[SC_RECORD_BYTES * PLACES], replies[SC_REPLY_BYTES * PLACES];
+    size_t length;
+
+    sc_power_on(f);
+    do {
+        length = fread(trace, 1, sizeof trace, stdin);
+        sc_run(f, trace, length, replies, sizeof replies);
+    } while (length == sizeof trace);
+    return !ferror(stdin);
+}
+
+static void print(const char *name, unsigned value)
+{
+    printf("%s %04X\n", name, value);
+}
+
+static void print_group(const char *name, const uint8_t *value, unsigned count)
+{
+    for (unsigned i = 0; i < count; i++)
+        printf("%s%X %02X\n", name, i, value[i]);
+}
+
+static void print_entries(const char *name, const uint8_t (*entry)[SC_COLOURS], unsigned count)
+{
+    for (unsigned i = 0; i < count; i++)
+        printf("%s %u: %02X %02X %02X\n", name, i, entry[i][0], entry[i][1], entry[i][2]);
+}
+
+/* The next colour stands first: a plan hangs on it. */
+static void print_file(const struct sc_file *f)
+{
+    static const char *const pipe[SC_PIPES] = {
+        "B0", "B8", "BC", "C0", "CC", "CE", "D0", "D2", "D4", "D5", "E0", "E2", "E4", "E6", "E8",
+    };
+    const struct sc_pointer *p = &f->pointer;
+
+    printf("next %u\nheld %02X %02X\n", p->colour, p->held[0], p->held[1]);
+    printf("address %02X\nmode %s\n", p->address, p->reading ? "read" : "write");
+    printf("toggle %s\n", f->data_next ? "data" : "index");
+    print("PCI04", f->pci04);
+    print("MISC", f->misc);
+    print("SRX", f->srx);
+    print("CRX", f->crx);
+    print("GRX", f->grx);
+    print("ARX", f->arx);
+    print("pixel mask", f->pixel_mask);
+    for (unsigned i = 0; i < SC_PIPES; i++)
+        print(pipe[i], f->pipe[i]);
+    print_group("SR", f->sr, SC_SRS);
+    print_group("CR", f->cr, SC_CRS);
+    print_group("GR", f->gr, SC_GRS);
+    print_group("AR", f->ar, SC_ARS);
+    print_entries("palette", f->palette, SC_PALETTE_ENTRIES);
+    print_entries("bank", f->bank, SC_BANK_ENTRIES);
+}
+
+static bool write_plan(const struct sc_file *f)
+{
+    uint8_t buffer[SC_PLAN_BYTES];
+    size_t count;
+    uint8_t code = sc_plan(f, buffer, sizeof buffer, &count);
+
+    if (code != SC_DONE)
+        fprintf(stderr, "no plan: code %u\n", code);
+    return fwrite(buffer, SC_RECORD_BYTES, count, stdout) == count;
+}
+
+int main(int words, char **word)
+{
+    struct sc_file f;
+    bool good = run_input(&f);
+
+    if (words > 1 && strcmp(word[1], "plan") == 0)
+        good = write_plan(&f) && good;
+    else
+        print_file(&f);
+    if (good && fflush(stdout) == 0)
+        return 0;
+    perror("ending");
+    return 1;
+}
