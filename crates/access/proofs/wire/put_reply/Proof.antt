@@ -37,7 +37,7 @@ returns c =
 pub put-reply-spec : {M : Type 1} → statement M
 put-reply-spec =
     tie.close
-    (tie.spec (λ c. search needs) (λ c. search needs) slice-write-replies-2 (λ c. search needs) (λ c. search needs)
-    slice-write-replies-3 (λ c. search needs) (λ c. search needs) slice-write-replies-4 (λ c. search needs) (λ c. search needs)
-    slice-write-replies-5 (λ c. search needs) (λ c. search needs) slice-write-replies-6 (λ c. search needs) slice-write-replies-7
-    (λ c. search needs) slice-write-replies-8 (λ c. search needs) returns)
+    (tie.spec (λ c. search needs) (λ c. search needs) slice-write-replies-2 (λ c. search needs) (λ c. search needs) slice-write-replies-3
+    (λ c. search needs) (λ c. search needs) slice-write-replies-4 (λ c. search needs) (λ c. search needs) slice-write-replies-5
+    (λ c. search needs) (λ c. search needs) slice-write-replies-6 (λ c. search needs) slice-write-replies-7 (λ c. search needs)
+    slice-write-replies-8 (λ c. search needs) returns)
