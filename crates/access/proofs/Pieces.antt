@@ -30,10 +30,10 @@ items-parted (suc m) n trace =
     eight : 8 + 8 * m ≡ 8 * suc m
     eight = omega arith
 
-file-parted : (f : File) (is js : List Item) → fileAfter f (is ++ js) ≡ fileAfter (fileAfter f is) js
+pub file-in-parts : (f : File) (is js : List Item) → fileAfter f (is ++ js) ≡ fileAfter (fileAfter f is) js
 unfolding fileAfter
-file-parted f [] js = refl
-file-parted f (i ∷ is) js = file-parted (accessItem f i .file) is js
+file-in-parts f [] js = refl
+file-in-parts f (i ∷ is) js = file-in-parts (accessItem f i .file) is js
 
 replies-parted : (f : File) (is js : List Item) → replies f (is ++ js) ≡ replies f is ++ replies (fileAfter f is) js
 unfolding fileAfter replies
@@ -55,7 +55,7 @@ module _ (f : File) (trace first second : List ℕ) where
       × (replies f (items m trace) ++ replies (fileAfter f (items m trace)) (items n (drop (8 * m) trace)) ≡ replies f (items (m + n) trace))
   both m n =
       let parted = sym (items-parted m n trace) in (
-        sym (file-parted f (items m trace) (items n (drop (8 * m) trace))) ∙ ap (fileAfter f) parted,
+        sym (file-in-parts f (items m trace) (items n (drop (8 * m) trace))) ∙ ap (fileAfter f) parted,
         sym (replies-parted f (items m trace) (items n (drop (8 * m) trace))) ∙ ap (replies f) parted,
       )
 

@@ -76,6 +76,11 @@ unfolding afterMany
 many-after trace left at count n e h =
     ap (λ (k : ℕ). at + k) (h ∙ ap (λ (l : List ℕ). min (8 * count) (length l)) e ∙ sym (length-take (8 * count) (drop at trace)))
 
+-- that is 8 bytes for each, cut at the trace's end
+pub after-min : (trace : List ℕ) (at count : ℕ) → at ≤ length trace → afterMany count trace at ≡ min (at + 8 * count) (length trace)
+unfolding afterMany
+after-min trace at count h = omega (arith, h, length-take (8 * count) (drop at trace), length-drop at trace)
+
 -- what is left past the first so many, however few there are
 drop-taken : {A : Type 0} (n : ℕ) (xs : List A) → drop (length (take n xs)) xs ≡ drop n xs
 drop-taken zero xs = refl

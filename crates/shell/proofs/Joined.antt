@@ -11,7 +11,8 @@ use Rattle.file.specs.File.{powerOn}
 use Rattle.access.specs.Records.{items, itemCount}
 use Rattle.access.specs.Run.{fileAfter}
 use Rattle.text.specs.Text.{recordLines, replayed, replayedFrom}
-use Rattle.text.proofs.Pieces.{file-in-parts, replayed-in-pieces, trace-cut}
+use Rattle.access.proofs.Pieces.{file-in-parts}
+use Rattle.text.proofs.Pieces.{replayed-in-pieces, trace-cut}
 use Rattle.shell.specs.Parts.{afterPart, inParts, joined, partLines, wholeButLast}
 
 module _ (part rest : List ℕ) (whole : length part % 8 ≡ 0) where

@@ -10,6 +10,7 @@ use Rattle.access.specs.declared.record.Item.{Item}
 use Rattle.access.specs.Access.{accessItem, replyTo}
 use Rattle.access.specs.Records.{itemCount, itemOf, items, replyBytes, two}
 use Rattle.access.specs.Run.{fileAfter, replies}
+use Rattle.access.proofs.Pieces.{file-in-parts}
 use Rattle.access.proofs.Runs.{items-length}
 use Rattle.file.specs.declared.registers.File.{File}
 use Rattle.file.specs.Answers.{codeOf, valueOf}
@@ -36,7 +37,7 @@ lines-of-run n number f trace rest =
     ap (λ (count : ℕ). replyLines count number (replies f (items n trace) ++ rest)) (sym (items-length n trace))
     ∙ lines-of-replies number f (items n trace) rest
 
--- items in two parts: their lines, and the file that they leave
+-- items in two parts
 pub lines-in-parts : (number : ℕ) (f : File) (a b : List Item)
     → recordLines number f (a ++ b) ≡ recordLines number f a ++ recordLines (number + length a) (fileAfter f a) b
 unfolding recordLines fileAfter
@@ -45,11 +46,6 @@ lines-in-parts number f (i ∷ a) b =
     ap (λ (lines : List ℕ). recordLine number (accessItem f i .answer) ++ lines)
     (lines-in-parts (suc number) (accessItem f i .file) a b ∙ rw (suc-add, add-suc))
     ∙ sym (append-assoc (recordLine number (accessItem f i .answer)) (recordLines (suc number) (accessItem f i .file) a) _)
-
-pub file-in-parts : (f : File) (a b : List Item) → fileAfter f (a ++ b) ≡ fileAfter (fileAfter f a) b
-unfolding fileAfter
-file-in-parts f [] b = refl
-file-in-parts f (i ∷ a) b = file-in-parts (accessItem f i .file) a b
 
 -- a trace cut behind so many whole records
 items-cut : (n m : ℕ) (a b : List ℕ) → length a ≡ 8 * n → items (n + m) (a ++ b) ≡ items n a ++ items m b
