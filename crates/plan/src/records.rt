@@ -11,8 +11,16 @@ ghost use Rattle.plan.specs.Written.{nothing, recordAt, coloursIn};
 use crate::rows::held;
 use crate::rows::register_at;
 use access::Record;
+use file::ARX;
+use file::B0;
+use file::CR11;
+use file::CRX;
 use file::Colour;
 use file::File;
+use file::GRX;
+use file::MISC;
+use file::PCI04;
+use file::SRX;
 
 fn config_write(address: u16, value: u32) -> Record
     ensures { λ r. ⌜ r ≡ record { kind = 1; width = 2; address = address; value = value } ⌝ }
@@ -77,7 +85,7 @@ fn opening_at(wanted: File, k: usize) -> Record
     ensures { λ r. ⌜ r ≡ getD (opening wanted) k nothing ⌝ }
 {
     let registers = wanted.registers;
-    let misc = held(registers, 0);
+    let misc = held(registers, MISC);
     let stage = [
         config_write(0x04, 3),
         mmio_write(0x44, 0),
@@ -129,12 +137,12 @@ fn index_at(wanted: File, k: usize) -> Record
     ensures { λ r. ⌜ r ≡ getD (indices wanted) k nothing ⌝ }
 {
     let registers = wanted.registers;
-    let misc = held(registers, 0);
+    let misc = held(registers, MISC);
     let stage = [
-        port_write(0x3C4, held(registers, 1)),
-        port_write(0x3CE, held(registers, 3)),
-        port_write(by_half(misc, 0x3B4, 0x3D4), held(registers, 2)),
-        port_write(0x3C0, held(registers, 4)),
+        port_write(0x3C4, held(registers, SRX)),
+        port_write(0x3CE, held(registers, GRX)),
+        port_write(by_half(misc, 0x3B4, 0x3D4), held(registers, CRX)),
+        port_write(0x3C0, held(registers, ARX)),
         toggle_read(wanted.toggle, misc),
     ];
     stage[k]
@@ -160,9 +168,9 @@ fn closing_at(wanted: File, k: usize) -> Record
     let pointer = wanted.pointer;
     let stage = [
         pointer_write(pointer.reading, pointer.address),
-        mmio_write(0xB0, held(registers, 85)),
-        mmio_write(0x44, held(registers, 42)),
-        config_write(0x04, held(registers, 6)),
+        mmio_write(0xB0, held(registers, B0)),
+        mmio_write(0x44, held(registers, CR11)),
+        config_write(0x04, held(registers, PCI04)),
     ];
     stage[k]
 }
