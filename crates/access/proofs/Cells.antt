@@ -1,6 +1,6 @@
 -- The cells say what the list of places says. What depends on the list is computed, once for the direct rows and once for the indexed ports.
 -- Assumes nothing.
-use Prim.Native.Nat.{ℕ, zero, suc, _+_, _-_, _*_, _%_, _≤_, _<_}
+use Prim.Native.Nat.{ℕ, zero, suc, _+_, _-_, _%_, _≤_, _<_}
 use mathlib.Core.Path.{_≡_, refl, sym, ap, ap₂, _∙_, subst, subst₂, subst₃}
 use mathlib.Core.Bool.{Bool, true, false, cond, true≢false, not, _&&_, _||_}
 use mathlib.Core.List.{List, [], _∷_}

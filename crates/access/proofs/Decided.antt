@@ -1,15 +1,15 @@
 -- From the engine's parts to 01's answer and effect, for every sound file with those parts. Assumes nothing.
-use Prim.Native.Nat.{ℕ, zero, suc, _-_, _%_, _≤_, _<_, _^_}
+use Prim.Native.Nat.{ℕ, zero, suc, _-_, _%_, _<_, _^_}
 use mathlib.Core.Path.{_≡_, refl, sym, ap, ap₂, _∙_, subst, subst₂}
 use mathlib.Core.Bool.{Bool, true, false, cond, true≢false, not, _&&_, _||_}
 use mathlib.Core.List.{List, [], _∷_}
 use mathlib.Core.Logic.{_⊎_, inl, inr, ⊎-elim}
 use native.Mathlib.Omega.{arith}
-use borrow.Author.Tests.{eqb-true, eqb-false, ltb-false, leb-false, not-false, lt-ltb, le-ltb, leb-true}
-use lib.Dec.{T, eqb, leb, ltb, lt→ltb, ltb→lt}
+use borrow.Author.Tests.{eqb-true, eqb-false, leb-false}
+use lib.Dec.{T, eqb, leb, ltb, lt→ltb}
 use lib.ListN.{getD}
 use Rattle.bits.specs.Store.{bits}
-use Rattle.bits.proofs.Test.{left, right, both, either, by-test, passes, is-true, chosen, or-left, or-right}
+use Rattle.bits.proofs.Test.{left, right, both, either, by-test, passes, is-true, chosen, or-right}
 use Rattle.file.specs.declared.answer.Answer.{Answer}
 use Rattle.file.specs.declared.answer.Answer.the-variants.{Malformed, SpaceOff, NotHeld, OtherHalf, WrongWidth}
 use Rattle.file.specs.declared.effect.Effect.{Effect}
@@ -29,11 +29,11 @@ use Rattle.access.specs.declared.place.Place.the-variants.{Register, Att
 use Rattle.access.specs.declared.record.Record.{Record}
 use Rattle.access.specs.Access.{lockedOut, paletteUp, reachIn, inBank, entryNumber, pixelWrite, answerAt, writeAt, readAt, effectAt, answer, effect}
 use Rattle.access.specs.Cells.{alone, plainPlace, cellAt, cellWidth, asAttribute, attributePlace, seen, indexedPlaces, cellPlace}
-use Rattle.access.specs.Checks.{isWrite, isPort, isMmio, isOneOf, malformed, spaceOff, otherHalf, wrongWidth}
+use Rattle.access.specs.Checks.{isWrite, malformed, spaceOff, otherHalf}
 use Rattle.access.specs.Looked.{lookedAt, inFile, holds, Shows, atPixels, Decides, decision}
-use Rattle.access.specs.Lookup.{attributeIndex, fits, rowOf, placeIn, placeOf}
+use Rattle.access.specs.Lookup.{attributeIndex, fits, placeIn, placeOf}
 use Rattle.access.specs.Places.{Row, places, each, attributePorts, generalPorts, crtcPorts, pipelinePlace, mmioPlaces, pciPlaces}
-use Rattle.access.proofs.Cells.{Outcome, nothing, held, outcome, spoken, Indexed, decider, count, cell-names, samePlace, alone-unstored}
+use Rattle.access.proofs.Cells.{Outcome, nothing, held, outcome, spoken, Indexed, decider, count, cell-names, alone-unstored}
 use Rattle.access.proofs.Looks.{kind-below, settled, in-order}
 use Rattle.access.proofs.Rows.{every, Passes, row-passes, place-passes}
 use Rattle.access.proofs.Sane.{refusal-does-nothing}

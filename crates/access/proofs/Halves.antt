@@ -2,8 +2,7 @@
 use Prim.Native.Nat.{ℕ, _/_, _<_}
 use mathlib.Core.Path.{_≡_, refl, sym, ap, _∙_, subst}
 use mathlib.Core.Bool.{Bool, true, false, not, true≢false, _&&_, _||_}
-use mathlib.Core.List.{List, [], _∷_}
-use mathlib.Core.Option.{Option, none, some}
+use mathlib.Core.List.{[], _∷_}
 use lib.Dec.{T, eqb}
 use Rattle.bits.proofs.Test.{left, right, either, is-true}
 use Rattle.file.specs.declared.registers.File.{File}
@@ -11,7 +10,7 @@ use Rattle.file.specs.Registers.{sequencer, crtc, graphics, attribute, pipeline
 use Rattle.access.specs.declared.record.Record.{Record}
 use Rattle.access.specs.Cells.{cellAt}
 use Rattle.access.specs.Checks.{isOneOf}
-use Rattle.access.specs.Lookup.{fits, rowOf}
+use Rattle.access.specs.Lookup.{fits}
 use Rattle.access.specs.Places.{Row, places, each, attributePorts, generalPorts, crtcPorts, pipelinePlace, mmioPlaces, pciPlaces}
 use Rattle.access.proofs.Cells.{Outcome, nothing, held, outcome}
 use Rattle.access.proofs.Rows.{every, Passes, row-passes}

@@ -20,7 +20,7 @@ use Rattle.file.proofs.Soundness.{sound-count}
 use Rattle.access.specs.declared.place.Place.{Place}
 use Rattle.access.specs.declared.place.Place.the-variants.{Register, Attribute, Fixed, ToggleState, AttributeIndex, PaletteState, ReadAddress, WriteAddress, PixelData, ToggleReset, NoRegister, NoAttribute}
 use Rattle.access.specs.declared.record.Record.{Record}
-use Rattle.access.specs.Access.{reachIn, inBank, entryNumber, pixelWrite, writeAt, readAt, effect, reach, access}
+use Rattle.access.specs.Access.{reachIn, inBank, entryNumber, pixelWrite, writeAt, readAt, reach, access}
 use Rattle.access.specs.Looked.{inFile}
 use Rattle.access.specs.Lookup.{placeOf}
 use Rattle.access.proofs.Parted.{place-in-file}

@@ -2,16 +2,14 @@
 -- Assumes nothing.
 use Prim.Native.Nat.{ℕ, zero, suc, _≤_, _<_, _/_}
 use mathlib.Core.Path.{_≡_, refl, sym, ap, _∙_, subst}
-use mathlib.Core.Bool.{Bool, true, false, cond, true≢false, not, _&&_, _||_}
+use mathlib.Core.Bool.{Bool, true, false, cond, true≢false, not, _&&_}
 use native.Mathlib.Omega.{arith}
 use borrow.Author.Tests.{leb-true, leb-false, le-leb, lt-leb}
 use lib.Dec.{T, leb, le→leb, T-not, lit<}
 use Rattle.bits.specs.Store.{bit}
 use Rattle.bits.proofs.Bit.{bit-suc, bit-of-zero}
 use Rattle.bits.proofs.Test.{both, by-test, is-true}
-use Rattle.file.specs.declared.answer.Answer.{Answer}
 use Rattle.file.specs.declared.answer.Answer.the-variants.{Done, Locked}
-use Rattle.file.specs.declared.effect.Effect.{Effect}
 use Rattle.file.specs.declared.effect.Effect.the-variants.{Store}
 use Rattle.file.specs.declared.registers.File.{File}
 use Rattle.file.specs.Answers.{codeOf, refused}
@@ -20,7 +18,6 @@ use Rattle.file.specs.File.{register, crtcLocked}
 use Rattle.file.specs.Names.{PCI04, CR0, CR6, CR7}
 use Rattle.file.specs.Sound.{sound}
 use Rattle.file.specs.Registers.{sequencer, crtc, graphics, attribute, pipeline}
-use Rattle.access.specs.declared.access.Accessed.{Accessed}
 use Rattle.access.specs.declared.place.Place.{Place}
 use Rattle.access.specs.declared.place.Place.the-variants.{Register, Attribute, Fixed, ToggleState, AttributeIndex, PaletteState, ReadAddress, WriteAddress, PixelData, ToggleReset, NoRegister, NoAttribute}
 use Rattle.access.specs.declared.record.Record.{Record}

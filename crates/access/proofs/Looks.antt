@@ -1,7 +1,7 @@
 -- The engine's way through the checks is 01's order, for a sound file. Assumes nothing.
-use Prim.Native.Nat.{ℕ, _<_, _%_}
-use mathlib.Core.Path.{_≡_, refl, sym, ap, _∙_}
-use mathlib.Core.Bool.{Bool, true, false, cond, true≢false, not, _&&_, _||_}
+use Prim.Native.Nat.{_<_}
+use mathlib.Core.Path.{_≡_}
+use mathlib.Core.Bool.{false, not}
 use native.Mathlib.Omega.{arith}
 use borrow.Author.Tests.{ltb-false, eqb-false}
 use lib.Dec.{T, eqb, ltb}
@@ -13,7 +13,7 @@ use Rattle.access.specs.declared.engine.Looked.{Looked}
 use Rattle.access.specs.declared.engine.Looked.the-variants.{Refused, At}
 use Rattle.access.specs.declared.record.Record.{Record}
 use Rattle.access.specs.Cells.{cellAt, cellWidth}
-use Rattle.access.specs.Checks.{Check, checks, firstRefusal, notSound, malformed, spaceOff, notHeld, otherHalf, wrongWidth}
+use Rattle.access.specs.Checks.{checks, firstRefusal, notSound, malformed, spaceOff, otherHalf}
 use Rattle.access.specs.Looked.{lookedAt}
 use Rattle.access.proofs.Cells.{not-held, wrong-width}
 

@@ -1,9 +1,9 @@
 -- The parts of a file put back after an effect give the file that the effect leaves, if it lands; and every access lands. Assumes nothing.
-use Prim.Native.Nat.{ℕ, zero, suc, _%_, _<_}
+use Prim.Native.Nat.{ℕ, _%_, _<_}
 use mathlib.Core.Path.{_≡_, refl, sym, ap, _∙_, subst}
 use mathlib.Core.Bool.{Bool, true, false, cond, not}
-use mathlib.Core.List.{List, [], _∷_}
-use lib.Dec.{T, eqb, ltb, eqb→eq, eqb-refl, ltb→lt}
+use mathlib.Core.List.{List}
+use lib.Dec.{T, ltb, eqb→eq, eqb-refl, ltb→lt}
 use lib.ListN.{getD, set}
 use Rattle.bits.specs.Store.{store}
 use Rattle.bits.proofs.Test.{by-test}
@@ -13,14 +13,13 @@ use Rattle.file.specs.declared.palette.Colour.{Colour}
 use Rattle.file.specs.declared.palette.Pointer.{Pointer}
 use Rattle.file.specs.declared.registers.File.{File}
 use Rattle.file.specs.Effects.{apply, storeIn, paintIn}
-use Rattle.file.specs.File.{register, black, withRegisters, withPalette, withBank, withPointer, withToggle}
+use Rattle.file.specs.File.{register, withRegisters, withPalette, withBank, withPointer, withToggle}
 use Rattle.file.specs.Palette.{stores}
 use Rattle.access.specs.declared.place.Place.{Place}
 use Rattle.access.specs.declared.place.Place.the-variants.{Register, Attribute, Fixed, ToggleState, AttributeIndex, PaletteState, ReadAddress, WriteAddress, PixelData, ToggleReset, NoRegister, NoAttribute}
 use Rattle.access.specs.declared.record.Record.{Record}
 use Rattle.access.specs.declared.running.Served.{Served}
 use Rattle.access.specs.Access.{inBank, entryNumber, entry, pixelWrite, writeAt, readAt, effect}
-use Rattle.access.specs.Cells.{seen}
 use Rattle.access.specs.Looked.{inFile}
 use Rattle.access.specs.Lookup.{placeOf}
 use Rattle.access.specs.Places.{places, each, attributePorts, generalPorts, crtcPorts, pipelinePlace, mmioPlaces, pciPlaces}

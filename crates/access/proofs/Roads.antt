@@ -3,7 +3,7 @@
 use Prim.Native.Nat.{ℕ, _≤_, _/_}
 use mathlib.Core.Path.{_≡_, refl, subst}
 use mathlib.Core.Bool.{Bool, true, false, not, _&&_, _||_}
-use mathlib.Core.List.{List, [], _∷_}
+use mathlib.Core.List.{[], _∷_}
 use lib.Dec.{T, eqb, leb, le→leb, T-not}
 use borrow.Author.Tests.{not-true}
 use Rattle.bits.proofs.Test.{both, either, second, is-true}
@@ -13,10 +13,9 @@ use Rattle.file.specs.Effects.{reachOf}
 use Rattle.file.specs.File.{register}
 use Rattle.file.specs.Names.{SRX, ARX}
 use Rattle.file.specs.Registers.{sequencer, crtc, graphics, attribute, pipeline}
-use Rattle.access.specs.declared.access.Accessed.{Accessed}
 use Rattle.access.specs.declared.place.Place.{Place}
 use Rattle.access.specs.declared.record.Record.{Record}
-use Rattle.access.specs.Access.{access, effect, reach}
+use Rattle.access.specs.Access.{access, reach}
 use Rattle.access.specs.Checks.{isMmio, isOneOf}
 use Rattle.access.specs.Lookup.{placeOf}
 use Rattle.access.specs.Places.{places, each, attributePorts, generalPorts, crtcPorts, pipelinePlace, mmioPlaces, pciPlaces}

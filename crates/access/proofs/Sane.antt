@@ -7,23 +7,22 @@ use mathlib.Core.List.{List, [], _∷_}
 use lib.Dec.{T, eqb, leb, eqb→eq}
 use Rattle.bits.specs.Store.{within, store}
 use Rattle.bits.proofs.Stored.{within-self}
-use Rattle.bits.proofs.Test.{left, right, both, chosen, chosen-by, passes, is-true, by-test}
+use Rattle.bits.proofs.Test.{left, right, chosen, chosen-by, passes, is-true, by-test}
 use Rattle.file.specs.declared.answer.Answer.{Answer}
-use Rattle.file.specs.declared.answer.Answer.the-variants.{Done, NoRegister, Malformed, SpaceOff, NotHeld, OtherHalf, WrongWidth, ReadOnly, Locked, PaletteDown, NotSound}
+use Rattle.file.specs.declared.answer.Answer.the-variants.{Done, ReadOnly, Locked, PaletteDown, NotSound}
 use Rattle.file.specs.declared.effect.Effect.{Effect}
-use Rattle.file.specs.declared.effect.Effect.the-variants.{Nothing, Store, StoreAndFlip, Toggle, Move, Paint}
+use Rattle.file.specs.declared.effect.Effect.the-variants.{Nothing, Toggle, Move, Paint}
 use Rattle.file.specs.declared.registers.File.{File}
 use Rattle.file.specs.Answers.{codeOf, refused}
 use Rattle.file.specs.Effects.{apply}
 use Rattle.file.specs.File.{register, crtcLocked}
 use Rattle.file.specs.Names.{ARX, CR7, B0}
-use Rattle.file.specs.Palette.{component, addressed, afterWrite, afterRead, stores, mixed, dacState, paletteState}
+use Rattle.file.specs.Palette.{component, afterWrite, afterRead, stores, mixed, dacState, paletteState}
 use Rattle.file.specs.Reached.{SameOutside}
 use Rattle.file.specs.Registers.{storedBits, storedTable, registers, singles, sequencer, crtc, graphics, attribute, pipeline}
 use Rattle.file.specs.Sound.{sound}
 use Rattle.file.proofs.Reached.{same-outside}
 use Rattle.file.proofs.Soundness.{keeps, apply-sound, addressed-sound, afterWrite-sound, afterRead-sound, pointer-sound}
-use Rattle.access.specs.declared.access.Accessed.{Accessed}
 use Rattle.access.specs.declared.place.Place.{Place}
 use Rattle.access.specs.declared.place.Place.the-variants.{Register, Attribute, Fixed, ToggleState, AttributeIndex, PaletteState, ReadAddress, WriteAddress, PixelData, ToggleReset, NoRegister as NoRegisterThere, NoAttribute}
 use Rattle.access.specs.declared.record.Record.{Record}

@@ -1,6 +1,6 @@
 -- Pixel data read in a file of which parts are given; the entry that a pointer names. Assumes nothing.
 use Prim.Native.Nat.{ℕ, _%_, _<_}
-use mathlib.Core.Path.{_≡_, sym, ap, _∙_}
+use mathlib.Core.Path.{_≡_, ap, _∙_}
 use mathlib.Core.Bool.{Bool, true, false, cond}
 use mathlib.Core.List.{List}
 use lib.Dec.{eqb}
@@ -10,7 +10,6 @@ use Rattle.bits.proofs.Lists.{any-default}
 use Rattle.bits.proofs.Test.{by-test}
 use Rattle.file.specs.declared.answer.Answer.the-variants.{Done}
 use Rattle.file.specs.declared.palette.Colour.{Colour}
-use Rattle.file.specs.declared.palette.Pointer.{Pointer}
 use Rattle.file.specs.declared.registers.File.{File}
 use Rattle.file.specs.File.{register, withRegisters, withToggle, black}
 use Rattle.file.specs.Names.{B0}

@@ -14,7 +14,6 @@ use Rattle.file.specs.Effects.{reachOf}
 use Rattle.file.specs.File.{register}
 use Rattle.file.specs.Names.{B0}
 use Rattle.file.specs.Palette.{stores}
-use Rattle.access.specs.declared.access.Accessed.{Accessed}
 use Rattle.access.specs.declared.place.Place.{Place}
 use Rattle.access.specs.declared.place.Place.the-variants.{Register, Attribute, Fixed, ToggleState, AttributeIndex, PaletteState, ReadAddress, WriteAddress, PixelData, ToggleReset, NoRegister, NoAttribute}
 use Rattle.access.specs.declared.record.Record.{Record}

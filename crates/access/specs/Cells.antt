@@ -1,9 +1,9 @@
 -- The engine's cells: a number for what a kind and an address name, read off the list of places, and for what an index names behind an indexed port.
 -- Assumes nothing.
 use Prim.Native.Nat.{ℕ, zero, suc, _+_, _-_, _*_}
-use mathlib.Core.Bool.{Bool, true, false, cond, _&&_}
+use mathlib.Core.Bool.{Bool, false, cond}
 use mathlib.Core.List.{List, [], _∷_}
-use lib.Dec.{eqb, leb, ltb}
+use lib.Dec.{eqb, ltb}
 use lib.ListN.{getD}
 use Rattle.file.specs.declared.registers.File.{File}
 use Rattle.file.specs.File.{register, withRegisters, withToggle, powerOn}

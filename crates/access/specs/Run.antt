@@ -1,14 +1,13 @@
 -- 01, 'A run over a lent trace fills whole 8-byte places of a reply buffer until records or places end.'
 -- Assumes nothing.
 use Prim.Native.Nat.{ℕ, _*_, _/_, min}
-use mathlib.Core.Bool.{Bool, cond}
+use mathlib.Core.Bool.{cond}
 use mathlib.Core.List.{List, [], _∷_, _++_}
 use lib.ListN.{length, take, drop}
 use Rattle.file.specs.declared.answer.Answer.{Answer}
 use Rattle.file.specs.declared.answer.Answer.the-variants.{Done, NotSound}
 use Rattle.file.specs.declared.registers.File.{File}
 use Rattle.file.specs.Sound.{sound}
-use Rattle.access.specs.declared.access.Accessed.{Accessed}
 use Rattle.access.specs.declared.record.Item.{Item}
 use Rattle.access.specs.Access.{accessItem, recordIn, replyTo}
 use Rattle.access.specs.Records.{items, itemCount, replyBytes}

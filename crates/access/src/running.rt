@@ -21,10 +21,9 @@ ghost use Rattle.access.specs.Cells.{cellTable};
 use crate::decode;
 use crate::engine;
 use crate::record::Record;
-use crate::wire::byte_at;
 use crate::wire::put_reply;
 use crate::wire::record_at;
-use crate::wire::two;
+use crate::wire::record_of;
 use file::Answer;
 use file::Colour;
 use file::Effect;
@@ -202,14 +201,7 @@ fn run_whole(whole: File, trace: &[u8], replies: &mut [u8], count: usize) -> Fil
         }
         let before = unpainted(pointer, toggle);
         let after = serve(&cells, &stored, &mut registers, before, shown, asked);
-        put_reply(
-            replies,
-            8 * n,
-            asked.kind,
-            asked.address,
-            after.code,
-            after.value,
-        );
+        put_reply(replies, 8 * n, asked, after.code, after.value);
         let colour = after.colour;
         if after.palette {
             palette[at] = colour;
@@ -236,9 +228,8 @@ fn put_fragment(trace: &[u8], replies: &mut [u8], at: usize)
     requires { ⌜ at + 8 ≤ length (now replies) ⌝ }
     ensures { λ _. ⌜ now (replies .exit) ≡ take at (now (replies .entry)) ++ replyBytes (replyTo (recordOf (take 8 (drop at (now (trace .entry))))) MalformedAnswer) ++ drop (at + 8) (now (replies .entry)) ⌝ }
 {
-    let low = byte_at(trace, at + 2);
-    let high = byte_at(trace, at + 3);
-    put_reply(replies, at, trace[at], two(low, high), 2, 0);
+    let left = &trace[at..];
+    put_reply(replies, at, record_of(left), 2, 0);
 }
 
 // A run from a sound file.

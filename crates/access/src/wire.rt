@@ -102,15 +102,15 @@ pub fn reply_bytes(reply: Reply) -> [u8; 8]
     ]
 }
 
-// The same, from a place of a buffer on.
-pub fn put_reply(replies: &mut [u8], at: usize, kind: u8, address: u16, code: u8, value: u16)
+// The reply to a record, from a place of a buffer on.
+pub fn put_reply(replies: &mut [u8], at: usize, asked: Record, code: u8, value: u16)
     requires { ⌜ at + 8 ≤ length (now replies) ⌝ }
-    ensures { λ _. ⌜ now (replies .exit) ≡ take at (now (replies .entry)) ++ replyBytes (record { code = code; kind = kind; address = address; value = value }) ++ drop (at + 8) (now (replies .entry)) ⌝ }
+    ensures { λ _. ⌜ now (replies .exit) ≡ take at (now (replies .entry)) ++ replyBytes (record { code = code; kind = asked .kind; address = asked .address; value = value }) ++ drop (at + 8) (now (replies .entry)) ⌝ }
 {
     replies[at] = code;
-    replies[at + 1] = kind;
-    replies[at + 2] = (address % 256) as u8;
-    replies[at + 3] = (address / 256) as u8;
+    replies[at + 1] = asked.kind;
+    replies[at + 2] = (asked.address % 256) as u8;
+    replies[at + 3] = (asked.address / 256) as u8;
     replies[at + 4] = (value % 256) as u8;
     replies[at + 5] = (value / 256) as u8;
     replies[at + 6] = 0;

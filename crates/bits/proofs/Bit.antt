@@ -1,10 +1,9 @@
 -- The bits of a number: what `bitAnd` and `bitXor` do to each, and that a number is known by its bits.
 -- Assumes nothing.
-use mathlib.Core.Path.{_≡_, refl, sym, ap, ap₂, _∙_, subst}
+use mathlib.Core.Path.{_≡_, refl, sym, ap, ap₂, _∙_}
 use Prim.Native.Nat.{ℕ, zero, suc, _+_, _*_, _/_, _%_, _^_, _<_, min}
 use native.Mathlib.Nat.{mod-lt, div-one, div-add-mod', min-le-left, lt-of-le-of-lt, le-of-suc-le-suc, not-suc-le-zero, zero-div}
 use native.Mathlib.Numerals.{one-add}
-use native.Mathlib.Omega.{arith}
 use lib.Arith.{digits-mod, bin-ind}
 use lib.Bits.{bitAnd, bitXor, differ, and-step, xor-step, and-shr, xor-shr}
 use lib.Dec.{lit<}

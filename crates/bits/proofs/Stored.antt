@@ -1,6 +1,6 @@
 -- The store rule, bit by bit, and what follows for the bits that a register stores.
 -- Assumes nothing.
-use mathlib.Core.Path.{_≡_, refl, sym, ap, ap₂, _∙_, subst}
+use mathlib.Core.Path.{_≡_, refl, sym, ap, _∙_, subst}
 use Prim.Native.Nat.{ℕ, _≤_, _<_, min}
 use mathlib.Core.Bool.{Bool, _&&_}
 use native.Mathlib.Nat.{min-zero, le-trans, le-of-eq}

@@ -12,7 +12,7 @@ use base.Fml.{GName, Lft, Share, flft, fobs, fauth, fbor, fobor}
 use prog.Model.{Model}
 use prog.Routine.{Name, Env as Meant}
 use prog.Wp.{Heap, Env, Calls, Loops, WpFn, Tables, Closed}
-use ghost.Atoms.{Atoms, sem}
+use ghost.Atoms.{Atoms}
 use sound.WpLaws.{FmC, fmOf, WpFn-mono}
 use contract.Lifetimes.{Lfts, Shares, AllOutlive}
 use contract.Monad.{fact}

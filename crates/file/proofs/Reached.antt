@@ -2,16 +2,14 @@
 -- Assumes nothing.
 use Prim.Native.Nat.{ℕ, _<_}
 use mathlib.Core.Path.{_≡_, refl, ap, _∙_}
-use mathlib.Core.Bool.{Bool, true, false, true≢false}
-use lib.ListN.{getD, set, length}
+use mathlib.Core.Bool.{true, false, true≢false}
+use lib.ListN.{getD, length}
 use lib.Seq.{getD-set-same, getD-set-other}
 use Rattle.bits.specs.Store.{bit, store}
 use Rattle.bits.proofs.Piece.{stored-outside}
 use Rattle.bits.proofs.Stored.{inside}
 use Rattle.file.specs.declared.effect.Effect.{Effect}
 use Rattle.file.specs.declared.effect.Effect.the-variants.{Nothing, Store, StoreAndFlip, Toggle, Move, Paint}
-use Rattle.file.specs.declared.palette.Colour.{Colour}
-use Rattle.file.specs.declared.palette.Pointer.{Pointer}
 use Rattle.file.specs.declared.registers.File.{File}
 use Rattle.file.specs.Effects.{apply, reachOf, storeIn, paintIn}
 use Rattle.file.specs.File.{register, withRegisters, withPalette, withBank, withPointer, withToggle, black}

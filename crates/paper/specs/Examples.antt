@@ -3,7 +3,7 @@
 use Prim.Native.Nat.{ℕ, zero, suc, _+_}
 use Prim.Native.String.{String}
 use mathlib.Core.Bool.{Bool, true, false, _&&_}
-use mathlib.Core.List.{List, [], _∷_, _++_}
+use mathlib.Core.List.{List, [], _∷_}
 use lib.Dec.{eqb}
 use lib.IntN.{ℤ, pos, negsuc}
 use lib.ListN.{getD}
@@ -16,7 +16,6 @@ use Rattle.file.specs.Effects.{storeIn}
 use Rattle.file.specs.File.{powerOn, black}
 use Rattle.file.specs.Names.{MISC, PCI04, CR0, CR1, CR2, CR3, CR4, CR5, CR6, CR7, CR9, CR10, CR11, CR12, CR13, CR15, CR16, CR18, CR1B, E0, E4}
 use Rattle.file.specs.Registers.{storedBits}
-use Rattle.geometry.specs.declared.Cursor.{Cursor}
 use Rattle.geometry.specs.Geometry.{readGeometry}
 use Rattle.timing.specs.Timing.{timingOf, numbersOf, readTiming, writeTiming}
 

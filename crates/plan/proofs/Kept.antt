@@ -1,11 +1,10 @@
 -- What a plan and a restore promise, from what the code did. Assumes nothing.
 use Prim.Native.Nat.{ℕ, _*_, _≤_, _<_}
 use mathlib.Core.Path.{_≡_, refl, sym, ap, _∙_, subst}
-use mathlib.Core.Bool.{Bool, true, false, true≢false}
+use mathlib.Core.Bool.{true, false, true≢false}
 use mathlib.Core.List.{List, _++_}
 use native.Mathlib.Omega.{arith}
 use borrow.Author.Tests.{eq-eqb, ne-eqb, le-leb, lt-leb}
-use lib.Dec.{T}
 use lib.ListN.{length, drop, length-append}
 use Rattle.bits.proofs.Test.{by-test, passes, is-true}
 use Rattle.file.specs.declared.answer.Answer.{Answer}

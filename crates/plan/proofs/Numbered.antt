@@ -1,15 +1,14 @@
 -- From a stage's record to the whole plan's: which stage a number falls in, and its number there. Assumes nothing.
 use Prim.Native.Nat.{ℕ, suc, _+_, _-_, _≤_, _<_}
-use mathlib.Core.Path.{_≡_, refl, sym, ap, _∙_}
-use mathlib.Core.List.{List, [], _∷_, _++_}
+use mathlib.Core.Path.{_≡_, refl, ap, _∙_}
+use mathlib.Core.List.{List, _∷_, _++_}
 use native.Mathlib.Omega.{arith}
 use lib.ListN.{getD, length, length-append}
 use Rattle.file.specs.declared.palette.Colour.{Colour}
 use Rattle.file.specs.declared.registers.File.{File}
-use Rattle.access.specs.declared.record.Record.{Record}
 use Rattle.plan.specs.Roads.{toB0, registerRoads, indexRoads}
 use Rattle.plan.specs.Plan.{mmioWrite, openBank, opening, entries, colours, indices, closing, planRecords}
-use Rattle.plan.specs.Steps.{write, stepRecord, selecting, stepsOf, along}
+use Rattle.plan.specs.Steps.{write, selecting, stepsOf, along}
 use Rattle.plan.specs.Restores.{IsFile}
 use Rattle.plan.specs.Written.{nothing, recordAt}
 use Rattle.plan.proofs.Counted.{pixels-count, colours-count, registers-count}

@@ -1,13 +1,13 @@
 -- The records of a plan by their numbers: within a run of entries, within the rows of the register stage, and from a stage to the whole.
 -- Assumes nothing.
 use Prim.Native.Nat.{ℕ, zero, suc, _+_, _-_, _*_, _/_, _%_, _≤_, _<_}
-use mathlib.Core.Path.{_≡_, refl, sym, ap, ap₂, _∙_, subst}
-use mathlib.Core.Bool.{Bool, true, false, cond, _&&_}
+use mathlib.Core.Path.{_≡_, refl, sym, ap, ap₂, _∙_}
+use mathlib.Core.Bool.{Bool, true, false, _&&_}
 use mathlib.Core.List.{List, [], _∷_, _++_, map}
 use native.Mathlib.Omega.{arith}
 use borrow.Author.Tests.{lt-ltb, le-ltb}
 use lib.Dec.{T, eqb, leb, ltb, eqb→eq, ltb→lt, leb→le}
-use lib.ListN.{getD, length, length-append, List·getD-append}
+use lib.ListN.{getD, length, List·getD-append}
 use lib.Seq.{getD-append-add}
 use Rattle.bits.proofs.Test.{left, right}
 use Rattle.file.specs.declared.palette.Colour.{Colour}

@@ -1,13 +1,12 @@
 -- Signed numbers of 16 bits, and their distance from 0 in 64 bits. Assumes nothing.
 use mathlib.Core.Bool.{true, false, true≢false}
-use mathlib.Core.Path.{_≡_, refl, ap, sym}
+use mathlib.Core.Path.{_≡_}
 use native.Mathlib.Omega.{arith}
 use lib.Dec.{T, ltb→lt}
 use lib.IntN.{ℤ, pos, negsuc, _-ℤ_, natAbs}
 use lib.Signed.{ltZ, nonNeg}
 use mir.Syntax.{w16, w64}
-use mir.Val.{Fits, SFits, ofZ, toZ}
-use mir.ValLaws.{toZ-ofZ}
+use mir.Val.{Fits, SFits}
 use Rattle.bits.proofs.Test.{passes}
 
 -- a number below 0: it is widened, taken from 0, and is then its distance from 0

@@ -1,4 +1,4 @@
-// 01's examples P9 to P11 and the timing line of its replay example, run over the compiled code and printed.
+// 01's examples P9 to P11, run over the compiled code and printed.
 ghost use mathlib.Core.Path.{_≡_};
 ghost use Prim.Native.Nat.{_+_, _^_, _<_};
 ghost use lib.IntN.{natAbs};
@@ -103,49 +103,6 @@ fn print_cursor(file: File) {
     io::write_all(STDOUT_FILENO, b"\n");
 }
 
-// The file after 01's replay example: ports and MMIO on, MISC, CR0 written and read back.
-fn replayed() -> File {
-    let trace = [
-        1u8,
-        2,
-        0x04,
-        0,
-        3,
-        0,
-        0,
-        0,
-        3,
-        1,
-        0xC2,
-        3,
-        1,
-        0,
-        0,
-        0,
-        5,
-        1,
-        0,
-        0,
-        0x5F,
-        0,
-        0,
-        0,
-        4,
-        1,
-        0,
-        0,
-        0,
-        0,
-        0,
-        0,
-    ];
-    let mut replies = [0u8; 32];
-    let ran = access::run(File::power_on(), &trace, &mut replies);
-    io::print_decimal(STDOUT_FILENO, ran.count as u64);
-    io::write_all(STDOUT_FILENO, b"\n");
-    ran.file
-}
-
 fn main() {
     io::write_all(STDOUT_FILENO, b"P9\n");
     print_timing(mode_12h());
@@ -158,6 +115,4 @@ fn main() {
     io::write_all(STDOUT_FILENO, b"P11\n");
     let preset = set_register(opened(), 97, 0x0A00); // E4
     print_cursor(set_register(preset, 95, 0x0005)); // E0
-    io::write_all(STDOUT_FILENO, b"replay\n");
-    print_timing(replayed());
 }

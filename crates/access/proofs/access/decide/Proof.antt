@@ -1,5 +1,5 @@
 -- `access::decide` meets its contract. Assumes nothing.
-use mathlib.Core.Path.{refl, sym}
+use mathlib.Core.Path.{refl}
 use Rattle.file.proofs.Soundness.{registers-sound, pointer-sound}
 use borrow.Author.Needs.{needs}
 use Rattle.access.proofs.access.decide.Statement.{statement}

@@ -2,7 +2,7 @@
 use Prim.Native.Nat.{_-_}
 use mathlib.Core.Path.{sym}
 use borrow.Author.Tests.{not-true, not-false, lt-ltb, le-ltb}
-use Rattle.access.specs.Cells.{alone, plainPlace, asAttribute, attributePlace}
+use Rattle.access.specs.Cells.{plainPlace, asAttribute, attributePlace}
 use Rattle.access.proofs.Cells.{alone-unstored}
 use Rattle.access.proofs.decode.attribute.Statement.{statement}
 use Rattle.access.proofs.decode.attribute.Tie as tie

@@ -1,8 +1,7 @@
 -- `cell_at` meets its contract. Assumes nothing.
-use Prim.Native.Nat.{ℕ, _/_}
+use Prim.Native.Nat.{_/_}
 use mathlib.Core.Path.{_≡_, ap, ap₂, _∙_}
 use native.Mathlib.Omega.{arith}
-use Rattle.bits.proofs.Test.{by-test}
 use Rattle.access.specs.Cells.{cellAt}
 use Rattle.access.proofs.Tables.{of-space, port-kind}
 use borrow.Author.Needs.{needs}

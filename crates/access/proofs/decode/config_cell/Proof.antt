@@ -1,8 +1,8 @@
 -- `config_cell` meets its contract. Assumes nothing.
-use Prim.Native.Nat.{ℕ, _+_, _-_}
-use mathlib.Core.Path.{_≡_, sym, ap, _∙_}
+use Prim.Native.Nat.{_+_, _-_}
+use mathlib.Core.Path.{_∙_}
 use native.Mathlib.Omega.{arith}
-use borrow.Author.Tests.{lt-ltb, le-ltb, lt-leb, le-leb}
+use borrow.Author.Tests.{le-ltb}
 use lib.Dec.{lit<}
 use Rattle.access.proofs.Tables.{configRange, range, uncovered, at-cell, config-cells, config-both}
 use borrow.Author.Needs.{needs}

@@ -1,8 +1,8 @@
 -- `mmio_cell` meets its contract. Assumes nothing.
-use Prim.Native.Nat.{ℕ, _+_, _-_, _<_}
-use mathlib.Core.Path.{_≡_, sym, ap, _∙_}
+use Prim.Native.Nat.{_+_, _-_, _<_}
+use mathlib.Core.Path.{_≡_, ap, _∙_}
 use native.Mathlib.Omega.{arith}
-use borrow.Author.Tests.{lt-ltb, le-ltb, lt-leb, le-leb}
+use borrow.Author.Tests.{le-ltb, lt-leb, le-leb}
 use lib.Dec.{lit<}
 use Rattle.access.specs.Cells.{cellAt, tableCell}
 use Rattle.access.proofs.Tables.{mmioRange, range, uncovered, at-cell, config-cells, config-in-mmio, config-in-writes, mmio-cells, mmio-both}

@@ -1,9 +1,8 @@
 -- `port_cell` meets its contract. Assumes nothing.
-use Prim.Native.Nat.{ℕ, _+_, _-_, _<_}
-use mathlib.Core.Path.{_≡_, sym, ap, _∙_}
+use Prim.Native.Nat.{_+_, _-_, _<_}
+use mathlib.Core.Path.{_≡_, ap, _∙_}
 use native.Mathlib.Omega.{arith}
-use borrow.Author.Tests.{lt-ltb, le-ltb, lt-leb, le-leb}
-use mathlib.Core.Bool.{Bool, true, false, cond}
+use borrow.Author.Tests.{le-ltb, lt-leb, le-leb}
 use lib.Dec.{lit<}
 use Rattle.bits.proofs.Test.{by-test}
 use Rattle.access.specs.Cells.{cellAt, tableCell}

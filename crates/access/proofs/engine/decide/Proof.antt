@@ -10,7 +10,6 @@ use Rattle.access.specs.Checks.{isWrite}
 use Rattle.access.specs.Looked.{inFile, holds, decision}
 use Rattle.access.proofs.Decided.{answer-same, write-same, read-same, in-file, refused-answer, refused-effect, seen-holds, seen-word, place-here, pixels-there, decides-by, decided}
 use borrow.Author.Needs.{needs}
-use borrow.Author.Needs.{needs}
 use Rattle.access.proofs.engine.decide.Statement.{statement}
 use Rattle.access.proofs.engine.decide.Tie as tie
 

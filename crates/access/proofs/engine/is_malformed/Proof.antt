@@ -1,5 +1,5 @@
 -- `is_malformed` meets its contract. Assumes nothing.
-use borrow.Author.Tests.{lt-ltb, le-ltb, lt-leb, le-leb, eq-eqb, ne-eqb}
+use borrow.Author.Tests.{lt-ltb, le-ltb, eq-eqb, ne-eqb}
 use Rattle.access.specs.Checks.{isWrite, malformed}
 use Rattle.access.proofs.engine.is_malformed.Statement.{statement}
 use Rattle.access.proofs.engine.is_malformed.Tie as tie

@@ -1,8 +1,5 @@
 -- `is_space_off` meets its contract. Assumes nothing.
-use mathlib.Core.Path.{sym, ap, _∙_}
-use Prim.Native.Nat.{ℕ}
-use borrow.Author.Tests.{lt-ltb, le-ltb, lt-leb, le-leb, eq-eqb, ne-eqb}
-use lib.Dec.{eqb}
+use borrow.Author.Tests.{ne-eqb}
 use Rattle.bits.specs.Store.{bit}
 use Rattle.bits.proofs.Bit.{bit-zero}
 use Rattle.bits.proofs.Test.{or-false}

@@ -1,7 +1,7 @@
 -- `pixel_write` meets its contract. Assumes nothing.
-use mathlib.Core.Path.{sym, ap, _∙_}
+use mathlib.Core.Path.{sym, _∙_}
 use borrow.Author.Tests.{not-true, not-false}
-use Rattle.file.specs.File.{register, withRegisters, withToggle, withPointer, powerOn}
+use Rattle.file.specs.File.{register, withRegisters, withToggle, withPointer}
 use Rattle.access.specs.Access.{inBank, entryNumber, pixelWrite}
 use Rattle.access.specs.Cells.{seen}
 use borrow.Author.Needs.{needs}

@@ -19,7 +19,6 @@ use Rattle.access.specs.Access.{answerAt, readAt}
 use Rattle.access.specs.Looked.{inFile, shownIn, Decides}
 use Rattle.access.proofs.Shown.{up-of}
 use borrow.Author.Needs.{needs}
-use borrow.Author.Needs.{needs}
 use Rattle.access.proofs.engine.read_at.Statement.{statement}
 use Rattle.access.proofs.engine.read_at.Tie as tie
 

@@ -2,7 +2,6 @@
 use mathlib.Core.Path.{refl, sym, _∙_}
 use Rattle.file.specs.Answers.{codeOf, refused}
 use borrow.Author.Needs.{needs}
-use borrow.Author.Needs.{needs}
 use Rattle.access.proofs.engine.read_pixel.Statement.{statement}
 use Rattle.access.proofs.engine.read_pixel.Tie as tie
 

@@ -1,9 +1,9 @@
 -- `stored_bits` meets its contract. Assumes nothing.
-use mathlib.Core.Path.{_≡_, sym, ap, _∙_}
+use mathlib.Core.Path.{sym, ap}
 use Rattle.file.specs.Registers.{storedBits, storedTable}
 use mathlib.Core.List.{List}
 use lib.ListN.{getD, List·getD-eq-default}
-use Prim.Native.Nat.{ℕ, _+_, _-_}
+use Prim.Native.Nat.{ℕ, _-_}
 use borrow.Author.Needs.{needs}
 use Rattle.access.proofs.engine.stored_bits.Statement.{statement}
 use Rattle.access.proofs.engine.stored_bits.Tie as tie

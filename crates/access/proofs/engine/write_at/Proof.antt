@@ -6,8 +6,7 @@ use Rattle.file.specs.File.{register, crtcLocked, withRegisters, withToggle, wi
 use Rattle.access.specs.declared.place.Place.{Place}
 use Rattle.access.specs.Access.{inBank, entryNumber, reachIn, pixelWrite, answerAt, writeAt}
 use Rattle.access.specs.Cells.{seen}
-use Rattle.access.specs.Looked.{holds, Decides}
-use borrow.Author.Needs.{needs}
+use Rattle.access.specs.Looked.{holds}
 use borrow.Author.Needs.{needs}
 use Rattle.access.proofs.engine.write_at.Statement.{statement}
 use Rattle.access.proofs.engine.write_at.Tie as tie

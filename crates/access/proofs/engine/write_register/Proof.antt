@@ -1,8 +1,7 @@
 -- `write_register` meets its contract. Assumes nothing.
-use mathlib.Core.Path.{_≡_, sym, ap, _∙_, subst}
+use mathlib.Core.Path.{sym, _∙_}
 use Rattle.file.specs.Answers.{codeOf, refused}
 use Rattle.access.specs.Access.{answerAt, writeAt}
-use borrow.Author.Needs.{needs}
 use borrow.Author.Needs.{needs}
 use Rattle.access.proofs.engine.write_register.Statement.{statement}
 use Rattle.access.proofs.engine.write_register.Tie as tie

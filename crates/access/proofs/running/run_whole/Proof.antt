@@ -1,12 +1,11 @@
 -- `run_whole` meets its contract: the loop keeps `Held`. Assumes nothing.
 use Prim.Native.Nat.{ℕ, _+_, _*_, _-_}
 use mathlib.Core.Path.{_≡_, refl, sym, ap, _∙_, subst}
-use mathlib.Core.Bool.{Bool, true, false, cond}
-use mathlib.Core.List.{List, _++_}
+use mathlib.Core.List.{_++_}
 use native.Mathlib.Omega.{arith}
 use borrow.Author.Needs.{needs}
 use lib.Dec.{T}
-use lib.ListN.{getD, set, drop}
+use lib.ListN.{set, drop}
 use Rattle.file.specs.declared.registers.File.{File}
 use Rattle.file.specs.File.{black}
 use Rattle.file.specs.declared.palette.Pointer.{Pointer}

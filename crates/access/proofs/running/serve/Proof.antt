@@ -1,11 +1,8 @@
 -- `serve` meets its contract. Assumes nothing.
 use mathlib.Core.Path.{sym, ap, _∙_, subst}
 use lib.Dec.{T}
-use Rattle.file.specs.declared.palette.Colour.{Colour}
-use mathlib.Core.Bool.{Bool, cond}
 use Rattle.file.specs.Answers.{codeOf, valueOf}
 use Rattle.file.specs.Effects.{apply}
-use Rattle.file.specs.Palette.{component}
 use Rattle.access.specs.declared.engine.Decision.{Decision}
 use Rattle.access.specs.Looked.{decision}
 use Rattle.access.specs.Served.{lands}

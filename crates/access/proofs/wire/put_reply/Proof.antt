@@ -12,27 +12,27 @@ slice-write-replies-2 : tie.Need-slice-write-replies-2
 slice-write-replies-2 c = simp length-set (omega (arith, c .pre))
 
 slice-write-replies-3 : tie.Need-slice-write-replies-3
-slice-write-replies-3 c = simp length-set (omega (arith, c .pre))
+slice-write-replies-3 c = simp length-set (omega (arith, c .before .pre))
 
 slice-write-replies-4 : tie.Need-slice-write-replies-4
-slice-write-replies-4 c = simp length-set (omega (arith, c .pre))
+slice-write-replies-4 c = simp length-set (omega (arith, c .before .before .pre))
 
 slice-write-replies-5 : tie.Need-slice-write-replies-5
-slice-write-replies-5 c = simp length-set (omega (arith, c .pre))
+slice-write-replies-5 c = simp length-set (omega (arith, c .before .before .pre))
 
 slice-write-replies-6 : tie.Need-slice-write-replies-6
-slice-write-replies-6 c = simp length-set (omega (arith, c .pre))
+slice-write-replies-6 c = simp length-set (omega (arith, c .before .before .pre))
 
 slice-write-replies-7 : tie.Need-slice-write-replies-7
-slice-write-replies-7 c = simp length-set (omega (arith, c .pre))
+slice-write-replies-7 c = simp length-set (omega (arith, c .before .before .pre))
 
 slice-write-replies-8 : tie.Need-slice-write-replies-8
-slice-write-replies-8 c = simp length-set (omega (arith, c .pre))
+slice-write-replies-8 c = simp length-set (omega (arith, c .before .before .pre))
 
 returns : tie.Need-returns
 unfolding replyBytes
 returns c =
-    simp towards-suc (simp towards-suc at (sets-eq (replyBytes (record { code = c .args .code; kind = c .args .kind; address = c .args .address; value = c .args .value })) (c .args .replies .now) (c .args .at) (c .pre)))
+    simp towards-suc (simp towards-suc at (sets-eq (replyBytes (record { code = c .before .before .args .code; kind = c .before .before .args .asked .kind; address = c .before .before .args .asked .address; value = c .before .before .args .value })) (c .before .before .args .replies .now) (c .before .before .args .at) (c .before .before .pre)))
 
 pub put-reply-spec : {M : Type 1} → statement M
 put-reply-spec =
