@@ -13,7 +13,7 @@ ghost use Rattle.access.specs.Checks.{malformed, spaceOff, otherHalf};
 ghost use Rattle.access.specs.Looked.{lookedAt, inFile, holds, Shows, shownIn, atPixels, Decides, decision};
 ghost use Rattle.access.specs.declared.place.Place.the-variants.{PixelData as PixelDataPlace, Register as RegisterPlace};
 ghost use Rattle.file.specs.declared.answer.Answer.the-variants.{Done as DoneAnswer, PaletteDown as PaletteDownAnswer};
-ghost use Rattle.file.specs.Palette.{pointerSound, afterRead};
+ghost use Rattle.file.specs.Palette.{afterRead};
 ghost use Rattle.file.specs.declared.effect.Effect.the-variants.{Nothing, Store as StoreEffect, Move as MoveEffect};
 use crate::decode;
 use crate::place::Place;
@@ -388,7 +388,6 @@ pub fn decide(
     requires { ⌜ now cells ≡ cellTable ⌝ }
     requires { ⌜ now stored ≡ storedTable ⌝ }
     requires { ⌜ T (allWithin storedTable (now registers)) ⌝ }
-    requires { ⌜ T (pointerSound pointer) ⌝ }
     ensures { λ r. ⌜ ((f : FileOf) → T (sound f) → Shows f (now (registers .entry)) toggle pointer → (T (atPixels (asked .address)) → shown ≡ shownIn f) → r ≡ decision f asked) ⌝ }
 {
     match look(cells, registers, asked) {

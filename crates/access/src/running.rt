@@ -12,7 +12,6 @@ ghost use Rattle.access.specs.Records.{recordOf, replyBytes, items};
 ghost use Rattle.file.specs.declared.answer.Answer.the-variants.{Done as DoneAnswer, Malformed as MalformedAnswer};
 ghost use Rattle.file.specs.Effects.{apply as applyTo};
 ghost use Rattle.file.specs.declared.registers.File.{File as FileOf};
-ghost use Rattle.file.specs.Palette.{pointerSound};
 ghost use Rattle.file.specs.Registers.{storedTable};
 ghost use Rattle.access.specs.Run.{fileAfter, replies as repliesOf, runCount, run as runOf};
 ghost use Rattle.access.specs.Served.{Parts, putBack, lands, Serves};
@@ -153,7 +152,6 @@ fn serve(
     requires { ⌜ now cells ≡ cellTable ⌝ }
     requires { ⌜ now stored ≡ storedTable ⌝ }
     requires { ⌜ T (allWithin storedTable (now registers)) ⌝ }
-    requires { ⌜ T (pointerSound (before .pointer)) ⌝ }
     ensures { λ r. ⌜ ((f : FileOf) → T (sound f) → Parts f (now (registers .entry)) before → (T (atPixels (asked .address)) → shown ≡ shownIn f) → Serves f asked (before .pointer) (now (registers .exit)) r) ⌝ }
 {
     let pointer = before.pointer;

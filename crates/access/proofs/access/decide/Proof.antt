@@ -1,6 +1,6 @@
 -- `access::decide` meets its contract. Assumes nothing.
 use mathlib.Core.Path.{refl}
-use Rattle.file.proofs.Soundness.{registers-sound, pointer-sound}
+use Rattle.file.proofs.Soundness.{registers-sound}
 use borrow.Author.Needs.{needs}
 use Rattle.access.proofs.access.decide.Statement.{statement}
 use Rattle.access.proofs.access.decide.Tie as tie
@@ -9,7 +9,7 @@ decide-requires : tie.Need-decide-requires
 decide-requires c κs =
     let whole = c .before .before .before .before .before .before .before .args .whole in
     let pre = c .before .before .before .before .before .before .before .pre in
-    (c .before .before .before .before .before .cells .ensures, (c .before .before .before .before .stored .ensures, (registers-sound whole pre, pointer-sound whole pre)))
+    (c .before .before .before .before .before .cells .ensures, (c .before .before .before .before .stored .ensures, registers-sound whole pre))
 
 returns : tie.Need-returns
 returns c =

@@ -15,17 +15,17 @@ use Rattle.access.proofs.engine.decide.Tie as tie
 
 word-requires : tie.Need-word-requires
 unfolding isWrite
-word-requires c κs = seen-word (c .before .before .before .before .before .before .before .args .registers .now) (c .before .before .before .before .before .before .before .pre .1 .1 .0) (c .before .before .before .before .before .before .before .args .toggle) (c .before .before .before .before .before .before .before .args .asked) (c .before .before .before .before .cell .given .0 .0) (sym (c .before .before .before .before .before .before .look .ensures) ∙ c .before .before .before .before .cell .given .1) (eq-eqb _ _ (c .if1 .taken))
+word-requires c κs = seen-word (c .before .before .before .before .before .before .before .args .registers .now) (c .before .before .before .before .before .before .before .pre .1 .1) (c .before .before .before .before .before .before .before .args .toggle) (c .before .before .before .before .before .before .before .args .asked) (c .before .before .before .before .cell .given .0 .0) (sym (c .before .before .before .before .before .before .look .ensures) ∙ c .before .before .before .before .cell .given .1) (eq-eqb _ _ (c .if1 .taken))
 
 write-at-requires : tie.Need-write-at-requires
 unfolding isWrite
 write-at-requires c κs = (
   c .before .before .before .before .before .before .before .before .pre .1 .0,
-  subst₂ (λ (p : Place) (v : ℕ). T (holds p v)) (sym (c .before .before .before .place-in .ensures)) (sym (c .word .ensures)) (seen-holds (c .before .before .before .before .before .before .before .before .args .registers .now) (c .before .before .before .before .before .before .before .before .pre .1 .1 .0) (c .before .before .before .before .before .before .before .before .args .toggle) (c .before .before .before .before .before .before .before .before .args .asked) (c .before .before .before .before .before .cell .given .0 .0) (sym (c .before .before .before .before .before .before .before .look .ensures) ∙ c .before .before .before .before .before .cell .given .1) (eq-eqb _ _ (c .before .if1 .taken))),
+  subst₂ (λ (p : Place) (v : ℕ). T (holds p v)) (sym (c .before .before .before .place-in .ensures)) (sym (c .word .ensures)) (seen-holds (c .before .before .before .before .before .before .before .before .args .registers .now) (c .before .before .before .before .before .before .before .before .pre .1 .1) (c .before .before .before .before .before .before .before .before .args .toggle) (c .before .before .before .before .before .before .before .before .args .asked) (c .before .before .before .before .before .cell .given .0 .0) (sym (c .before .before .before .before .before .before .before .look .ensures) ∙ c .before .before .before .before .before .cell .given .1) (eq-eqb _ _ (c .before .if1 .taken))),
 )
 
 read-at-requires : tie.Need-read-at-requires
-read-at-requires c κs = (subst (λ (p : Place). T (inFile p)) (sym (c .before .before .place-in .ensures)) (in-file _ _), c .before .before .before .before .before .before .before .pre .1 .1 .0)
+read-at-requires c κs = (subst (λ (p : Place). T (inFile p)) (sym (c .before .before .place-in .ensures)) (in-file _ _), c .before .before .before .before .before .before .before .pre .1 .1)
 
 returns : tie.Need-returns
 unfolding decision

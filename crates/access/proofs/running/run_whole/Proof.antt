@@ -9,9 +9,8 @@ use lib.ListN.{set, drop}
 use Rattle.file.specs.declared.registers.File.{File}
 use Rattle.file.specs.File.{black}
 use Rattle.file.specs.declared.palette.Pointer.{Pointer}
-use Rattle.file.specs.Palette.{pointerSound}
 use Rattle.file.specs.Sound.{sound}
-use Rattle.file.proofs.Soundness.{registers-sound, pointer-sound}
+use Rattle.file.proofs.Soundness.{registers-sound}
 use Rattle.access.specs.Looked.{shownIn, atPixels}
 use Rattle.access.specs.Records.{items}
 use Rattle.access.specs.Run.{fileAfter, replies}
@@ -51,8 +50,10 @@ array-copy-out-pick-2 c = omega (arith, c .before .before .before .before .befor
 
 serve-requires : tie.Need-serve-requires Inv-loop μ-loop
 serve-requires c κs =
-    let s = (subst (λ (f : File). T (sound f)) (sym (c .before .before .before .before .before .before .before .before .before .before .loop .inv .file)) (run-sound (c .before .before .before .before .before .before .before .before .before .before .before .before .before .before .before .before .before .before .before .args .whole) _ (c .before .before .before .before .before .before .before .before .before .before .before .before .before .before .before .before .before .before .before .pre .0))) in
-    (c .before .before .before .before .before .before .before .before .before .before .before .before .cells .ensures, (c .before .before .before .before .before .before .before .before .before .before .before .stored .ensures, (registers-sound (together (c .before .before .before .before .before .before .before .before .before .before .loop .registers) (c .before .before .before .before .before .before .before .before .before .before .loop .palette) (c .before .before .before .before .before .before .before .before .before .before .loop .bank) (c .before .before .before .before .before .before .before .before .before .before .loop .pointer) (c .before .before .before .before .before .before .before .before .before .before .loop .toggle)) s, subst (λ (q : Pointer). T (pointerSound q)) (sym (c .before .before .before .unpainted .ensures .0)) (pointer-sound (together (c .before .before .before .before .before .before .before .before .before .before .loop .registers) (c .before .before .before .before .before .before .before .before .before .before .loop .palette) (c .before .before .before .before .before .before .before .before .before .before .loop .bank) (c .before .before .before .before .before .before .before .before .before .before .loop .pointer) (c .before .before .before .before .before .before .before .before .before .before .loop .toggle)) s))))
+    let turn = c .before .before .before .before .before .before .before .before .before .before .loop in
+    let start = c .before .before .before .before .before .before .before .before .before .before .before .before .before .before .before .before .before .before .before in
+    let now = together (turn .registers) (turn .palette) (turn .bank) (turn .pointer) (turn .toggle) in
+    (c .before .before .before .before .before .before .before .before .before .before .before .before .cells .ensures, (c .before .before .before .before .before .before .before .before .before .before .before .stored .ensures, registers-sound now (subst (λ (f : File). T (sound f)) (sym (turn .inv .file)) (run-sound (start .args .whole) _ (start .pre .0)))))
 
 mul-put-reply : tie.Need-mul-put-reply Inv-loop μ-loop
 mul-put-reply c = record { fits = mul-record-at (c .before .before .before .before .before .before .before .before .before .before .before) .fits }
