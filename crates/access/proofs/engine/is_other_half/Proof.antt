@@ -1,8 +1,13 @@
 -- `is_other_half` meets its contract. Assumes nothing.
+use Prim.Native.Nat.{_/_}
+use mathlib.Core.Path.{_≡_}
+use mathlib.Core.Bool.{false}
 use borrow.Author.Tests.{eq-eqb, ne-eqb}
 use Rattle.bits.proofs.Bit.{bit-zero}
 use Rattle.bits.proofs.Test.{or-false}
+use Rattle.file.specs.declared.registers.File.{File}
 use Rattle.file.specs.File.{register, withRegisters, withToggle, powerOn}
+use Rattle.access.specs.declared.record.Record.{Record}
 use Rattle.access.specs.Cells.{seen}
 use Rattle.access.specs.Checks.{isPort, otherHalf}
 use Rattle.access.proofs.Halves.{halves}
@@ -10,9 +15,13 @@ use borrow.Author.Needs.{needs}
 use Rattle.access.proofs.engine.is_other_half.Statement.{statement}
 use Rattle.access.proofs.engine.is_other_half.Tie as tie
 
+-- what is no port has no half
+not-port : (f : File) (r : Record) → (r .kind / 2 ≡ 1 → ⊥) → false ≡ otherHalf f r
+unfolding otherHalf isPort
+not-port f r other = rw (ne-eqb (r .kind / 2) 1 other)
+
 returns : tie.Need-returns
-unfolding otherHalf isPort seen register withRegisters withToggle
-returns c = rw (ne-eqb _ _ (c .if1 .taken))
+returns c = not-port _ _ (c .if1 .taken)
 
 returns-2 : tie.Need-returns-2
 unfolding otherHalf isPort seen register withRegisters withToggle
