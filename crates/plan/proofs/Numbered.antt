@@ -1,19 +1,18 @@
 -- From a stage's record to the whole plan's: which stage a number falls in, and its number there. Assumes nothing.
-use Prim.Native.Nat.{ℕ, suc, _+_, _-_, _/_, _%_, _≤_, _<_}
+use Prim.Native.Nat.{ℕ, suc, _+_, _-_, _≤_, _<_}
 use mathlib.Core.Path.{_≡_, refl, ap, _∙_}
 use mathlib.Core.List.{List, _∷_, _++_}
 use native.Mathlib.Omega.{arith}
 use lib.ListN.{getD, length, length-append}
 use Rattle.file.specs.declared.palette.Colour.{Colour}
 use Rattle.file.specs.declared.registers.File.{File}
-use Rattle.file.specs.Palette.{component}
 use Rattle.plan.specs.Roads.{toB0, registerRoads, indexRoads}
 use Rattle.plan.specs.Plan.{mmioWrite, openBank, opening, entries, colours, indices, closing, planRecords}
 use Rattle.plan.specs.Steps.{write, selecting, stepsOf, along}
 use Rattle.plan.specs.Restores.{IsFile}
 use Rattle.plan.specs.Written.{nothing, recordAt}
 use Rattle.plan.proofs.Counted.{pixels-count, colours-count, registers-count}
-use Rattle.plan.proofs.Placed.{entry-at, in-first, in-second}
+use Rattle.plan.proofs.Placed.{in-first, in-second}
 
 entries-count : (cs : List Colour) (n : ℕ) → length cs ≡ n → length (entries 0 cs) ≡ 1 + (n + n + n)
 unfolding entries
@@ -67,20 +66,6 @@ module _ (w : File) (wf : IsFile w) where
       in-first (entries 0 (w .palette)) (write toB0 openBank ∷ entries 0 (w .bank)) 769 (k - 5)
       (entries-count (w .palette) 256 (wf .palette)) (omega arith)
       ∙ in-colours k l (omega arith)
-
-  -- a byte of an entry of the palette
-  pub in-component : (k : ℕ) → 6 ≤ k → k < 774 → (d : Colour)
-      → mmioWrite 0xAC (component (getD (w .palette) ((k - 6) / 3) d) ((k - 6) % 3)) ≡ recordAt w k
-  in-component k l h d =
-      ap (λ (m : ℕ). mmioWrite 0xAC (component (getD (w .palette) (m / 3) d) (m % 3))) one-less
-      ∙ entry-at (w .palette) (k - 5) (λ e. not-first e) (omega (arith, wf .palette)) d
-      ∙ in-palette k (omega arith) h
-    where
-      one-less : k - 6 ≡ k - 5 - 1
-      one-less = omega arith
-
-      not-first : k - 5 ≡ 0 → ⊥
-      not-first e = omega (arith, e, l)
 
   pub in-between : (k : ℕ) → 774 ≤ k → k < 775 → mmioWrite 0xB0 0x08 ≡ recordAt w k
   unfolding openBank

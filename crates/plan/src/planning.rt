@@ -1,6 +1,4 @@
-ghost use mathlib.Core.Bool.{_&&_};
 ghost use mathlib.Core.Path.{_≡_};
-ghost use lib.Dec.{leb, ltb};
 ghost use mathlib.Core.List.{_++_};
 ghost use Prim.Native.Nat.{_≤_};
 ghost use lib.ListN.{length, drop};
@@ -8,7 +6,6 @@ ghost use Rattle.plan.specs.Plan.{planRecords};
 ghost use Rattle.plan.specs.Restores.{traceOf};
 ghost use Rattle.plan.specs.Promises.{PlanKept};
 use crate::bytes::put;
-use crate::records::component_write;
 use crate::records::record_at;
 use file::Answer;
 use file::File;
@@ -20,30 +17,14 @@ pub struct Planned {
     pub count: usize,
 }
 
-// The palette's bytes are the records 6 to 773.
-fn is_component(k: usize) -> bool
-    ensures { λ r. ⌜ r ≡ (leb 6 k && ltb k 774) ⌝ }
-{
-    if k < 6 {
-        return false;
-    }
-    k < 774
-}
-
-// Writes the 973 records of a plan, and leaves what stands behind them. A palette's byte is taken here, because the file is copied for `record_at`.
+// Writes the 973 records of a plan, and leaves what stands behind them.
 fn write_records(wanted: File, buffer: &mut [u8])
     requires { ⌜ 7784 ≤ length (now buffer) ⌝ }
     ensures { λ _. ⌜ now (buffer .exit) ≡ traceOf (planRecords wanted) ++ drop 7784 (now (buffer .entry)) ⌝ }
 {
     let mut k: usize = 0;
     while k < 973 {
-        let written = if is_component(k) {
-            let colour = wanted.palette[(k - 6) / 3];
-            component_write(colour, k - 6)
-        } else {
-            record_at(wanted, k)
-        };
-        put(buffer, k, written);
+        put(buffer, k, record_at(wanted, k));
         k += 1;
     }
 }

@@ -1,12 +1,11 @@
 // The records of a plan, by their number in it.
 ghost use mathlib.Core.Path.{_≡_};
 ghost use mathlib.Core.Bool.{cond};
-ghost use Prim.Native.Nat.{_+_, _*_, _%_, _<_};
+ghost use Prim.Native.Nat.{_+_, _*_, _<_};
 ghost use lib.Dec.{eqb};
 ghost use lib.ListN.{getD, length};
 ghost use Rattle.bits.specs.Store.{bit};
 ghost use Rattle.file.specs.File.{black};
-ghost use Rattle.file.specs.Palette.{component};
 ghost use Rattle.plan.specs.Plan.{mmioWrite, portRead, opening, entries, indices, closing};
 ghost use Rattle.plan.specs.Written.{nothing, recordAt, coloursIn};
 use crate::rows::held;
@@ -109,13 +108,6 @@ fn entry_in(wanted: File, bank: bool, entry: usize) -> Colour
     }
 }
 
-// One byte of an entry, by its place among three to an entry.
-pub fn component_write(colour: Colour, place: usize) -> Record
-    ensures { λ r. ⌜ r ≡ mmioWrite 0xAC (component colour (place % 3)) ⌝ }
-{
-    mmio_write(0xAC, wide(colour.component((place % 3) as u8)))
-}
-
 // The address, then three bytes for each entry of the bank or the palette.
 fn entries_at(wanted: File, bank: bool, k: usize) -> Record
     requires { ⌜ k < 1 + 3 * length (coloursIn bank wanted) ⌝ }
@@ -125,7 +117,7 @@ fn entries_at(wanted: File, bank: bool, k: usize) -> Record
         return mmio_write(0xA8, 0);
     }
     let colour = entry_in(wanted, bank, (k - 1) / 3);
-    component_write(colour, k - 1)
+    mmio_write(0xAC, wide(colour.component(((k - 1) % 3) as u8)))
 }
 
 // What leaves the toggle, which is at data, as wanted: a 3C0h read moves nothing, a 3?Ah read sets it to index.
