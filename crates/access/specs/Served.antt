@@ -44,7 +44,7 @@ lands p (Toggle state) = true
 lands p (Move pointer) = true
 lands p (Paint bank entry colour pointer) = eqb entry (cond bank (p .address % 16) (p .address))
 
--- 01, 'One access': the reply's code and value, and the file after it
+-- 01, 'Accesses and replies': the reply's code and value; and the file after the access
 pub record Serves (f : File) (asked : Record) (stood : Pointer) (registers : List ℕ) (s : Served) : Type 0 where
   pub code : s .code ≡ codeOf (answer f asked)
   pub value : s .value ≡ valueOf (answer f asked)

@@ -105,6 +105,7 @@ fn mmio_cell(cells: &[u8; 534], at: usize) -> u8
     if at < 0x300 {
         return NOTHING;
     }
+    // Config space stands at 288 of the table.
     if at < 0x306 {
         return cells[at - 480];
     }
@@ -152,7 +153,7 @@ fn attribute(toggle: bool, cell: u8) -> Place
     ensures { λ r. ⌜ r ≡ attributePlace toggle cell ⌝ }
 {
     if !toggle {
-        return Place::Attribute(4);
+        return Place::Attribute(ARX);
     }
     if cell < 100 {
         Place::Attribute(cell as usize)

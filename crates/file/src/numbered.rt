@@ -22,3 +22,25 @@ pub const CR11: usize = 42;
 pub const CR1B: usize = 52;
 
 pub const B0: usize = 85;
+
+pub const CC: usize = 89;
+
+pub const CE: usize = 90;
+
+pub const D0: usize = 91;
+
+pub const D2: usize = 92;
+
+pub const D4: usize = 93;
+
+pub const D5: usize = 94;
+
+pub const E0: usize = 95;
+
+pub const E2: usize = 96;
+
+pub const E4: usize = 97;
+
+pub const E6: usize = 98;
+
+pub const E8: usize = 99;

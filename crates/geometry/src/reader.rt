@@ -13,33 +13,21 @@ use crate::edge::less_preset;
 use crate::edge::shown;
 use crate::edge::smaller;
 use file::Answer;
+use file::CC;
+use file::CE;
+use file::D0;
+use file::D2;
+use file::D4;
+use file::D5;
+use file::E0;
+use file::E2;
+use file::E4;
+use file::E6;
+use file::E8;
 use file::File;
 use file::is_sound;
 use timing::Scanlines;
 use timing::read_timing;
-
-// The registers that are read here, by their numbers in the table of stored bits.
-const CC: usize = 89;
-
-const CE: usize = 90;
-
-const D0: usize = 91;
-
-const D2: usize = 92;
-
-const D4: usize = 93;
-
-const D5: usize = 94;
-
-const E0: usize = 95;
-
-const E2: usize = 96;
-
-const E4: usize = 97;
-
-const E6: usize = 98;
-
-const E8: usize = 99;
 
 // What a file's registers say of the cursor and of window 2.
 pub fn read_geometry(file: File) -> Geometry
