@@ -1,12 +1,13 @@
 -- Each name that the rules use stands in 01's table at the number that it has: one computed test. Assumes nothing.
 use Prim.Native.Nat.{ℕ}
 use Prim.Native.String.{String}
+use mathlib.Core.Path.{_≡_, refl}
 use mathlib.Core.Bool.{Bool, true, false, _&&_}
 use mathlib.Core.List.{List, [], _∷_, map}
 use lib.Dec.{T}
-use lib.ListN.{getD}
+use lib.ListN.{getD, length}
 use lib.Text.{eqt}
-use Rattle.file.specs.Registers.{Register, registers, singles, sequencer, crtc, graphics, attribute, pipeline}
+use Rattle.file.specs.Registers.{Register, registerCount, registers}
 use Rattle.file.specs.Names.{MISC, SRX, CRX, GRX, ARX, pixelMask, PCI04, SR0, SR0E, SR1E, CR0, CR1, CR2, CR3, CR4, CR5, CR6, CR7, CR9, CRC, CRD, CR10, CR11, CR12, CR13, CR15, CR16, CR18, CR1A, CR1B, CR1D, CR1E, GR0, AR0, B0, CC, CE, D0, D2, D4, D5, E0, E2, E4, E6, E8}
 
 -- the table's name of a number
@@ -25,6 +26,11 @@ numbers = MISC ∷ SRX ∷ CRX ∷ GRX ∷ ARX ∷ pixelMask ∷ PCI04 ∷ SR0 �
 unfoldable pub names : List String
 names = "MISC" ∷ "SRX" ∷ "CRX" ∷ "GRX" ∷ "ARX" ∷ "pixel mask" ∷ "PCI04" ∷ "SR0" ∷ "SR0E" ∷ "SR1E" ∷ "CR0" ∷ "CR1" ∷ "CR2" ∷ "CR3" ∷ "CR4" ∷ "CR5" ∷ "CR6" ∷ "CR7" ∷ "CR9" ∷ "CRC" ∷ "CRD" ∷ "CR10" ∷ "CR11" ∷ "CR12" ∷ "CR13" ∷ "CR15" ∷ "CR16" ∷ "CR18" ∷ "CR1A" ∷ "CR1B" ∷ "CR1D" ∷ "CR1E" ∷ "GR0" ∷ "AR0" ∷ "B0" ∷ "CC" ∷ "CE" ∷ "D0" ∷ "D2" ∷ "D4" ∷ "D5" ∷ "E0" ∷ "E2" ∷ "E4" ∷ "E6" ∷ "E8" ∷ []
 
+-- and the table has as many registers as the file
+pub registers-counted : length registers ≡ registerCount
+unfolding registers
+registers-counted = refl
+
 pub named : T (agree numbers names)
-unfolding agree numbers names nameOf registers singles sequencer crtc graphics attribute pipeline
+unfolding agree numbers names nameOf registers
 named = tt

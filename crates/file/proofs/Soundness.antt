@@ -13,15 +13,16 @@ use Rattle.bits.specs.Store.{store, within}
 use Rattle.bits.proofs.Stored.{store-within, within-le, none-or, none-stray}
 use Rattle.bits.proofs.Test.{left, right, both, and-assoc, and-true}
 use Rattle.file.specs.declared.effect.Effect.{Effect}
-use Rattle.file.specs.declared.effect.Effect.the-variants.{Nothing, Store, StoreAndFlip, Toggle, Move, Paint}
+use Rattle.file.specs.declared.effect.Effect.the-variants.{Nothing, Store, Toggle, Move, Paint}
 use Rattle.file.specs.declared.palette.Colour.{Colour}
 use Rattle.file.specs.declared.palette.Pointer.{Pointer}
 use Rattle.file.specs.declared.registers.File.{File}
 use Rattle.file.specs.Effects.{apply, storeIn, paintIn}
-use Rattle.file.specs.File.{register, withRegisters, withPalette, withBank, withPointer, withToggle, powerOn}
+use Rattle.file.specs.File.{register, withRegisters, withPalette, withBank, withState, powerOn}
 use Rattle.file.specs.Palette.{byColour, addressed, moved, afterWrite, afterRead, pointerSound}
-use Rattle.file.specs.Registers.{storedBits, storedTable, registers, singles, sequencer, crtc, graphics, attribute, pipeline}
+use Rattle.file.specs.Registers.{registerCount, storedBits, storedTable}
 use Rattle.file.specs.Sound.{allWithin, sound}
+use Rattle.file.specs.State.{pointing, stateSound}
 
 -- a register of a sound file is within its row
 pub at : (table values : List ℕ) (number : ℕ) → T (allWithin table values) → T (within (getD table number 0) (getD values number 0))
@@ -129,23 +130,26 @@ afterRead-sound p t =
 -- the two parts of soundness
 pub registers-sound : (f : File) → T (sound f) → T (allWithin storedTable (f .registers))
 unfolding sound
-registers-sound f = left (allWithin storedTable (f .registers)) (pointerSound (f .pointer))
+registers-sound f = left (allWithin storedTable (f .registers)) (stateSound (f .state))
 
-pub pointer-sound : (f : File) → T (sound f) → T (pointerSound (f .pointer))
+state-sound : (f : File) → T (sound f) → T (stateSound (f .state))
 unfolding sound
-pointer-sound f = right (allWithin storedTable (f .registers)) (pointerSound (f .pointer))
+state-sound f = right (allWithin storedTable (f .registers)) (stateSound (f .state))
 
--- a sound file has a hundred registers
-pub sound-count : (f : File) → T (sound f) → length (f .registers) ≡ 100
-unfolding storedTable registers singles sequencer crtc graphics attribute pipeline
+pub pointer-sound : (f : File) → T (sound f) → T (pointerSound (f .state .pointer))
+unfolding stateSound
+pointer-sound f s = state-sound f s
+
+-- a sound file has all registers
+pub sound-count : (f : File) → T (sound f) → length (f .registers) ≡ registerCount
+unfolding storedTable
 sound-count f s = within-count storedTable (f .registers) (registers-sound f s)
 
 -- an effect that stores within the stored bits, and moves to a sound pointer
 unfoldable pub keeps : Effect → Bool
 keeps Nothing = true
-keeps (Store number reach value) = within (storedBits number) reach
-keeps (StoreAndFlip number reach value) = within (storedBits number) reach
-keeps (Toggle state) = true
+keeps (Store number reach value flips) = within (storedBits number) reach
+keeps (Toggle toggle) = true
 keeps (Move pointer) = pointerSound pointer
 keeps (Paint bank entry colour pointer) = pointerSound pointer
 
@@ -153,17 +157,17 @@ store-sound : (f : File) (number reach value : ℕ)
     → T (within (storedBits number) reach) → T (sound f) → T (sound (storeIn number reach value f))
 unfolding storedBits sound storeIn withRegisters register
 store-sound f number reach value w s =
-    both (allWithin storedTable (set (f .registers) number (store reach (getD (f .registers) number 0) value))) (pointerSound (f .pointer))
+    both (allWithin storedTable (set (f .registers) number (store reach (getD (f .registers) number 0) value))) (stateSound (f .state))
     (set-within storedTable (f .registers) number (store reach (getD (f .registers) number 0) value) (registers-sound f s)
     (store-within (getD storedTable number 0) reach (getD (f .registers) number 0) value w
     (at storedTable (f .registers) number (registers-sound f s))))
-    (pointer-sound f s)
+    (state-sound f s)
 
 -- a new pointer, beside registers that stay
-move-to : (f g : File) (p : Pointer) → g .registers ≡ f .registers → T (pointerSound p) → T (sound f) → T (sound (withPointer p g))
-unfolding sound withPointer
+move-to : (f g : File) (p : Pointer) → g .registers ≡ f .registers → T (pointerSound p) → T (sound f) → T (sound (withState (pointing p (f .state)) g))
+unfolding sound stateSound withState pointing
 move-to f g p same t s =
-    both (allWithin storedTable (g .registers)) (pointerSound p)
+    both (allWithin storedTable (g .registers)) (stateSound (pointing p (f .state)))
     (subst (λ (l : List ℕ). T (allWithin storedTable l)) (sym same) (registers-sound f s)) t
 
 pub paint-keeps : (f : File) (bank : Bool) (entry : ℕ) (colour : Colour) → paintIn bank entry colour f .registers ≡ f .registers
@@ -173,17 +177,16 @@ paint-keeps f false entry colour = refl
 
 -- such an effect leaves a sound file sound
 pub apply-sound : (e : Effect) (f : File) → T (keeps e) → T (sound f) → T (sound (apply e f))
-unfolding keeps apply sound withToggle
+unfolding keeps apply sound stateSound
 apply-sound Nothing f k s = s
-apply-sound (Store number reach value) f k s = store-sound f number reach value k s
-apply-sound (StoreAndFlip number reach value) f k s = store-sound f number reach value k s
-apply-sound (Toggle state) f k s = s
+apply-sound (Store number reach value flips) f k s = store-sound f number reach value k s
+apply-sound (Toggle toggle) f k s = s
 apply-sound (Move pointer) f k s = move-to f f pointer refl k s
 apply-sound (Paint bank entry colour pointer) f k s = move-to f (paintIn bank entry colour f) pointer (paint-keeps f bank entry colour) k s
 
 -- the file at power-on is sound
 pub powerOn-sound : T (sound powerOn)
-unfolding sound powerOn allWithin storedTable registers singles sequencer crtc graphics attribute pipeline within store pointerSound addressed
+unfolding sound stateSound powerOn allWithin storedTable within store pointerSound
 powerOn-sound = tt
 
 -- a register of a sound file is at most its stored bits

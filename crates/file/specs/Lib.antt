@@ -2,6 +2,7 @@ pub mod Answers
 pub mod Registers
 pub mod Names
 pub mod Palette
+pub mod State
 pub mod File
 pub mod Sound
 pub mod Effects

@@ -5,7 +5,7 @@ use mathlib.Core.Bool.{Bool, true, false, _&&_}
 use mathlib.Core.List.{List, [], _∷_}
 use Rattle.bits.specs.Store.{within}
 use Rattle.file.specs.declared.registers.File.{File}
-use Rattle.file.specs.Palette.{pointerSound}
+use Rattle.file.specs.State.{stateSound}
 use Rattle.file.specs.Registers.{storedTable}
 
 -- each register has a row of the table, each row a register, and no bit is set outside the row's
@@ -17,4 +17,4 @@ allWithin (stored ∷ table) (value ∷ values) = within stored value && allWith
 
 -- 'A file is sound if no bit outside the table is set, the next colour is 0 to 2, held green is 0 before blue is due, and held red is 0 at red.'
 unfoldable pub sound : File → Bool
-sound f = allWithin storedTable (f .registers) && pointerSound (f .pointer)
+sound f = allWithin storedTable (f .registers) && stateSound (f .state)
