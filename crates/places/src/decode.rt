@@ -1,0 +1,747 @@
+// From a kind and an address to a place. A cell is a number for what they name: a register's number, from 80h on a place that stands alone, from 90h
+// on an indexed port, FFh nothing; 100h more at width 2. Whatever table of cells is lent, each function answers; `cells` is 01's.
+ghost use mathlib.Core.Path.{_≡_};
+ghost use Rattle.file.specs.File.{seen};
+ghost use Rattle.places.specs.EngineCells.{cellTable, cellIn, portCell, mmioCell, configCell, cellWidth, plainPlace, attributePlace, cellPlace};
+use crate::place::Place;
+use file::ARX;
+use file::CRX;
+use file::GRX;
+use file::REGISTERS;
+use file::SRX;
+use file::State;
+
+// The cell where nothing is held, and what is added at width 2.
+pub const NOTHING: u16 = 0xFF;
+
+const WIDER: u16 = 0x100;
+
+// What SR6, PCI00 and PCI02 read.
+const SR6: u16 = 0x12;
+
+const PCI00: u16 = 0x1013;
+
+const PCI02: u16 = 0x00D4;
+
+// The first cell of the indexed ports.
+const FIRST_INDEXED: u16 = 0x90;
+
+// The table's sections: port reads and port writes from 3B0h on; what stands behind SRX, CRX, GRX and ARX, by the numbers that these may hold;
+// config space, which stands at 300h of MMIO too; and MMIO.
+const FIRST_PORT: usize = 0x3B0;
+
+const PORTS: usize = 48;
+
+const PORT_WRITES: usize = 48;
+
+const BEHIND_SRX: usize = 96;
+
+const SRX_NUMBERS: u16 = 32;
+
+const BEHIND_CRX: usize = 128;
+
+const CRX_NUMBERS: u16 = 64;
+
+const BEHIND_GRX: usize = 192;
+
+const GRX_NUMBERS: u16 = 64;
+
+const BEHIND_ARX: usize = 256;
+
+const ARX_NUMBERS: u16 = 32;
+
+const CONFIG_SPACE: usize = 288;
+
+const CONFIG: usize = 6;
+
+const CONFIG_IN_MMIO: usize = 0x300;
+
+const MMIO_SPACE: usize = 294;
+
+const MMIO: usize = 0xF0;
+
+pub const CELLS: usize = 534;
+
+// 01's cells, by section.
+const TABLE: [u16; CELLS] = [
+    // port reads
+    0xFF,
+    0xFF,
+    0xFF,
+    0xFF,
+    0x02,
+    0x91,
+    0xFF,
+    0xFF,
+    0xFF,
+    0xFF,
+    0x84,
+    0xFF,
+    0xFF,
+    0xFF,
+    0xFF,
+    0xFF,
+    0x04,
+    0x93,
+    0xFF,
+    0xFF,
+    0x01,
+    0x90,
+    0x05,
+    0x81,
+    0x82,
+    0x83,
+    0xFF,
+    0xFF,
+    0x00,
+    0xFF,
+    0x03,
+    0x92,
+    0xFF,
+    0xFF,
+    0xFF,
+    0xFF,
+    0x02,
+    0x91,
+    0xFF,
+    0xFF,
+    0xFF,
+    0xFF,
+    0x84,
+    0xFF,
+    0xFF,
+    0xFF,
+    0xFF,
+    0xFF,
+    // port writes
+    0xFF,
+    0xFF,
+    0xFF,
+    0xFF,
+    0x02,
+    0x91,
+    0xFF,
+    0xFF,
+    0xFF,
+    0xFF,
+    0xFF,
+    0xFF,
+    0xFF,
+    0xFF,
+    0xFF,
+    0xFF,
+    0x94,
+    0xFF,
+    0x00,
+    0xFF,
+    0x01,
+    0x90,
+    0x05,
+    0x81,
+    0x82,
+    0x83,
+    0xFF,
+    0xFF,
+    0xFF,
+    0xFF,
+    0x03,
+    0x92,
+    0xFF,
+    0xFF,
+    0xFF,
+    0xFF,
+    0x02,
+    0x91,
+    0xFF,
+    0xFF,
+    0xFF,
+    0xFF,
+    0xFF,
+    0xFF,
+    0xFF,
+    0xFF,
+    0xFF,
+    0xFF,
+    // behind SRX
+    0x07,
+    0x08,
+    0x09,
+    0x0A,
+    0x0B,
+    0x8A,
+    0x87,
+    0x0C,
+    0x8A,
+    0x0D,
+    0x0E,
+    0x0F,
+    0x10,
+    0x11,
+    0x12,
+    0x8A,
+    0x8A,
+    0x8A,
+    0x8A,
+    0x8A,
+    0x13,
+    0x14,
+    0x8A,
+    0x8A,
+    0x8A,
+    0x8A,
+    0x8A,
+    0x15,
+    0x16,
+    0x17,
+    0x18,
+    0x8A,
+    // behind CRX
+    0x19,
+    0x1A,
+    0x1B,
+    0x1C,
+    0x1D,
+    0x1E,
+    0x1F,
+    0x20,
+    0x21,
+    0x22,
+    0x23,
+    0x24,
+    0x25,
+    0x26,
+    0x27,
+    0x28,
+    0x29,
+    0x2A,
+    0x2B,
+    0x2C,
+    0x2D,
+    0x2E,
+    0x2F,
+    0x30,
+    0x31,
+    0x32,
+    0x33,
+    0x34,
+    0x8A,
+    0x35,
+    0x36,
+    0x8A,
+    0x8A,
+    0x8A,
+    0x8A,
+    0x8A,
+    0x88,
+    0x8A,
+    0x89,
+    0x8A,
+    0x8A,
+    0x8A,
+    0x8A,
+    0x8A,
+    0x8A,
+    0x8A,
+    0x8A,
+    0x8A,
+    0x8A,
+    0x8A,
+    0x8A,
+    0x8A,
+    0x8A,
+    0x8A,
+    0x8A,
+    0x8A,
+    0x8A,
+    0x8A,
+    0x8A,
+    0x8A,
+    0x8A,
+    0x8A,
+    0x8A,
+    0x8A,
+    // behind GRX
+    0x37,
+    0x38,
+    0x39,
+    0x3A,
+    0x3B,
+    0x3C,
+    0x3D,
+    0x3E,
+    0x3F,
+    0x8A,
+    0x8A,
+    0x8A,
+    0x8A,
+    0x8A,
+    0x8A,
+    0x8A,
+    0x8A,
+    0x8A,
+    0x8A,
+    0x8A,
+    0x8A,
+    0x8A,
+    0x8A,
+    0x8A,
+    0x8A,
+    0x8A,
+    0x8A,
+    0x8A,
+    0x8A,
+    0x8A,
+    0x8A,
+    0x8A,
+    0x8A,
+    0x8A,
+    0x8A,
+    0x8A,
+    0x8A,
+    0x8A,
+    0x8A,
+    0x8A,
+    0x8A,
+    0x8A,
+    0x8A,
+    0x8A,
+    0x8A,
+    0x8A,
+    0x8A,
+    0x8A,
+    0x8A,
+    0x8A,
+    0x8A,
+    0x8A,
+    0x8A,
+    0x8A,
+    0x8A,
+    0x8A,
+    0x8A,
+    0x8A,
+    0x8A,
+    0x8A,
+    0x8A,
+    0x8A,
+    0x8A,
+    0x8A,
+    // behind ARX
+    0x40,
+    0x41,
+    0x42,
+    0x43,
+    0x44,
+    0x45,
+    0x46,
+    0x47,
+    0x48,
+    0x49,
+    0x4A,
+    0x4B,
+    0x4C,
+    0x4D,
+    0x4E,
+    0x4F,
+    0x50,
+    0x51,
+    0x52,
+    0x53,
+    0x54,
+    0x8A,
+    0x8A,
+    0x8A,
+    0x8A,
+    0x8A,
+    0x8A,
+    0x8A,
+    0x8A,
+    0x8A,
+    0x8A,
+    0x8A,
+    // config space
+    0x185,
+    0xFF,
+    0x186,
+    0xFF,
+    0x106,
+    0xFF,
+    // MMIO
+    0x19,
+    0xFF,
+    0xFF,
+    0xFF,
+    0x1A,
+    0xFF,
+    0xFF,
+    0xFF,
+    0x1B,
+    0xFF,
+    0xFF,
+    0xFF,
+    0x1C,
+    0xFF,
+    0xFF,
+    0xFF,
+    0x1D,
+    0xFF,
+    0xFF,
+    0xFF,
+    0x1E,
+    0xFF,
+    0xFF,
+    0xFF,
+    0x1F,
+    0xFF,
+    0xFF,
+    0xFF,
+    0x20,
+    0xFF,
+    0xFF,
+    0xFF,
+    0x21,
+    0xFF,
+    0xFF,
+    0xFF,
+    0x22,
+    0xFF,
+    0xFF,
+    0xFF,
+    0x23,
+    0xFF,
+    0xFF,
+    0xFF,
+    0x24,
+    0xFF,
+    0xFF,
+    0xFF,
+    0x25,
+    0xFF,
+    0xFF,
+    0xFF,
+    0x26,
+    0xFF,
+    0xFF,
+    0xFF,
+    0x27,
+    0xFF,
+    0xFF,
+    0xFF,
+    0x28,
+    0xFF,
+    0xFF,
+    0xFF,
+    0x29,
+    0xFF,
+    0xFF,
+    0xFF,
+    0x2A,
+    0xFF,
+    0xFF,
+    0xFF,
+    0x2B,
+    0xFF,
+    0xFF,
+    0xFF,
+    0x2C,
+    0xFF,
+    0xFF,
+    0xFF,
+    0x2D,
+    0xFF,
+    0xFF,
+    0xFF,
+    0x2E,
+    0xFF,
+    0xFF,
+    0xFF,
+    0x2F,
+    0xFF,
+    0xFF,
+    0xFF,
+    0x30,
+    0xFF,
+    0xFF,
+    0xFF,
+    0x31,
+    0xFF,
+    0xFF,
+    0xFF,
+    0x32,
+    0xFF,
+    0xFF,
+    0xFF,
+    0x33,
+    0xFF,
+    0xFF,
+    0xFF,
+    0x34,
+    0xFF,
+    0xFF,
+    0xFF,
+    0xFF,
+    0xFF,
+    0xFF,
+    0xFF,
+    0x35,
+    0xFF,
+    0xFF,
+    0xFF,
+    0x36,
+    0xFF,
+    0xFF,
+    0xFF,
+    0xFF,
+    0xFF,
+    0xFF,
+    0xFF,
+    0x00,
+    0xFF,
+    0xFF,
+    0xFF,
+    0x12,
+    0xFF,
+    0xFF,
+    0xFF,
+    0x18,
+    0xFF,
+    0xFF,
+    0xFF,
+    0xFF,
+    0xFF,
+    0xFF,
+    0xFF,
+    0xFF,
+    0xFF,
+    0xFF,
+    0xFF,
+    0xFF,
+    0xFF,
+    0xFF,
+    0xFF,
+    0xFF,
+    0xFF,
+    0xFF,
+    0xFF,
+    0xFF,
+    0xFF,
+    0xFF,
+    0xFF,
+    0x05,
+    0xFF,
+    0xFF,
+    0xFF,
+    0x81,
+    0xFF,
+    0xFF,
+    0xFF,
+    0x82,
+    0xFF,
+    0xFF,
+    0xFF,
+    0x83,
+    0xFF,
+    0xFF,
+    0xFF,
+    0x80,
+    0xFF,
+    0xFF,
+    0xFF,
+    0xFF,
+    0xFF,
+    0xFF,
+    0xFF,
+    0x56,
+    0xFF,
+    0xFF,
+    0xFF,
+    0x57,
+    0xFF,
+    0xFF,
+    0xFF,
+    0x158,
+    0xFF,
+    0xFF,
+    0xFF,
+    0xFF,
+    0xFF,
+    0xFF,
+    0xFF,
+    0xFF,
+    0xFF,
+    0xFF,
+    0xFF,
+    0x159,
+    0xFF,
+    0x15A,
+    0xFF,
+    0x15B,
+    0xFF,
+    0x15C,
+    0xFF,
+    0x5D,
+    0x5E,
+    0xFF,
+    0xFF,
+    0xFF,
+    0xFF,
+    0xFF,
+    0xFF,
+    0xFF,
+    0xFF,
+    0xFF,
+    0xFF,
+    0x15F,
+    0xFF,
+    0x160,
+    0xFF,
+    0x161,
+    0xFF,
+    0x162,
+    0xFF,
+    0x163,
+    0xFF,
+    0xFF,
+    0xFF,
+    0xFF,
+    0xFF,
+    0xFF,
+    0xFF,
+];
+
+// The table of cells by value, for those who lend it: a constant that is indexed is copied first.
+pub fn cells() -> [u16; CELLS]
+    ensures { λ r. ⌜ r ≡ cellTable ⌝ }
+{
+    TABLE
+}
+
+// The cell of a kind and an address.
+pub fn cell_at(cells: &[u16; CELLS], kind: u8, address: u16) -> u16
+    ensures { λ r. ⌜ r ≡ cellIn (now (cells .entry)) kind address ⌝ }
+{
+    let at = wide(address);
+    let space = kind / 2;
+    if space == 0 {
+        return config_cell(cells, at);
+    }
+    if space == 1 {
+        return port_cell(cells, kind % 2 == 1, at);
+    }
+    if space == 2 {
+        return mmio_cell(cells, at);
+    }
+    NOTHING
+}
+
+fn port_cell(cells: &[u16; CELLS], write: bool, at: usize) -> u16
+    ensures { λ r. ⌜ r ≡ portCell (now (cells .entry)) write at ⌝ }
+{
+    if at < FIRST_PORT {
+        return NOTHING;
+    }
+    if FIRST_PORT + PORTS <= at {
+        return NOTHING;
+    }
+    if write {
+        cells[PORT_WRITES + (at - FIRST_PORT)]
+    } else {
+        cells[at - FIRST_PORT]
+    }
+}
+
+fn mmio_cell(cells: &[u16; CELLS], at: usize) -> u16
+    ensures { λ r. ⌜ r ≡ mmioCell (now (cells .entry)) at ⌝ }
+{
+    if at < MMIO {
+        return cells[MMIO_SPACE + at];
+    }
+    if at < CONFIG_IN_MMIO {
+        return NOTHING;
+    }
+    config_cell(cells, at - CONFIG_IN_MMIO)
+}
+
+fn config_cell(cells: &[u16; CELLS], at: usize) -> u16
+    ensures { λ r. ⌜ r ≡ configCell (now (cells .entry)) at ⌝ }
+{
+    if at < CONFIG {
+        cells[CONFIG_SPACE + at]
+    } else {
+        NOTHING
+    }
+}
+
+// The width that a cell asks for.
+pub fn width_of(cell: u16) -> u8
+    ensures { λ r. ⌜ r ≡ cellWidth cell ⌝ }
+{
+    if cell < WIDER { 1 } else { 2 }
+}
+
+// What a cell names, whatever the file holds.
+fn plain(cell: u16) -> Place
+    ensures { λ r. ⌜ r ≡ plainPlace cell ⌝ }
+{
+    if wide(cell) < REGISTERS {
+        return Place::Register(cell as usize);
+    }
+    match cell {
+        0x80 => Place::PaletteState,
+        0x81 => Place::ReadAddress,
+        0x82 => Place::WriteAddress,
+        0x83 => Place::PixelData,
+        0x84 => Place::ToggleReset,
+        0x85 => Place::Fixed(PCI00),
+        0x86 => Place::Fixed(PCI02),
+        0x87 => Place::Fixed(SR6),
+        0x88 => Place::ToggleState,
+        0x89 => Place::AttributeIndex,
+        _ => Place::Unnamed,
+    }
+}
+
+// What a 3C0h write stores into: the index, or the register behind it.
+fn attribute(toggle: bool, cell: u16) -> Place
+    ensures { λ r. ⌜ r ≡ attributePlace toggle cell ⌝ }
+{
+    if !toggle {
+        return Place::Attribute(ARX);
+    }
+    if wide(cell) < REGISTERS {
+        Place::Attribute(cell as usize)
+    } else {
+        Place::UnnamedAttribute
+    }
+}
+
+fn wide(x: u16) -> usize
+    ensures { λ r. ⌜ r ≡ x ⌝ }
+{
+    x as usize
+}
+
+// What a cell names in a file of these registers and this state.
+pub fn place_of(
+    cells: &[u16; CELLS],
+    registers: &[u16; REGISTERS],
+    state: State,
+    cell: u16,
+) -> Place
+    ensures { λ r. ⌜ r ≡ cellPlace (now (cells .entry)) (seen (now (registers .entry)) state) cell ⌝ }
+{
+    let kind = cell % WIDER;
+    if kind < FIRST_INDEXED {
+        return plain(kind);
+    }
+    match kind {
+        0x90 => plain(cells[BEHIND_SRX + wide(registers[SRX] % SRX_NUMBERS)]),
+        0x91 => plain(cells[BEHIND_CRX + wide(registers[CRX] % CRX_NUMBERS)]),
+        0x92 => plain(cells[BEHIND_GRX + wide(registers[GRX] % GRX_NUMBERS)]),
+        0x93 => plain(cells[BEHIND_ARX + wide(registers[ARX] % ARX_NUMBERS)]),
+        0x94 => attribute(
+            state.toggle,
+            cells[BEHIND_ARX + wide(registers[ARX] % ARX_NUMBERS)],
+        ),
+        _ => Place::Unnamed,
+    }
+}
