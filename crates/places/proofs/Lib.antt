@@ -5,3 +5,4 @@ pub mod TableOfCells
 pub mod IndexedPorts
 pub mod RulesOfPlaces
 pub mod CellsInFile
+pub mod SeenRows
