@@ -1,7 +1,7 @@
 -- 01's table of timing numbers, wide and narrow: each rule of it that the proofs use is one computed test.
 -- Assumes nothing.
 use Prim.Native.Nat.{ℕ, _^_, _<_}
-use mathlib.Core.Path.{_≡_, refl, ap, _∙_, subst}
+use mathlib.Core.Path.{_≡_, refl, sym, ap, _∙_, subst}
 use mathlib.Core.Bool.{Bool, true, false, _&&_}
 use mathlib.Core.List.{List, [], _∷_}
 use native.Mathlib.Omega.{arith}
@@ -9,11 +9,11 @@ use lib.Bits.{bitAnd}
 use lib.Dec.{T, eqb}
 use lib.ListN.{length, getD, take}
 use lib.Seq.{getD-take}
-use Rattle.bits.specs.Encoded.{most, bounded}
 use Rattle.bits.specs.Numbers.{Number, readFrom, readNumbers}
 use Rattle.bits.specs.Pieces.{Piece, width, pieceReach}
 use Rattle.bits.specs.Store.{store, within}
-use Rattle.bits.proofs.Bounded.{read-below, read-first}
+use Rattle.bits.specs.Words.{most, bounded, readWords}
+use Rattle.bits.proofs.Bounded.{words-numbers, read-below, read-first}
 use Rattle.bits.proofs.Split.{reachIn, disjoint, placed}
 use Rattle.bits.proofs.Tables.{piecesOf, tableReach, fitting}
 use Rattle.file.specs.Names.{CR3, CR5, CR9, CR11, CR1A, CR1B}
@@ -31,6 +31,17 @@ pub table-bounded : (w : Bool) → T (bounded (2 ^ 31) 0 (table w))
 unfolding bounded most width table
 table-bounded true = tt
 table-bounded false = tt
+
+table-count : (w : Bool) → length (table w) ≡ 15
+unfolding table
+table-count true = refl
+table-count false = refl
+
+-- so in fifteen places their words are the numbers themselves
+pub words-read : (w : Bool) (registers places : List ℕ) → length places ≡ 15
+    → readWords 0 (table w) registers places ≡ readNumbers (table w) registers
+words-read w registers places e =
+    words-numbers (2 ^ 31) (table w) registers places (omega arith) (table-bounded w) (e ∙ sym (table-count w))
 
 -- all but the last, the screen start, below 2^16
 first-bounded : (w : Bool) → T (bounded (2 ^ 16) 0 (take 14 (table w)))
