@@ -2,7 +2,7 @@
 // A number is kept in 32 bits, and sums are made in 64.
 ghost use mathlib.Core.Path.{_≡_};
 ghost use Prim.Native.Nat.{_+_, _/_, _%_, _^_, _≤_, min};
-ghost use lib.ListN.{length, take, drop};
+ghost use lib.ListN.{take, drop};
 ghost use Rattle.bits.specs.Encoded.{pieceOf, meaningOf, tableOf};
 ghost use Rattle.bits.specs.Pieces.{width as widthOf};
 ghost use Rattle.bits.specs.Words.{readWords};
