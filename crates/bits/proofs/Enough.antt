@@ -1,8 +1,8 @@
--- Of a number that is kept in 32 bits, 32 of its pieces' bits are enough to tell what it means and whether it is in range. Assumes nothing.
-use Prim.Native.Nat.{ℕ, _+_, _-_, _%_, _^_, _≤_, _<_, min}
+-- Of a number that is kept in 32 bits, 32 of its pieces' bits are enough: to shift by, to tell what it means and whether it is in range. Assumes nothing.
+use Prim.Native.Nat.{ℕ, _+_, _-_, _/_, _%_, _^_, _≤_, _<_, min}
 use mathlib.Core.Path.{_≡_, refl, sym, ap, _∙_, subst}
 use mathlib.Core.Bool.{Bool, _&&_}
-use native.Mathlib.Nat.{lt-of-lt-of-le, mod-lt, mod-add-mod, mod-eq-of-lt}
+use native.Mathlib.Nat.{le-refl, lt-of-lt-of-le, mod-lt, mod-add-mod, mod-eq-of-lt, div-eq-of-lt}
 use native.Mathlib.Omega.{arith}
 use borrow.Author.Tests.{leb-true, leb-false, le-leb, lt-ltb}
 use lib.Dec.{leb, ltb}
@@ -23,6 +23,15 @@ by-width P n few many =
 
     whole : n < 32 → min 32 n ≡ n
     whole h = omega arith
+
+pub shifted-out : (number below : ℕ) → number < 2 ^ 32 → 32 ≤ below → number / 2 ^ below ≡ 0
+shifted-out number below h l = div-eq-of-lt (lt-of-lt-of-le h (pow-mono l))
+
+-- above its 32 bits a number has nothing
+pub shift-enough : (number below : ℕ) → number < 2 ^ 32 → number / 2 ^ min 32 below ≡ number / 2 ^ below
+shift-enough number below h =
+    by-width (λ (x : ℕ). number / 2 ^ x ≡ number / 2 ^ below) below (λ few. refl)
+    (λ many. shifted-out number 32 h (le-refl 32) ∙ sym (shifted-out number below h many))
 
 -- an end's low bits are those stored
 low-of-end : (start n low : ℕ) → 32 ≤ n → low < 2 ^ n → endAfter start n low % 2 ^ 32 ≡ low % 2 ^ 32

@@ -8,8 +8,8 @@ pub mod Part
 pub mod Piece
 pub mod Split
 pub mod Tables
+pub mod Enough
 pub mod Encoded
 pub mod Bounded
-pub mod Enough
 pub mod Rows
 pub mod Walk

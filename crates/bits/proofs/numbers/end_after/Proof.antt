@@ -1,5 +1,5 @@
 -- `bits::numbers::end_after` meets its contract: the definition's own sum, below 2^34. Assumes nothing.
-use Prim.Native.Nat.{_+_, _^_, _<_}
+use Prim.Native.Nat.{_^_, _<_}
 use native.Mathlib.Nat.{mod-lt}
 use native.Mathlib.Omega.{arith}
 use lib.Pow.{pow-pos, pow-mono}
@@ -12,7 +12,10 @@ add-low-bits : tie.Need-add-low-bits
 add-low-bits c = omega (arith, c .power .ensures, pow-mono {i = c .before .args .n} {j = 32} (c .before .pre))
 
 sub-low-bits : tie.Need-sub-low-bits
-sub-low-bits c = omega (arith, mod-lt (c .before .before .args .start + 1) (pow-pos (c .before .before .args .n)))
+sub-low-bits c = omega (arith, below)
+  where
+    below : c .low-bits .result < 2 ^ c .before .before .args .n
+    below = rw (c .low-bits .ensures) (mod-lt _ (pow-pos (c .before .before .args .n)))
 
 add-end : tie.Need-add-end
 add-end c =
