@@ -5,8 +5,8 @@ use mathlib.Core.List.{List, [], _∷_, _++_}
 use lib.Dec.{T}
 use Rattle.bits.specs.Numbers.{Number, storedFor, writeNumbers}
 use Rattle.bits.specs.Pieces.{Piece, width, pieceReach, put, scatter}
+use Rattle.bits.specs.Reach.{piecesOf}
 use Rattle.bits.specs.Store.{within}
-use Rattle.bits.proofs.Tables.{piecesOf}
 use Rattle.bits.proofs.Test.{left, right, both}
 use Rattle.file.specs.declared.effect.Effect.{Effect}
 use Rattle.file.specs.declared.effect.Effect.the-variants.{Store}
@@ -16,7 +16,7 @@ use Rattle.file.specs.File.{register, withRegisters}
 use Rattle.file.specs.Registers.{storedBits}
 use Rattle.file.specs.Sound.{sound}
 use Rattle.file.proofs.Soundness.{apply-sound, keeps}
-use Rattle.timing.proofs.Computed.{storable}
+use Rattle.timing.specs.Promises.{storable}
 
 storable-left : (ps qs : List Piece) → T (storable (ps ++ qs)) → T (storable ps)
 unfolding storable

@@ -1,10 +1,10 @@
--- `timing::numbers::row_pieces` meets its contract. Assumes nothing.
+-- `bits::numbers::row_pieces` meets its contract. Assumes nothing.
 use Prim.Native.Nat.{_/_, _%_}
 use denote.Ref.{now}
-use Rattle.timing.proofs.Part.{part-clipped}
+use Rattle.bits.proofs.Part.{part-clipped}
 use borrow.Author.Needs.{needs}
-use Rattle.timing.proofs.numbers.row_pieces.Statement.{statement}
-use Rattle.timing.proofs.numbers.row_pieces.Tie as tie
+use Rattle.bits.proofs.numbers.row_pieces.Statement.{statement}
+use Rattle.bits.proofs.numbers.row_pieces.Tie as tie
 
 returns : tie.Need-returns
 returns c = part-clipped (now (c .before .before .before .before .args .pieces)) (c .before .before .before .before .args .row / 256) (c .before .before .before .before .args .row % 16)

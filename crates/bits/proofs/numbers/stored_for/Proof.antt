@@ -1,9 +1,9 @@
--- `timing::numbers::stored_for` meets its contract, by the two meanings. Assumes nothing.
+-- `bits::numbers::stored_for` meets its contract, by the two meanings. Assumes nothing.
 use native.Mathlib.Omega.{arith}
 use Rattle.bits.specs.Numbers.{storedFor}
 use Rattle.bits.proofs.Encoded.{meaning-end, meaning-plus}
-use Rattle.timing.proofs.numbers.stored_for.Statement.{statement}
-use Rattle.timing.proofs.numbers.stored_for.Tie as tie
+use Rattle.bits.proofs.numbers.stored_for.Statement.{statement}
+use Rattle.bits.proofs.numbers.stored_for.Tie as tie
 
 returns : tie.Need-returns
 unfolding storedFor

@@ -1,9 +1,9 @@
--- `timing::numbers::low_bits` meets its contract: a mask of ones is a remainder. Assumes nothing.
+-- `bits::numbers::low_bits` meets its contract: a mask of ones is a remainder. Assumes nothing.
 use lib.Bits.{and-mask}
 use lib.Pow.{pow-pos}
 use borrow.Author.Needs.{needs}
-use Rattle.timing.proofs.numbers.low_bits.Statement.{statement}
-use Rattle.timing.proofs.numbers.low_bits.Tie as tie
+use Rattle.bits.proofs.numbers.low_bits.Statement.{statement}
+use Rattle.bits.proofs.numbers.low_bits.Tie as tie
 
 sub-result : tie.Need-sub-result
 sub-result c = rw (c .power .ensures) (pow-pos (c .before .args .n))
