@@ -10,3 +10,4 @@ pub mod Soundness
 pub mod Reach
 pub mod Lock
 pub mod IndicesAndToggle
+pub mod HandsBack

@@ -210,4 +210,3 @@ spoken row cell t =
           right (not (eqb cell nothingHeld) && eqb (row .width) (cellWidth cell))
           (ltb (cell % wider) firstIndexed && samePlace (row .place) (plainPlace (cell % wider)) || isDoor doors (row .kind) (row .address) cell) t;
     }
-

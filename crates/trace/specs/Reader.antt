@@ -6,14 +6,14 @@ use mathlib.Core.List.{List}
 use lib.Dec.{ltb}
 use lib.ListN.{length, take, drop}
 use denote.Ref.{now}
-use Rattle.access.specs.declared.reader.Next.{Next}
-use Rattle.access.specs.declared.reader.Next.the-variants.{Item, End}
-use Rattle.access.specs.declared.reader.HandedBack.{HandedBack}
-use Rattle.access.specs.declared.reader.RanAt.{RanAt}
-use Rattle.access.specs.declared.reader.Reader.{Reader}
+use Rattle.trace.specs.declared.reader.Next.{Next}
+use Rattle.trace.specs.declared.reader.Next.the-variants.{Item, End}
+use Rattle.trace.specs.declared.reader.HandedBack.{HandedBack}
+use Rattle.trace.specs.declared.reader.RanAt.{RanAt}
+use Rattle.trace.specs.declared.reader.Reader.{Reader}
 use Rattle.file.specs.declared.registers.File.{File}
-use Rattle.access.specs.Records.{itemOf}
-use Rattle.access.specs.Run.{run}
+use Rattle.trace.specs.Records.{itemOf}
+use Rattle.trace.specs.Run.{run}
 
 -- what stands at a position of a trace: a record or the last fragment, or its end
 unfoldable pub nextAt : List ℕ → ℕ → Next

@@ -5,17 +5,17 @@ use mathlib.Core.Bool.{cond}
 use mathlib.Core.List.{List, [], _∷_}
 use lib.Dec.{leb}
 use lib.ListN.{length, getD, take, drop}
 use Rattle.access.specs.declared.record.Record.{Record}
 use Rattle.access.specs.declared.record.Reply.{Reply}
 use Rattle.access.specs.declared.record.Item.{Item}
 use Rattle.access.specs.declared.record.Item.the-variants.{Whole, Fragment}
 
 -- the number of two and of four bytes, little-endian, from a place of a list on; a missing byte counts as zero
 unfoldable pub two : List ℕ → ℕ → ℕ
 two bytes at = getD bytes at 0 + 256 * getD bytes (at + 1) 0
 
 unfoldable pub four : List ℕ → ℕ → ℕ
-four bytes at = two bytes at + 65536 * two bytes (at + 2)
+four bytes at = getD bytes at 0 + 256 * getD bytes (at + 1) 0 + 65536 * getD bytes (at + 2) 0 + 16777216 * getD bytes (at + 3) 0
 
 -- 'byte 0 kind, byte 1 width in bytes, bytes 2-3 address, bytes 4-7 value'
 unfoldable pub recordOf : List ℕ → Record

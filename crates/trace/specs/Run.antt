@@ -8,9 +8,9 @@ use Rattle.file.specs.declared.answer.Answer.{Answer}
 use Rattle.file.specs.declared.answer.Answer.the-variants.{Done, NotSound}
 use Rattle.file.specs.declared.registers.File.{File}
 use Rattle.file.specs.Sound.{sound}
 use Rattle.access.specs.declared.record.Item.{Item}
 use Rattle.access.specs.Access.{accessItem, recordIn, replyTo}
-use Rattle.access.specs.Records.{items, itemCount, replyBytes}
+use Rattle.trace.specs.Records.{items, itemCount, replyBytes}
 
 -- the file after the items of a list
 unfoldable pub fileAfter : File → List Item → File
@@ -28,7 +28,7 @@ replies f [] = []
 replies f (i ∷ is) = replyBytes (replyTo (recordIn i) (accessItem f i .answer)) ++ replies (accessItem f i .file) is
 
 -- what a run leaves: its answer, the new file, the count, the reply buffer, and the part of the trace not yet read
-pub record Ran : Type 0 where
+pub record RunLeft : Type 0 where
   pub answer : Answer
   pub file : File
   pub count : ℕ
@@ -39,7 +39,7 @@ pub record Ran : Type 0 where
 unfoldable pub runCount : List ℕ → List ℕ → ℕ
 runCount trace buffer = min (itemCount trace) (length buffer / 8)
 
-unfoldable pub ran : ℕ → File → List ℕ → List ℕ → Ran
+unfoldable pub ran : ℕ → File → List ℕ → List ℕ → RunLeft
 ran count f trace buffer =
     record {
       answer = Done 0;
@@ -50,14 +50,14 @@ ran count f trace buffer =
     }
 
 -- 'An unsound file: code 12, count 0, the whole trace handed back.'
-unfoldable pub run : File → List ℕ → List ℕ → Ran
+unfoldable pub run : File → List ℕ → List ℕ → RunLeft
 run f trace buffer =
     cond (sound f) (ran (runCount trace buffer) f trace buffer)
     (record { answer = NotSound; file = f; count = 0; buffer = buffer; rest = trace })
 
 -- a run over what another leaves, and the bytes that a run fills
-unfoldable pub resumed : Ran → List ℕ → Ran
+unfoldable pub resumed : RunLeft → List ℕ → RunLeft
 resumed r buffer = run (r .file) (r .rest) buffer
 
-unfoldable pub filled : Ran → List ℕ
+unfoldable pub filled : RunLeft → List ℕ
 filled r = take (8 * r .count) (r .buffer)

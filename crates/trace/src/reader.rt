@@ -2,12 +2,12 @@
 ghost use mathlib.Core.Path.{_≡_};
 ghost use Prim.Native.Nat.{_*_, min};
 ghost use lib.ListN.{length, drop};
-ghost use Rattle.access.specs.Reader.{nextAt, afterNext, afterMany, ranAt, handedBack};
-ghost use Rattle.access.specs.Run.{run as runOf};
-use crate::record::Item;
+ghost use Rattle.trace.specs.Reader.{nextAt, afterNext, afterMany, ranAt, handedBack};
+ghost use Rattle.trace.specs.Run.{run as runOf};
 use crate::running::Ran;
 use crate::running::run;
 use crate::wire::item_of;
+use access::Item;
 use file::File;
 
 // What stands next in a trace: a record or the last fragment, or its end.

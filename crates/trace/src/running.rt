@@ -1,34 +1,36 @@
 // A run over a trace: the file's parts are locals, and an access changes one of them.
 ghost use mathlib.Core.Path.{_≡_};
-ghost use mathlib.Core.Bool.{false, cond};
+ghost use mathlib.Core.Bool.{cond};
 ghost use mathlib.Core.List.{_++_};
 ghost use Prim.Native.Nat.{_+_, _*_, _%_, _<_, _≤_};
 ghost use lib.Dec.{T};
 ghost use lib.ListN.{length, getD, take, drop, set};
 ghost use Rattle.bits.specs.Store.{store as storeBits};
-ghost use Rattle.file.specs.Sound.{allWithin, sound};
-ghost use Rattle.access.specs.Access.{replyTo};
-ghost use Rattle.access.specs.Records.{recordOf, replyBytes, items};
 ghost use Rattle.file.specs.declared.answer.Answer.the-variants.{Done as DoneAnswer, Malformed as MalformedAnswer};
-ghost use Rattle.file.specs.Effects.{apply as applyTo};
-ghost use Rattle.file.specs.declared.registers.File.{File as FileOf};
-ghost use Rattle.file.specs.Registers.{storedTable};
-ghost use Rattle.access.specs.Run.{fileAfter, replies as repliesOf, runCount, run as runOf};
-ghost use Rattle.access.specs.Served.{Parts, putBack, lands, Serves};
-ghost use Rattle.access.specs.Looked.{shownIn, atPixels};
-ghost use Rattle.access.specs.Cells.{cellTable};
-use crate::decode;
-use crate::engine;
-use crate::record::Record;
+ghost use Rattle.file.specs.File.{seen, paletteCount, bankCount};
+ghost use Rattle.file.specs.Palette.{component as componentOf};
+ghost use Rattle.file.specs.Registers.{registerCount, storedTable};
+ghost use Rattle.file.specs.Sound.{sound};
+ghost use Rattle.places.specs.EngineCells.{cellTable};
+ghost use Rattle.access.specs.Access.{replyTo};
+ghost use Rattle.trace.specs.EngineServed.{Answered, Puts, Serves};
+ghost use Rattle.trace.specs.Records.{recordOf, replyBytes, items};
+ghost use Rattle.trace.specs.Run.{fileAfter, replies as repliesOf, runCount, run as runOf};
 use crate::wire::put_reply;
 use crate::wire::record_at;
 use crate::wire::record_of;
+use access::Record;
+use access::decide;
+use access::is_in_bank;
 use file::Answer;
+use file::BANK;
 use file::Colour;
 use file::Effect;
 use file::File;
-use file::Pointer;
+use file::REGISTERS;
+use file::State;
 use file::is_sound;
+use places::CELLS;
 
 // What a run hands back: its answer, the new file and the count of replies. What is left of the trace begins at 8 times the count.
 pub struct Ran {
@@ -37,56 +39,62 @@ pub struct Ran {
     pub count: usize,
 }
 
-// One of two colours.
-fn pick(first: bool, a: Colour, b: Colour) -> Colour
-    ensures { λ r. ⌜ r ≡ cond first a b ⌝ }
-{
-    if first { a } else { b }
-}
-
 // The entry of the palette that the pointer names, and that of the bank.
-fn palette_entry(pointer: Pointer) -> usize
-    ensures { λ r. ⌜ (r ≡ pointer .address) × (r < 256) ⌝ }
+fn palette_entry(state: State) -> usize
+    ensures { λ r. ⌜ (r ≡ state .pointer .address) × (r < paletteCount) ⌝ }
 {
-    pointer.address as usize
+    state.pointer.address as usize
 }
 
-fn bank_entry(pointer: Pointer) -> usize
-    ensures { λ r. ⌜ (r ≡ pointer .address % 16) × (r < 16) ⌝ }
+fn bank_entry(state: State) -> usize
+    ensures { λ r. ⌜ (r ≡ state .pointer .address % bankCount) × (r < bankCount) ⌝ }
 {
-    (pointer.address % 16) as usize
+    state.pointer.address as usize % BANK
+}
+
+// The component of the next colour, of the entry of the bank or the palette.
+fn component(bank: bool, in_bank: Colour, in_palette: Colour, state: State) -> u16
+    ensures { λ r. ⌜ r ≡ componentOf (cond bank in_bank in_palette) (state .pointer .next) ⌝ }
+{
+    let next = state.pointer.next;
+    if bank {
+        in_bank.component(next) as u16
+    } else {
+        in_palette.component(next) as u16
+    }
 }
 
 // One register stored where it stands.
-fn store_in(registers: &mut [u16; 100], number: usize, reach: u16, value: u16)
-    ensures { λ _. ⌜ (number < 100 → now (registers .exit) ≡ set (now (registers .entry)) number (storeBits reach (getD (now (registers .entry)) number 0) value)) ⌝ }
+fn store_in(registers: &mut [u16; REGISTERS], number: usize, reach: u16, value: u16)
+    ensures { λ _. ⌜ (number < registerCount → now (registers .exit) ≡ set (now (registers .entry)) number (storeBits reach (getD (now (registers .entry)) number 0) value)) ⌝ }
 {
-    if number < 100 {
+    if number < REGISTERS {
         registers[number] = bits::store(reach, registers[number], value);
     }
 }
 
-// What an access leaves beside the registers: its reply's code and value, pointer, toggle, and a colour for the palette or the bank.
+// What an access leaves beside the registers: its reply's code and value, the state; whether what was read is the pixel that the pointer
+// names, and whether it paints, a colour, in the bank or the palette.
 pub struct Served {
     pub code: u8,
     pub value: u16,
-    pub pointer: Pointer,
-    pub toggle: bool,
-    pub palette: bool,
+    pub state: State,
+    pub pixel: bool,
+    pub paints: bool,
     pub bank: bool,
     pub colour: Colour,
 }
 
-// The parts before an access: nothing is answered or painted yet.
-fn unpainted(pointer: Pointer, toggle: bool) -> Served
-    ensures { λ r. ⌜ (r .pointer ≡ pointer) × (r .toggle ≡ toggle) × (r .palette ≡ false) × (r .bank ≡ false) ⌝ }
+// An access that is answered, before its effect.
+fn answered(answer: Answer, pixel: bool, state: State) -> Served
+    ensures { λ r. ⌜ Answered answer pixel state r ⌝ }
 {
     Served {
-        code: 0,
-        value: 0,
-        pointer,
-        toggle,
-        palette: false,
+        code: answer.code(),
+        value: answer.value(),
+        state,
+        pixel,
+        paints: false,
         bank: false,
         colour: Colour {
             red: 0,
@@ -97,9 +105,8 @@ fn unpainted(pointer: Pointer, toggle: bool) -> Served
 }
 
 // An effect on the registers where they stand, and on the other parts by value.
-fn put_effect(registers: &mut [u16; 100], before: Served, effect: Effect) -> Served
-    ensures { λ r. ⌜ (r .code ≡ before .code) × (r .value ≡ before .value) ⌝ }
-    ensures { λ r. ⌜ ((f : FileOf) → Parts f (now (registers .entry)) before → T (lands (before .pointer) effect) → applyTo effect f ≡ putBack f (before .pointer) (now (registers .exit)) r) ⌝ }
+fn put_effect(registers: &mut [u16; REGISTERS], before: Served, effect: Effect) -> Served
+    ensures { λ r. ⌜ Puts (now (registers .entry)) before effect (now (registers .exit)) r ⌝ }
 {
     let mut after = before;
     match effect {
@@ -108,115 +115,87 @@ fn put_effect(registers: &mut [u16; 100], before: Served, effect: Effect) -> Ser
             register,
             reach,
             value,
+            flips,
         } => {
             store_in(registers, register, reach, value);
+            after.state = before.state.flipped(flips);
         }
-        Effect::StoreAndFlip {
-            register,
-            reach,
-            value,
-        } => {
-            store_in(registers, register, reach, value);
-            after.toggle = !before.toggle;
+        Effect::Toggle(toggle) => {
+            after.state = before.state.toggling(toggle);
         }
-        Effect::Toggle(state) => {
-            after.toggle = state;
-        }
-        Effect::Move(next) => {
-            after.pointer = next;
+        Effect::Move(pointer) => {
+            after.state = before.state.pointing(pointer);
         }
         Effect::Paint {
             bank,
             entry: _,
             colour,
-            pointer: next,
+            pointer,
         } => {
-            after.palette = !bank;
+            after.paints = true;
             after.bank = bank;
             after.colour = colour;
-            after.pointer = next;
+            after.state = before.state.pointing(pointer);
         }
     }
     after
 }
 
-// One access: the registers where they stand, the other parts by value. `shown` is the component that pixel data shows.
+// One access: the registers where they stand, the state by value.
 fn serve(
-    cells: &[u8; 534],
-    stored: &[u16; 100],
-    registers: &mut [u16; 100],
-    before: Served,
-    shown: u8,
+    cells: &[u16; CELLS],
+    stored: &[u16; REGISTERS],
+    registers: &mut [u16; REGISTERS],
+    state: State,
     asked: Record,
 ) -> Served
-    requires { ⌜ now cells ≡ cellTable ⌝ }
-    requires { ⌜ now stored ≡ storedTable ⌝ }
-    requires { ⌜ T (allWithin storedTable (now registers)) ⌝ }
-    ensures { λ r. ⌜ ((f : FileOf) → T (sound f) → Parts f (now (registers .entry)) before → (T (atPixels (asked .address)) → shown ≡ shownIn f) → Serves f asked (before .pointer) (now (registers .exit)) r) ⌝ }
+    requires { ⌜ (now cells ≡ cellTable) × (now stored ≡ storedTable) × T (sound (seen (now registers) state)) ⌝ }
+    ensures { λ r. ⌜ Serves (seen (now (registers .entry)) state) asked (now (registers .exit)) r ⌝ }
 {
-    let pointer = before.pointer;
-    let decision = engine::decide(
-        cells,
-        stored,
-        registers,
-        before.toggle,
-        pointer,
-        shown,
-        asked,
-    );
+    let decision = decide(cells, stored, registers, state, asked);
     let answer = decision.answer;
-    let mut said = before;
-    said.code = answer.code();
-    said.value = answer.value();
     let effect = decision.effect;
-    put_effect(registers, said, effect)
+    let before = answered(answer, decision.pixel, state);
+    put_effect(registers, before, effect)
 }
 
 // The first `count` whole records of a trace, which has them, into as many places of a reply buffer, which has them.
 fn run_whole(whole: File, trace: &[u8], replies: &mut [u8], count: usize) -> File
-    requires { ⌜ T (sound whole) ⌝ }
-    requires { ⌜ 8 * count ≤ length (now trace) ⌝ }
-    requires { ⌜ 8 * count ≤ length (now replies) ⌝ }
+    requires { ⌜ T (sound whole) × (8 * count ≤ length (now trace)) × (8 * count ≤ length (now replies)) ⌝ }
     ensures { λ r. ⌜ r ≡ fileAfter whole (items count (now (trace .entry))) ⌝ }
     ensures { λ _. ⌜ now (replies .exit) ≡ repliesOf whole (items count (now (trace .entry))) ++ drop (8 * count) (now (replies .entry)) ⌝ }
 {
     let mut registers = whole.registers;
     let mut palette = whole.palette;
     let mut bank = whole.bank;
-    let mut pointer = whole.pointer;
-    let mut toggle = whole.toggle;
-    let cells = decode::cells();
-    let stored = engine::stored();
-    let mut n: usize = 0;
-    while n < count {
+    let mut state = whole.state;
+    let cells = places::cells();
+    let stored = File::stored();
+    for n in 0..count {
         let asked = record_at(trace, 8 * n);
-        let at = palette_entry(pointer);
-        let within = bank_entry(pointer);
-        let mut shown: u8 = 0;
-        if engine::is_at_pixels(asked.address) {
-            let named = pick(engine::is_in_bank(&registers), bank[within], palette[at]);
-            shown = named.component(pointer.next);
+        let at = palette_entry(state);
+        let within = bank_entry(state);
+        let served = serve(&cells, &stored, &mut registers, state, asked);
+        let mut value = served.value;
+        if served.pixel {
+            value = component(is_in_bank(&registers), bank[within], palette[at], state);
         }
-        let before = unpainted(pointer, toggle);
-        let after = serve(&cells, &stored, &mut registers, before, shown, asked);
-        put_reply(replies, 8 * n, asked, after.code, after.value);
-        let colour = after.colour;
-        if after.palette {
-            palette[at] = colour;
+        put_reply(replies, 8 * n, asked, served.code, value);
+        let colour = served.colour;
+        if served.paints {
+            if served.bank {
+                bank[within] = colour;
+            } else {
+                palette[at] = colour;
+            }
         }
-        if after.bank {
-            bank[within] = colour;
-        }
-        pointer = after.pointer;
-        toggle = after.toggle;
-        n += 1;
+        state = served.state;
     }
     File {
         registers,
         palette,
         bank,
-        pointer,
-        toggle,
+        state,
     }
 }
 

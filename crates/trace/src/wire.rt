@@ -3,29 +3,29 @@ ghost use mathlib.Core.Path.{_≡_};
 ghost use mathlib.Core.List.{_++_};
 ghost use Prim.Native.Nat.{_+_, _*_, _≤_};
 ghost use lib.ListN.{length, getD, take, drop};
-ghost use Rattle.access.specs.Records.{recordOf, bytesOf, replyBytes, itemOf};
-use crate::record::Item;
-use crate::record::Record;
-use crate::record::Reply;
+ghost use Rattle.trace.specs.Records.{recordOf, bytesOf, replyBytes, itemOf};
+use access::Item;
+use access::Record;
+use access::Reply;
 
 // A byte; one that is missing counts as zero.
-pub fn byte_at(bytes: &[u8], at: usize) -> u8
+fn byte_at(bytes: &[u8], at: usize) -> u8
     ensures { λ r. ⌜ r ≡ getD (now (bytes .entry)) at 0 ⌝ }
 {
     if at < bytes.len() { bytes[at] } else { 0 }
 }
 
-// The number of two bytes, and of two such numbers, the low one first.
+// The number of two bytes and of four, the low one first. Four bytes as one flat sum compile to one load.
 pub fn two(low: u8, high: u8) -> u16
     ensures { λ r. ⌜ r ≡ low + 256 * high ⌝ }
 {
     low as u16 + 256 * (high as u16)
 }
 
-pub fn four(low: u16, high: u16) -> u32
-    ensures { λ r. ⌜ r ≡ low + 65536 * high ⌝ }
+fn four(a: u8, b: u8, c: u8, d: u8) -> u32
+    ensures { λ r. ⌜ r ≡ a + 256 * b + 65536 * c + 16777216 * d ⌝ }
 {
-    low as u32 + 65536 * (high as u32)
+    a as u32 + 256 * (b as u32) + 65536 * (c as u32) + 16777216 * (d as u32)
 }
 
 // The record of the first 8 bytes; a missing one counts as zero, and what stands behind them isn't looked at.
@@ -33,13 +33,17 @@ pub fn record_of(bytes: &[u8]) -> Record
     ensures { λ r. ⌜ r ≡ recordOf (take 8 (now (bytes .entry))) ⌝ }
 {
     let address = two(byte_at(bytes, 2), byte_at(bytes, 3));
-    let low = two(byte_at(bytes, 4), byte_at(bytes, 5));
-    let high = two(byte_at(bytes, 6), byte_at(bytes, 7));
+    let value = four(
+        byte_at(bytes, 4),
+        byte_at(bytes, 5),
+        byte_at(bytes, 6),
+        byte_at(bytes, 7),
+    );
     Record {
         kind: byte_at(bytes, 0),
         width: byte_at(bytes, 1),
         address,
-        value: four(low, high),
+        value,
     }
 }
 
@@ -60,13 +64,12 @@ pub fn record_at(bytes: &[u8], at: usize) -> Record
     requires { ⌜ at + 8 ≤ length (now bytes) ⌝ }
     ensures { λ r. ⌜ r ≡ recordOf (take 8 (drop at (now (bytes .entry)))) ⌝ }
 {
-    let low = two(bytes[at + 4], bytes[at + 5]);
-    let high = two(bytes[at + 6], bytes[at + 7]);
+    let value = four(bytes[at + 4], bytes[at + 5], bytes[at + 6], bytes[at + 7]);
     Record {
         kind: bytes[at],
         width: bytes[at + 1],
         address: two(bytes[at + 2], bytes[at + 3]),
-        value: four(low, high),
+        value,
     }
 }
 

@@ -71,7 +71,7 @@ returns-11 c = rw (c .match .keys10)
 
 returns-12 : tie.Need-returns-12
 unfolding plainPlace
-returns-12 c = 
+returns-12 c =
     let cell = c .before .before .before .args .cell in
     rw (← c .before .before .wide .ensures, le-ltb _ _ (c .before .if1 .left), c .before .before .wide .ensures)
     (by-test (ltb cell firstAlone) (λ e. rw e)

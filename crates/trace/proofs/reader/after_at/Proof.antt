@@ -1,9 +1,9 @@
 -- `after_at` meets its contract. Assumes nothing.
 use native.Mathlib.Omega.{arith}
-use Rattle.access.proofs.Reading.{after-is}
+use Rattle.trace.proofs.Positions.{after-is}
 use borrow.Author.Needs.{needs}
-use Rattle.access.proofs.reader.after_at.Statement.{statement}
-use Rattle.access.proofs.reader.after_at.Tie as tie
+use Rattle.trace.proofs.reader.after_at.Statement.{statement}
+use Rattle.trace.proofs.reader.after_at.Tie as tie
 
 returns : tie.Need-returns
 returns c = omega (arith, after-is (c .before .args .trace .now) (c .before .args .at))

@@ -2,10 +2,10 @@
 use mathlib.Core.Path.{ap}
 use native.Mathlib.Omega.{arith}
 use lib.ListN.{length, length-drop}
-use Rattle.access.proofs.Reading.{many-after}
+use Rattle.trace.proofs.Positions.{many-after}
 use borrow.Author.Needs.{needs}
-use Rattle.access.proofs.reader.after_many.Statement.{statement}
-use Rattle.access.proofs.reader.after_many.Tie as tie
+use Rattle.trace.proofs.reader.after_many.Statement.{statement}
+use Rattle.trace.proofs.reader.after_many.Tie as tie
 
 add-result : tie.Need-add-result
 add-result c =

@@ -1,8 +1,8 @@
 -- `left_at` meets its contract. Assumes nothing.
-use Rattle.access.proofs.Reading.{part-left, nothing-left}
+use Rattle.trace.proofs.Positions.{part-left, nothing-left}
 use borrow.Author.Needs.{needs}
-use Rattle.access.proofs.reader.left_at.Statement.{statement}
-use Rattle.access.proofs.reader.left_at.Tie as tie
+use Rattle.trace.proofs.reader.left_at.Statement.{statement}
+use Rattle.trace.proofs.reader.left_at.Tie as tie
 
 returns : tie.Need-returns
 returns c = part-left (c .before .before .args .trace .now) (c .before .before .args .at)

@@ -1,8 +1,8 @@
 -- `next_at` meets its contract. Assumes nothing.
-use Rattle.access.proofs.Reading.{next-read, end-read}
+use Rattle.trace.proofs.Positions.{next-read, end-read}
 use borrow.Author.Needs.{needs}
-use Rattle.access.proofs.reader.next_at.Statement.{statement}
-use Rattle.access.proofs.reader.next_at.Tie as tie
+use Rattle.trace.proofs.reader.next_at.Statement.{statement}
+use Rattle.trace.proofs.reader.next_at.Tie as tie
 
 returns : tie.Need-returns
 returns c = next-read (c .before .before .before .before .args .trace .now) (c .before .before .before .before .args .at) _ (c .before .before .if1 .taken) (c .item-of .ensures)

@@ -38,29 +38,29 @@ use denote.Triple.Table.{cited}
 use denote.Triple.Walked.{says, Stays, stay-none, stay-none-slice, walkOf, goes-none, goes-none-slice, ends-at}
 use denote.Exit.{yes}
 use Rattle.bits.proofs.Walk.{contractOf, calls-to, walk-proves}
-use Rattle.access.specs.declared.reader.Reader.{Reader}
-use Rattle.access.proofs.Thin.{Own}
-use Rattle.access.proofs.reader.Reader as T
-use Rattle.access.proofs.reader.Reader.Laws as T′
-use Rattle.access.specs.declared.reader.Next.{Next}
-use Rattle.access.specs.declared.reader.NextAt.{NextAt}
-use Rattle.access.specs.Reader.{nextAt, afterNext}
-use Rattle.access.proofs.reader.Next as S
-use Rattle.access.proofs.reader.Next.Laws as S′
-use Rattle.access.proofs.reader.NextAt as R
-use Rattle.access.proofs.reader.NextAt.Laws as R′
-use Rattle.access.proofs.reader.Reader.next as next
-use Rattle.access.proofs.reader.Reader.next.Symbol as next-def
-use Rattle.access.proofs.reader.Reader.next.Symbol.{name as #next}
-use Rattle.access.proofs.reader.Reader.next.Met as next-thm
-use Rattle.access.proofs.reader.Reader.advanced as advanced
-use Rattle.access.proofs.reader.Reader.advanced.Symbol as advanced-def
-use Rattle.access.proofs.reader.Reader.advanced.Symbol.{name as #advanced}
-use Rattle.access.proofs.reader.Reader.advanced.Met as advanced-thm
-use Rattle.access.proofs.reader.next_from.Key.{name as #next-from}
-use Rattle.access.proofs.reader.next_from as next-from
-use Rattle.access.proofs.reader.next_from.Statement as stated
-use Rattle.access.proofs.reader.next_from.Code as code
+use Rattle.trace.specs.declared.reader.Reader.{Reader}
+use Rattle.trace.proofs.ThinWalks.{Own}
+use Rattle.trace.proofs.reader.Reader as T
+use Rattle.trace.proofs.reader.Reader.Laws as T′
+use Rattle.trace.specs.declared.reader.Next.{Next}
+use Rattle.trace.specs.declared.reader.NextAt.{NextAt}
+use Rattle.trace.specs.Reader.{nextAt, afterNext}
+use Rattle.trace.proofs.reader.Next as S
+use Rattle.trace.proofs.reader.Next.Laws as S′
+use Rattle.trace.proofs.reader.NextAt as R
+use Rattle.trace.proofs.reader.NextAt.Laws as R′
+use Rattle.trace.proofs.reader.Reader.next as next
+use Rattle.trace.proofs.reader.Reader.next.Symbol as next-def
+use Rattle.trace.proofs.reader.Reader.next.Symbol.{name as #next}
+use Rattle.trace.proofs.reader.Reader.next.Met as next-thm
+use Rattle.trace.proofs.reader.Reader.advanced as advanced
+use Rattle.trace.proofs.reader.Reader.advanced.Symbol as advanced-def
+use Rattle.trace.proofs.reader.Reader.advanced.Symbol.{name as #advanced}
+use Rattle.trace.proofs.reader.Reader.advanced.Met as advanced-thm
+use Rattle.trace.proofs.reader.next_from.Key.{name as #next-from}
+use Rattle.trace.proofs.reader.next_from as next-from
+use Rattle.trace.proofs.reader.next_from.Statement as stated
+use Rattle.trace.proofs.reader.next_from.Code as code
 
 abbrev stayed : Stays (next-from.ended .signature .params) (next-from.ended .kept)
 stayed = (stay-none-slice (0 ∷ []) tt (plain (λ _. u8)) yes, (stay-none (λ _. usize) yes, tt))
@@ -151,5 +151,5 @@ next-from-spec 𝓤 H 𝓜 𝓖 𝓡 =
     (goes-none-slice 𝓤 H (𝓖 .A) (givenOf 𝓤 H 𝓜 𝓖) 1 (0 ∷ []) tt (plain (λ _. u8)) yes, (goes-none 𝓤 H (𝓖 .A) (givenOf 𝓤 H 𝓜 𝓖) 1 (λ _. usize) yes (λ κs x f. refl), tt)) (next-from.clauses 𝓤 H (𝓖 .A) (𝓜 .mem) (𝓡 .run))
     (λ κs. (slice-vals, (uint-vals w64, tt))) (λ κs. (shr-slice-tells (named 0) (κs .0) u8, (uint-tells w64, tt)))
     (λ fm κs qs bounds a g are. via 𝓤 _ (fst∗ 𝓤 _ (emp 𝓤)) (walk 𝓤 H (𝓖 .A) (givenOf 𝓤 H 𝓜 𝓖) (𝓜 .mem) (𝓡 .run) (κs .0) (qs .0) (a .0) (a .1 .0) (are .1 .0 .1) (tables 𝓤 H 𝓜 𝓡 code.env .C) (tables 𝓤 H 𝓜 𝓡 code.env .Λ) fm
-    (cited 𝓤 H (Nexts 𝓤 H (𝓖 .A) (𝓜 .mem) (𝓡 .run)) 𝓜 𝓡 code.env #next next-def.routine code.calls-access·reader·Reader·next (next-thm.met 𝓤 H 𝓜 𝓖 𝓡))
-    (cited 𝓤 H (Advances 𝓤 H (𝓖 .A) (𝓜 .mem) (𝓡 .run)) 𝓜 𝓡 code.env #advanced advanced-def.routine code.calls-access·reader·Reader·advanced (advanced-thm.met 𝓤 H 𝓜 𝓖 𝓡)) (are .0)))
+    (cited 𝓤 H (Nexts 𝓤 H (𝓖 .A) (𝓜 .mem) (𝓡 .run)) 𝓜 𝓡 code.env #next next-def.routine code.calls-trace·reader·Reader·next (next-thm.met 𝓤 H 𝓜 𝓖 𝓡))
+    (cited 𝓤 H (Advances 𝓤 H (𝓖 .A) (𝓜 .mem) (𝓡 .run)) 𝓜 𝓡 code.env #advanced advanced-def.routine code.calls-trace·reader·Reader·advanced (advanced-thm.met 𝓤 H 𝓜 𝓖 𝓡)) (are .0)))

@@ -1,8 +1,8 @@
 -- `run_at` meets its contract. Assumes nothing.
-use Rattle.access.proofs.Reading.{ran-left}
+use Rattle.trace.proofs.Positions.{ran-left}
 use borrow.Author.Needs.{needs}
-use Rattle.access.proofs.reader.run_at.Statement.{statement}
-use Rattle.access.proofs.reader.run_at.Tie as tie
+use Rattle.trace.proofs.reader.run_at.Statement.{statement}
+use Rattle.trace.proofs.reader.run_at.Tie as tie
 
 returns : tie.Need-returns
 returns c =

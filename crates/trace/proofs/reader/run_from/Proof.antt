@@ -40,28 +40,28 @@ use Rattle.bits.proofs.Walk.{contractOf, calls-leaving, walk-proves}
 use Rattle.file.specs.declared.registers.File.{File}
 use Rattle.file.proofs.registers.File as F
 use Rattle.file.proofs.registers.File.Laws as F′
-use Rattle.access.specs.Reader.{handedBack}
-use Rattle.access.specs.Run.{run as ran}
-use Rattle.access.specs.declared.reader.HandedBack.{HandedBack}
-use Rattle.access.specs.declared.reader.RanAt.{RanAt}
-use Rattle.access.specs.declared.reader.Reader.{Reader}
-use Rattle.access.proofs.running.Ran as N
-use Rattle.access.proofs.running.Ran.Laws as N′
-use Rattle.access.proofs.reader.HandedBack as B
-use Rattle.access.proofs.reader.HandedBack.Laws as B′
-use Rattle.access.proofs.reader.RanAt as R
-use Rattle.access.proofs.reader.RanAt.Laws as R′
-use Rattle.access.proofs.reader.Reader as T
-use Rattle.access.proofs.reader.Reader.Laws as T′
-use Rattle.access.proofs.Thin.{Own}
-use Rattle.access.proofs.reader.Reader.run as run
-use Rattle.access.proofs.reader.Reader.run.Symbol as run-def
-use Rattle.access.proofs.reader.Reader.run.Symbol.{name as #run}
-use Rattle.access.proofs.reader.Reader.run.Met as run-thm
-use Rattle.access.proofs.reader.run_from.Key.{name as #run-from}
-use Rattle.access.proofs.reader.run_from as run-from
-use Rattle.access.proofs.reader.run_from.Statement as stated
-use Rattle.access.proofs.reader.run_from.Code as code
+use Rattle.trace.specs.Reader.{handedBack}
+use Rattle.trace.specs.Run.{run as ran}
+use Rattle.trace.specs.declared.reader.HandedBack.{HandedBack}
+use Rattle.trace.specs.declared.reader.RanAt.{RanAt}
+use Rattle.trace.specs.declared.reader.Reader.{Reader}
+use Rattle.trace.proofs.running.Ran as N
+use Rattle.trace.proofs.running.Ran.Laws as N′
+use Rattle.trace.proofs.reader.HandedBack as B
+use Rattle.trace.proofs.reader.HandedBack.Laws as B′
+use Rattle.trace.proofs.reader.RanAt as R
+use Rattle.trace.proofs.reader.RanAt.Laws as R′
+use Rattle.trace.proofs.reader.Reader as T
+use Rattle.trace.proofs.reader.Reader.Laws as T′
+use Rattle.trace.proofs.ThinWalks.{Own}
+use Rattle.trace.proofs.reader.Reader.run as run
+use Rattle.trace.proofs.reader.Reader.run.Symbol as run-def
+use Rattle.trace.proofs.reader.Reader.run.Symbol.{name as #run}
+use Rattle.trace.proofs.reader.Reader.run.Met as run-thm
+use Rattle.trace.proofs.reader.run_from.Key.{name as #run-from}
+use Rattle.trace.proofs.reader.run_from as run-from
+use Rattle.trace.proofs.reader.run_from.Statement as stated
+use Rattle.trace.proofs.reader.run_from.Code as code
 
 abbrev stayed : Stays (run-from.ended .signature .params) (run-from.ended .kept)
 stayed = (stay-none-slice (0 ∷ []) tt (plain (λ _. u8)) yes, (stay-none (λ _. usize) yes, (stay-none (λ _. F.the-row) yes, (gave-slice (1 ∷ []) tt (plain (λ _. u8)), tt))))
@@ -178,4 +178,4 @@ run-from-spec 𝓤 H 𝓜 𝓖 𝓡 =
     (λ κs. (shr-slice-tells (named 0) (κs .0) u8, (uint-tells w64, (LL.tells F.the-type F′.the-laws, (mut-slice-tells (named 1) (κs .1 .0) u8, tt)))))
     (λ fm κs qs bounds a g are. via 𝓤 _ (fst∗ 𝓤 _ (emp 𝓤)) (walk 𝓤 H (𝓖 .A) (givenOf 𝓤 H 𝓜 𝓖) (𝓜 .mem) (𝓡 .run) (κs .0) (κs .1 .0) (qs .0) (qs .1 .0) (a .0) (a .1 .0) (a .1 .1 .0) (a .1 .1 .1 .0 .ptr .0) (a .1 .1 .1 .0 .ptr .1) (a .1 .1 .1 .0 .name) (a .1 .1 .1 .0 .now)
     (are .1 .0 .1) (are .1 .1 .0) (tables 𝓤 H 𝓜 𝓡 code.env .C) (tables 𝓤 H 𝓜 𝓡 code.env .Λ) fm
-    (cited 𝓤 H (Run 𝓤 H (𝓖 .A) (𝓜 .mem) (𝓡 .run)) 𝓜 𝓡 code.env #run run-def.routine code.calls-access·reader·Reader·run (run-thm.met 𝓤 H 𝓜 𝓖 𝓡)) (are .0) (are .1 .1 .1 .0 .0 .1)))
+    (cited 𝓤 H (Run 𝓤 H (𝓖 .A) (𝓜 .mem) (𝓡 .run)) 𝓜 𝓡 code.env #run run-def.routine code.calls-trace·reader·Reader·run (run-thm.met 𝓤 H 𝓜 𝓖 𝓡)) (are .0) (are .1 .1 .1 .0 .0 .1)))

@@ -36,23 +36,23 @@ use denote.Triple.Table.{cited}
 use denote.Triple.Walked.{says, Stays, stay-none, stay-none-slice, walkOf, goes-none, goes-none-slice, ends-at}
 use denote.Exit.{yes}
 use Rattle.bits.proofs.Walk.{contractOf, calls-to, walk-proves}
-use Rattle.access.specs.declared.reader.Reader.{Reader}
-use Rattle.access.proofs.Reading.{left-after}
-use Rattle.access.proofs.Thin.{Own}
-use Rattle.access.proofs.reader.Reader as T
-use Rattle.access.proofs.reader.Reader.Laws as T′
-use Rattle.access.proofs.reader.place_after as place
-use Rattle.access.proofs.reader.place_after.Symbol as place-def
-use Rattle.access.proofs.reader.place_after.Symbol.{name as #place-after}
-use Rattle.access.proofs.reader.place_after.Met as place-thm
-use Rattle.access.proofs.reader.Reader.rest as rest
-use Rattle.access.proofs.reader.Reader.rest.Symbol as rest-def
-use Rattle.access.proofs.reader.Reader.rest.Symbol.{name as #rest}
-use Rattle.access.proofs.reader.Reader.rest.Met as rest-thm
-use Rattle.access.proofs.reader.unread.Key.{name as #unread}
-use Rattle.access.proofs.reader.unread as unread
-use Rattle.access.proofs.reader.unread.Statement as stated
-use Rattle.access.proofs.reader.unread.Code as code
+use Rattle.trace.specs.declared.reader.Reader.{Reader}
+use Rattle.trace.proofs.Positions.{left-after}
+use Rattle.trace.proofs.ThinWalks.{Own}
+use Rattle.trace.proofs.reader.Reader as T
+use Rattle.trace.proofs.reader.Reader.Laws as T′
+use Rattle.trace.proofs.reader.place_after as place
+use Rattle.trace.proofs.reader.place_after.Symbol as place-def
+use Rattle.trace.proofs.reader.place_after.Symbol.{name as #place-after}
+use Rattle.trace.proofs.reader.place_after.Met as place-thm
+use Rattle.trace.proofs.reader.Reader.rest as rest
+use Rattle.trace.proofs.reader.Reader.rest.Symbol as rest-def
+use Rattle.trace.proofs.reader.Reader.rest.Symbol.{name as #rest}
+use Rattle.trace.proofs.reader.Reader.rest.Met as rest-thm
+use Rattle.trace.proofs.reader.unread.Key.{name as #unread}
+use Rattle.trace.proofs.reader.unread as unread
+use Rattle.trace.proofs.reader.unread.Statement as stated
+use Rattle.trace.proofs.reader.unread.Code as code
 
 abbrev stayed : Stays (unread.ended .signature .params) (unread.ended .kept)
 stayed = (stay-none-slice (0 ∷ []) tt (plain (λ _. u8)) yes, (stay-none (λ _. usize) yes, tt))
@@ -122,5 +122,5 @@ unread-spec 𝓤 H 𝓜 𝓖 𝓡 =
     (goes-none-slice 𝓤 H (𝓖 .A) (givenOf 𝓤 H 𝓜 𝓖) 1 (0 ∷ []) tt (plain (λ _. u8)) yes, (goes-none 𝓤 H (𝓖 .A) (givenOf 𝓤 H 𝓜 𝓖) 1 (λ _. usize) yes (λ κs x f. refl), tt)) (unread.clauses 𝓤 H (𝓖 .A) (𝓜 .mem) (𝓡 .run))
     (λ κs. (slice-vals, (uint-vals w64, tt))) (λ κs. (shr-slice-tells (named 0) (κs .0) u8, (uint-tells w64, tt)))
     (λ fm κs qs bounds a g are. via 𝓤 _ (fst∗ 𝓤 _ (emp 𝓤)) (walk 𝓤 H (𝓖 .A) (givenOf 𝓤 H 𝓜 𝓖) (𝓜 .mem) (𝓡 .run) (κs .0) (qs .0) (a .0) (a .1 .0) (are .1 .0 .1) (tables 𝓤 H 𝓜 𝓡 code.env .C) (tables 𝓤 H 𝓜 𝓡 code.env .Λ) fm
-    (cited 𝓤 H (Place 𝓤 H (𝓖 .A) (𝓜 .mem) (𝓡 .run)) 𝓜 𝓡 code.env #place-after place-def.routine code.calls-access·reader·place-after (place-thm.met 𝓤 H 𝓜 𝓖 𝓡))
-    (cited 𝓤 H (Rest 𝓤 H (𝓖 .A) (𝓜 .mem) (𝓡 .run)) 𝓜 𝓡 code.env #rest rest-def.routine code.calls-access·reader·Reader·rest (rest-thm.met 𝓤 H 𝓜 𝓖 𝓡)) (are .0)))
+    (cited 𝓤 H (Place 𝓤 H (𝓖 .A) (𝓜 .mem) (𝓡 .run)) 𝓜 𝓡 code.env #place-after place-def.routine code.calls-trace·reader·place-after (place-thm.met 𝓤 H 𝓜 𝓖 𝓡))
+    (cited 𝓤 H (Rest 𝓤 H (𝓖 .A) (𝓜 .mem) (𝓡 .run)) 𝓜 𝓡 code.env #rest rest-def.routine code.calls-trace·reader·Reader·rest (rest-thm.met 𝓤 H 𝓜 𝓖 𝓡)) (are .0)))

@@ -4,13 +4,13 @@ use mathlib.Core.Path.{ap, _∙_}
 use mathlib.Core.List.{List, _++_}
 use lib.ListN.{take, drop}
 use Rattle.file.specs.Answers.{codeOf, valueOf}
 use Rattle.access.specs.declared.record.Record.{Record}
 use Rattle.access.specs.Access.{replyTo}
-use Rattle.access.specs.Records.{recordOf, replyBytes}
-use Rattle.access.proofs.Reading.{part-left}
+use Rattle.trace.specs.Records.{recordOf, replyBytes}
+use Rattle.trace.proofs.Positions.{part-left}
 use borrow.Author.Needs.{needs}
-use Rattle.access.proofs.running.put_fragment.Statement.{statement}
-use Rattle.access.proofs.running.put_fragment.Tie as tie
+use Rattle.trace.proofs.running.put_fragment.Statement.{statement}
+use Rattle.trace.proofs.running.put_fragment.Tie as tie
 
 returns : tie.Need-returns
 unfolding replyTo codeOf valueOf

@@ -1,10 +1,10 @@
 -- `run` meets its contract. Assumes nothing.
 use mathlib.Core.Path.{refl, sym, _∙_}
 use Rattle.bits.proofs.Test.{passes}
-use Rattle.access.specs.Run.{run, ran}
+use Rattle.trace.specs.Run.{run, ran}
 use borrow.Author.Needs.{needs}
-use Rattle.access.proofs.running.run.Statement.{statement}
-use Rattle.access.proofs.running.run.Tie as tie
+use Rattle.trace.proofs.running.run.Statement.{statement}
+use Rattle.trace.proofs.running.run.Tie as tie
 
 is-sound-requires : tie.Need-is-sound-requires
 is-sound-requires c κs = tt

@@ -4,13 +4,13 @@ use mathlib.Core.Path.{refl, sym, ap, _∙_}
 use mathlib.Core.List.{_++_}
 use native.Mathlib.Omega.{arith}
 use lib.ListN.{length, drop}
-use Rattle.access.specs.Records.{items}
-use Rattle.access.specs.Run.{fileAfter, replies}
-use Rattle.access.proofs.Ends.{by-places, by-records, by-fragment, fragment-file, fragment-replies}
-use Rattle.access.proofs.Loop.{next-said}
+use Rattle.trace.specs.Records.{items}
+use Rattle.trace.specs.Run.{fileAfter, replies}
+use Rattle.trace.proofs.RunEnds.{by-places, by-records, by-fragment, fragment-file, fragment-replies}
+use Rattle.trace.proofs.RunLoop.{next-said}
 use borrow.Author.Needs.{needs}
-use Rattle.access.proofs.running.run_sound.Statement.{statement}
-use Rattle.access.proofs.running.run_sound.Tie as tie
+use Rattle.trace.proofs.running.run_sound.Statement.{statement}
+use Rattle.trace.proofs.running.run_sound.Tie as tie
 
 returns : tie.Need-returns
 returns c =

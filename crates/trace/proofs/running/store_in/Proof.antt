@@ -1,8 +1,8 @@
 -- `store_in` meets its contract. Assumes nothing.
 use native.Mathlib.Omega.{arith}
 use borrow.Author.Needs.{needs}
-use Rattle.access.proofs.running.store_in.Statement.{statement}
-use Rattle.access.proofs.running.store_in.Tie as tie
+use Rattle.trace.proofs.running.store_in.Statement.{statement}
+use Rattle.trace.proofs.running.store_in.Tie as tie
 
 returns : tie.Need-returns
 returns c = λ h. rw (c .store .ensures)

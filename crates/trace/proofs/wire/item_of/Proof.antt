@@ -1,8 +1,8 @@
 -- `item_of` meets its contract. Assumes nothing.
-use Rattle.access.proofs.Reading.{whole-read, fragment-read}
+use Rattle.trace.proofs.Positions.{whole-read, fragment-read}
 use borrow.Author.Needs.{needs}
-use Rattle.access.proofs.wire.item_of.Statement.{statement}
-use Rattle.access.proofs.wire.item_of.Tie as tie
+use Rattle.trace.proofs.wire.item_of.Statement.{statement}
+use Rattle.trace.proofs.wire.item_of.Tie as tie
 
 returns : tie.Need-returns
 returns c = fragment-read (c .before .before .before .args .bytes .now) _ (c .before .record-of .ensures) (c .if1 .taken)

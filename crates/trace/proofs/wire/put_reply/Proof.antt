@@ -3,10 +3,10 @@ use native.Mathlib.Numerals.{towards-suc}
 use native.Mathlib.Omega.{arith}
 use lib.ListN.{length-set}
 use lib.Seq.{sets-eq}
-use Rattle.access.specs.Records.{replyBytes}
+use Rattle.trace.specs.Records.{replyBytes}
 use borrow.Author.Needs.{needs}
-use Rattle.access.proofs.wire.put_reply.Statement.{statement}
-use Rattle.access.proofs.wire.put_reply.Tie as tie
+use Rattle.trace.proofs.wire.put_reply.Statement.{statement}
+use Rattle.trace.proofs.wire.put_reply.Tie as tie
 
 slice-write-replies-2 : tie.Need-slice-write-replies-2
 slice-write-replies-2 c = simp length-set (omega (arith, c .pre))

@@ -1,8 +1,8 @@
 -- `record_bytes` meets its contract. Assumes nothing.
-use Rattle.access.specs.Records.{bytesOf}
+use Rattle.trace.specs.Records.{bytesOf}
 use borrow.Author.Needs.{needs}
-use Rattle.access.proofs.wire.record_bytes.Statement.{statement}
-use Rattle.access.proofs.wire.record_bytes.Tie as tie
+use Rattle.trace.proofs.wire.record_bytes.Statement.{statement}
+use Rattle.trace.proofs.wire.record_bytes.Tie as tie
 
 returns : tie.Need-returns
 unfolding bytesOf

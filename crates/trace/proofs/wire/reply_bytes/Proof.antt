@@ -1,8 +1,8 @@
 -- `reply_bytes` meets its contract. Assumes nothing.
-use Rattle.access.specs.Records.{replyBytes}
+use Rattle.trace.specs.Records.{replyBytes}
 use borrow.Author.Needs.{needs}
-use Rattle.access.proofs.wire.reply_bytes.Statement.{statement}
-use Rattle.access.proofs.wire.reply_bytes.Tie as tie
+use Rattle.trace.proofs.wire.reply_bytes.Statement.{statement}
+use Rattle.trace.proofs.wire.reply_bytes.Tie as tie
 
 returns : tie.Need-returns
 unfolding replyBytes

@@ -13,7 +13,7 @@ use Rattle.access.proofs.record.Record.access.Tie as tie
 
 returns : tie.Need-returns
 unfolding access apply
-returns c = 
+returns c =
     let unsound = sym (c .before .is-sound .ensures) ∙ not-true _ (c .if1 .taken) in
     λ i. record { file = apply (sym (unsound-effect (c .before .before .args .whole) (c .before .before .args .self) unsound) i) (c .before .before .args .whole); answer = sym (unsound-answer (c .before .before .args .whole) (c .before .before .args .self) unsound) i }
 

@@ -37,19 +37,19 @@ use denote.Triple.Table.{cited}
 use denote.Triple.Walked.{says, Stays, stay-none, walkOf, goes-none, ends-at}
 use denote.Exit.{yes}
 use Rattle.bits.proofs.Walk.{contractOf, calls-to, walk-proves}
-use Rattle.access.specs.Reader.{afterNext}
-use Rattle.access.specs.declared.reader.Reader.{Reader}
-use Rattle.access.proofs.Thin.{Row, Own, Parts, passed, apart}
-use Rattle.access.proofs.reader.Reader as T
-use Rattle.access.proofs.reader.Reader.Laws as T′
-use Rattle.access.proofs.reader.after_at as at
-use Rattle.access.proofs.reader.after_at.Symbol as at-def
-use Rattle.access.proofs.reader.after_at.Symbol.{name as #after-at}
-use Rattle.access.proofs.reader.after_at.Met as at-thm
-use Rattle.access.proofs.reader.Reader.advanced.Key.{name as #advanced}
-use Rattle.access.proofs.reader.Reader.advanced as advanced
-use Rattle.access.proofs.reader.Reader.advanced.Statement as stated
-use Rattle.access.proofs.reader.Reader.advanced.Code as code
+use Rattle.trace.specs.Reader.{afterNext}
+use Rattle.trace.specs.declared.reader.Reader.{Reader}
+use Rattle.trace.proofs.ThinWalks.{Row, Own, Parts, passed, apart}
+use Rattle.trace.proofs.reader.Reader as T
+use Rattle.trace.proofs.reader.Reader.Laws as T′
+use Rattle.trace.proofs.reader.after_at as at
+use Rattle.trace.proofs.reader.after_at.Symbol as at-def
+use Rattle.trace.proofs.reader.after_at.Symbol.{name as #after-at}
+use Rattle.trace.proofs.reader.after_at.Met as at-thm
+use Rattle.trace.proofs.reader.Reader.advanced.Key.{name as #advanced}
+use Rattle.trace.proofs.reader.Reader.advanced as advanced
+use Rattle.trace.proofs.reader.Reader.advanced.Statement as stated
+use Rattle.trace.proofs.reader.Reader.advanced.Code as code
 
 abbrev stayed : Stays (advanced.ended .signature .params) (advanced.ended .kept)
 stayed = (stay-none Row yes, tt)
@@ -102,5 +102,5 @@ advanced-spec 𝓤 H 𝓜 𝓖 𝓡 =
     walk-proves 𝓤 H 𝓜 𝓖 𝓡 code.env #advanced code.function (code.unfolded 𝓤 H 𝓜 𝓡) advanced.ended stayed (goes-none 𝓤 H (𝓖 .A) (givenOf 𝓤 H 𝓜 𝓖) 1 Row yes (λ κs x f. refl), tt) (advanced.clauses 𝓤 H (𝓖 .A) (𝓜 .mem) (𝓡 .run))
     (λ κs. (LL.vals (T.the-type (namedLft 1 0 tt κs)) (T′.the-laws (namedLft 1 0 tt κs)), tt)) (λ κs. (LL.tells (T.the-type (namedLft 1 0 tt κs)) (T′.the-laws (namedLft 1 0 tt κs)), tt))
     (λ fm κs qs bounds a _ are. via 𝓤 _ (fst∗ 𝓤 _ (emp 𝓤)) (walk 𝓤 H (𝓖 .A) (givenOf 𝓤 H 𝓜 𝓖) (𝓜 .mem) (𝓡 .run) (κs .0) (qs .0) (a .0) (tables 𝓤 H 𝓜 𝓡 code.env .C) (tables 𝓤 H 𝓜 𝓡 code.env .Λ) fm
-    (cited 𝓤 H (After 𝓤 H (𝓖 .A) (𝓜 .mem) (𝓡 .run)) 𝓜 𝓡 code.env #after-at at-def.routine code.calls-access·reader·after-at (at-thm.met 𝓤 H 𝓜 𝓖 𝓡))
+    (cited 𝓤 H (After 𝓤 H (𝓖 .A) (𝓜 .mem) (𝓡 .run)) 𝓜 𝓡 code.env #after-at at-def.routine code.calls-trace·reader·after-at (at-thm.met 𝓤 H 𝓜 𝓖 𝓡))
     (LL.lawful (T.the-type (namedLft 1 0 tt κs)) (T′.the-laws (namedLft 1 0 tt κs)) 𝓤 H (𝓖 .A) (givenOf 𝓤 H 𝓜 𝓖) .typed (a .0) _ (are .0) .0)))

@@ -33,13 +33,13 @@ use denote.Triple.Entry.{onEntry}
 use denote.Triple.Walked.{says, Stays, stay-none-slice, walkOf, goes-none-slice, ends-at}
 use denote.Exit.{yes}
 use Rattle.bits.proofs.Walk.{walk-proves}
-use Rattle.access.specs.declared.reader.Reader.{Reader}
-use Rattle.access.proofs.reader.Reader as T
-use Rattle.access.proofs.reader.Reader.Laws as T′
-use Rattle.access.proofs.reader.Reader.new.Key.{name as #new}
-use Rattle.access.proofs.reader.Reader.new as new
-use Rattle.access.proofs.reader.Reader.new.Statement as stated
-use Rattle.access.proofs.reader.Reader.new.Code as code
+use Rattle.trace.specs.declared.reader.Reader.{Reader}
+use Rattle.trace.proofs.reader.Reader as T
+use Rattle.trace.proofs.reader.Reader.Laws as T′
+use Rattle.trace.proofs.reader.Reader.new.Key.{name as #new}
+use Rattle.trace.proofs.reader.Reader.new as new
+use Rattle.trace.proofs.reader.Reader.new.Statement as stated
+use Rattle.trace.proofs.reader.Reader.new.Code as code
 
 abbrev stayed : Stays (new.ended .signature .params) (new.ended .kept)
 stayed = (stay-none-slice (0 ∷ []) tt (plain (λ _. u8)) yes, tt)

@@ -40,28 +40,28 @@ use Rattle.bits.proofs.Walk.{contractOf, calls-leaving, walk-proves}
 use Rattle.file.specs.declared.registers.File.{File}
 use Rattle.file.proofs.registers.File as F
 use Rattle.file.proofs.registers.File.Laws as F′
-use Rattle.access.specs.Reader.{ranAt, handedBack}
-use Rattle.access.specs.Run.{run as ran}
-use Rattle.access.specs.declared.reader.HandedBack.{HandedBack}
-use Rattle.access.specs.declared.reader.RanAt.{RanAt}
-use Rattle.access.specs.declared.reader.Reader.{Reader}
-use Rattle.access.proofs.Thin.{Own, Parts, apart}
-use Rattle.access.proofs.running.Ran as N
-use Rattle.access.proofs.running.Ran.Laws as N′
-use Rattle.access.proofs.reader.HandedBack as B
-use Rattle.access.proofs.reader.HandedBack.Laws as B′
-use Rattle.access.proofs.reader.RanAt as R
-use Rattle.access.proofs.reader.RanAt.Laws as R′
-use Rattle.access.proofs.reader.Reader as T
-use Rattle.access.proofs.reader.Reader.Laws as T′
-use Rattle.access.proofs.reader.run_at as at
-use Rattle.access.proofs.reader.run_at.Symbol as at-def
-use Rattle.access.proofs.reader.run_at.Symbol.{name as #run-at}
-use Rattle.access.proofs.reader.run_at.Met as at-thm
-use Rattle.access.proofs.reader.Reader.run.Key.{name as #run}
-use Rattle.access.proofs.reader.Reader.run as run
-use Rattle.access.proofs.reader.Reader.run.Statement as stated
-use Rattle.access.proofs.reader.Reader.run.Code as code
+use Rattle.trace.specs.Reader.{ranAt, handedBack}
+use Rattle.trace.specs.Run.{run as ran}
+use Rattle.trace.specs.declared.reader.HandedBack.{HandedBack}
+use Rattle.trace.specs.declared.reader.RanAt.{RanAt}
+use Rattle.trace.specs.declared.reader.Reader.{Reader}
+use Rattle.trace.proofs.ThinWalks.{Own, Parts, apart}
+use Rattle.trace.proofs.running.Ran as N
+use Rattle.trace.proofs.running.Ran.Laws as N′
+use Rattle.trace.proofs.reader.HandedBack as B
+use Rattle.trace.proofs.reader.HandedBack.Laws as B′
+use Rattle.trace.proofs.reader.RanAt as R
+use Rattle.trace.proofs.reader.RanAt.Laws as R′
+use Rattle.trace.proofs.reader.Reader as T
+use Rattle.trace.proofs.reader.Reader.Laws as T′
+use Rattle.trace.proofs.reader.run_at as at
+use Rattle.trace.proofs.reader.run_at.Symbol as at-def
+use Rattle.trace.proofs.reader.run_at.Symbol.{name as #run-at}
+use Rattle.trace.proofs.reader.run_at.Met as at-thm
+use Rattle.trace.proofs.reader.Reader.run.Key.{name as #run}
+use Rattle.trace.proofs.reader.Reader.run as run
+use Rattle.trace.proofs.reader.Reader.run.Statement as stated
+use Rattle.trace.proofs.reader.Reader.run.Code as code
 
 abbrev stayed : Stays (run.ended .signature .params) (run.ended .kept)
 stayed = (stay-none (λ κs. T.the-row (namedLft 2 0 tt κs)) yes, (stay-none (λ _. F.the-row) yes, (gave-slice (1 ∷ []) tt (plain (λ _. u8)), tt)))
@@ -183,4 +183,4 @@ run-spec 𝓤 H 𝓜 𝓖 𝓡 =
     (λ κs. (LL.tells (T.the-type (namedLft 2 0 tt κs)) (T′.the-laws (namedLft 2 0 tt κs)), (LL.tells F.the-type F′.the-laws, (mut-slice-tells (named 1) (κs .1 .0) u8, tt))))
     (λ fm κs qs bounds a g are. via 𝓤 _ (fst∗ 𝓤 _ (emp 𝓤)) (walk 𝓤 H (𝓖 .A) (givenOf 𝓤 H 𝓜 𝓖) (𝓜 .mem) (𝓡 .run) (κs .0) (κs .1 .0) (qs .0) (qs .1 .0) (a .0) (a .1 .0) (a .1 .1 .0 .ptr .0) (a .1 .1 .0 .ptr .1) (a .1 .1 .0 .name) (a .1 .1 .0 .now)
     (are .0) (are .1 .0) (tables 𝓤 H 𝓜 𝓡 code.env .C) (tables 𝓤 H 𝓜 𝓡 code.env .Λ) fm
-    (cited 𝓤 H (RunAt 𝓤 H (𝓖 .A) (𝓜 .mem) (𝓡 .run)) 𝓜 𝓡 code.env #run-at at-def.routine code.calls-access·reader·run-at (at-thm.met 𝓤 H 𝓜 𝓖 𝓡)) (are .1 .1 .0 .0 .1)))
+    (cited 𝓤 H (RunAt 𝓤 H (𝓖 .A) (𝓜 .mem) (𝓡 .run)) 𝓜 𝓡 code.env #run-at at-def.routine code.calls-trace·reader·run-at (at-thm.met 𝓤 H 𝓜 𝓖 𝓡)) (are .1 .1 .0 .0 .1)))

@@ -9,7 +9,9 @@ use Rattle.file.specs.Sound.{sound}
 use Rattle.access.specs.declared.access.Accessed.{Accessed}
 use Rattle.access.specs.declared.record.Record.{Record}
 use Rattle.access.specs.Access.{access}
-use Rattle.access.proofs.Sane.{accessCode, access-code, refusal-leaves, access-sound, unsound-answer}
+use Rattle.access.proofs.Codes.{accessCode, access-code}
+use Rattle.access.proofs.Refusals.{refusal-leaves, unsound-answer}
+use Rattle.access.proofs.Soundness.{access-sound}
 
 module _ (whole : File) (asked : Record) (r : Accessed) (met : r ≡ access whole asked) where
   -- its code is one of the fixed list
@@ -26,7 +28,7 @@ module _ (whole : File) (asked : Record) (r : Accessed) (met : r ≡ access whol
 
   -- a sound file is handed back sound
   pub sound-handed-back : T (sound whole) → T (sound (r .file))
-  sound-handed-back s = subst (λ (x : Accessed). T (sound (x .file))) (sym met) (access-sound whole asked s)
+  sound-handed-back s = subst (λ (x : Accessed). T (sound (x .file))) (sym met) (access-sound whole s asked)
 
   -- one that is not answers 12
   pub unsound-refused : sound whole ≡ false → r .answer ≡ NotSound

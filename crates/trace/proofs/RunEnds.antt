@@ -11,12 +11,12 @@ use Rattle.bits.proofs.Test.{is-true, by-test, passes}
 use Rattle.file.specs.declared.answer.Answer.the-variants.{Malformed}
 use Rattle.file.specs.declared.registers.File.{File}
 use Rattle.file.specs.Sound.{sound}
 use Rattle.access.specs.declared.record.Item.{Item}
 use Rattle.access.specs.declared.record.Item.the-variants.{Fragment}
 use Rattle.access.specs.Access.{accessItem, recordIn, replyTo}
-use Rattle.access.specs.Records.{recordOf, itemOf, itemCount, items, replyBytes}
-use Rattle.access.specs.Run.{fileAfter, replies, runCount}
-use Rattle.access.proofs.Runs.{items-more, file-more, replies-more, run-sound}
+use Rattle.trace.specs.Records.{recordOf, itemOf, itemCount, items, replyBytes}
+use Rattle.trace.specs.Run.{fileAfter, replies, runCount}
+use Rattle.trace.proofs.RunMore.{items-more, file-more, replies-more, run-sound}
 
 module _ (trace buffer : List ℕ) where
   pub by-places : length buffer / 8 ≤ length trace / 8 → runCount trace buffer ≡ length buffer / 8

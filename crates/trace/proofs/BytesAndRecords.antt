@@ -4,10 +4,10 @@ use mathlib.Core.Path.{_≡_, ap, _∙_}
 use mathlib.Core.List.{List, [], _∷_}
 use native.Mathlib.Omega.{arith}
 use lib.ListN.{take}
 use Rattle.access.specs.declared.record.Record.{Record}
 use Rattle.access.specs.declared.record.Item.{Item}
 use Rattle.access.specs.declared.record.Item.the-variants.{Whole}
-use Rattle.access.specs.Records.{two, four, recordOf, bytesOf, itemOf}
+use Rattle.trace.specs.Records.{two, four, recordOf, bytesOf, itemOf}
 
 -- the bytes of a record mean the record
 pub record-of-bytes : (r : Record) → recordOf (bytesOf r) ≡ r
@@ -17,7 +17,7 @@ record-of-bytes r = λ i. record { kind = r .kind; width = r .width; address = a
     address : r .address % 256 + 256 * (r .address / 256) ≡ r .address
     address = omega arith
 
-    value : r .value % 256 + 256 * (r .value / 256 % 256) + 65536 * (r .value / 65536 % 256 + 256 * (r .value / 16777216)) ≡ r .value
+    value : r .value % 256 + 256 * (r .value / 256 % 256) + 65536 * (r .value / 65536 % 256) + 16777216 * (r .value / 16777216) ≡ r .value
     value = omega arith
 
 -- so `item_of` gives back what `record_bytes` wrote, by their contracts
@@ -37,14 +37,14 @@ bytes-of-record kind width a b c d e f ha hc hd he = λ i. kind ∷ width ∷ lo
     high : (a + 256 * b) / 256 ≡ b
     high = omega (arith, ha)
 
-    first : (c + 256 * d + 65536 * (e + 256 * f)) % 256 ≡ c
+    first : (c + 256 * d + 65536 * e + 16777216 * f) % 256 ≡ c
     first = omega (arith, hc)
 
-    second : (c + 256 * d + 65536 * (e + 256 * f)) / 256 % 256 ≡ d
+    second : (c + 256 * d + 65536 * e + 16777216 * f) / 256 % 256 ≡ d
     second = omega (arith, hc, hd)
 
-    third : (c + 256 * d + 65536 * (e + 256 * f)) / 65536 % 256 ≡ e
+    third : (c + 256 * d + 65536 * e + 16777216 * f) / 65536 % 256 ≡ e
     third = omega (arith, hc, hd, he)
 
-    fourth : (c + 256 * d + 65536 * (e + 256 * f)) / 16777216 ≡ f
+    fourth : (c + 256 * d + 65536 * e + 16777216 * f) / 16777216 ≡ f
     fourth = omega (arith, hc, hd, he)

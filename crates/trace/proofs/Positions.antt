@@ -7,17 +7,17 @@ use lib.Dec.{lit<}
 use lib.ListN.{length, getD, take, drop, length-take, length-drop, drop-of-length-le}
 use lib.Seq.{getD-take, take-all, drop-drop}
 use borrow.Author.Tests.{le-leb, lt-leb, lt-ltb, le-ltb}
 use Rattle.access.specs.declared.record.Record.{Record}
 use Rattle.access.specs.declared.record.Item.{Item}
 use Rattle.access.specs.declared.record.Item.the-variants.{Whole, Fragment}
-use Rattle.access.specs.declared.reader.Next.{Next}
-use Rattle.access.specs.declared.reader.Next.the-variants.{Item as Stands, End}
+use Rattle.trace.specs.declared.reader.Next.{Next}
+use Rattle.trace.specs.declared.reader.Next.the-variants.{Item as Stands, End}
 use Rattle.file.specs.declared.registers.File.{File}
-use Rattle.access.specs.declared.reader.RanAt.{RanAt}
-use Rattle.access.specs.declared.running.Ran.{Ran}
-use Rattle.access.specs.Records.{two, four, recordOf, itemOf}
-use Rattle.access.specs.Run.{Ran as Left, run}
-use Rattle.access.specs.Reader.{nextAt, afterNext, afterMany, ranAt}
+use Rattle.trace.specs.declared.reader.RanAt.{RanAt}
+use Rattle.trace.specs.declared.running.Ran.{Ran}
+use Rattle.trace.specs.Records.{two, four, recordOf, itemOf}
+use Rattle.trace.specs.Run.{RunLeft as Left, run}
+use Rattle.trace.specs.Reader.{nextAt, afterNext, afterMany, ranAt}
 
 -- a record is made of its first 8 bytes
 record-taken : (xs : List ℕ) → recordOf (take 8 xs) ≡ recordOf xs
@@ -27,18 +27,16 @@ record-taken xs = λ i.
       kind = getD-take 8 xs 0 0 (lit< tt) i;
       width = getD-take 8 xs 1 0 (lit< tt) i;
       address = getD-take 8 xs 2 0 (lit< tt) i + 256 * getD-take 8 xs 3 0 (lit< tt) i;
-      value = getD-take 8 xs 4 0 (lit< tt) i + 256 * getD-take 8 xs 5 0 (lit< tt) i + 65536 * (getD-take 8 xs 6 0 (lit< tt) i + 256 * getD-take 8 xs 7 0 (lit< tt) i);
+      value = getD-take 8 xs 4 0 (lit< tt) i + 256 * getD-take 8 xs 5 0 (lit< tt) i + 65536 * getD-take 8 xs 6 0 (lit< tt) i + 16777216 * getD-take 8 xs 7 0 (lit< tt) i;
     }
 
--- a record that was made of the bytes, two by two
-pub record-read : (xs : List ℕ) {b₀ b₁ b₂ b₃ b₄ b₅ b₆ b₇ a lo hi v : ℕ} → b₀ ≡ getD xs 0 0 → b₁ ≡ getD xs 1 0 → b₂ ≡ getD xs 2 0 → b₃ ≡ getD xs 3 0 → b₄ ≡ getD xs 4 0 → b₅ ≡ getD xs 5 0 → b₆ ≡ getD xs 6 0 → b₇ ≡ getD xs 7 0
-    → a ≡ b₂ + 256 * b₃ → lo ≡ b₄ + 256 * b₅ → hi ≡ b₆ + 256 * b₇ → v ≡ lo + 65536 * hi → _≡_ {A = Record} (record { kind = b₀; width = b₁; address = a; value = v }) (recordOf (take 8 xs))
+-- a record that was made of the bytes
+pub record-read : (xs : List ℕ) {b₀ b₁ b₂ b₃ b₄ b₅ b₆ b₇ a v : ℕ} → b₀ ≡ getD xs 0 0 → b₁ ≡ getD xs 1 0 → b₂ ≡ getD xs 2 0 → b₃ ≡ getD xs 3 0 → b₄ ≡ getD xs 4 0 → b₅ ≡ getD xs 5 0 → b₆ ≡ getD xs 6 0 → b₇ ≡ getD xs 7 0
+    → a ≡ b₂ + 256 * b₃ → v ≡ b₄ + 256 * b₅ + 65536 * b₆ + 16777216 * b₇ → _≡_ {A = Record} (record { kind = b₀; width = b₁; address = a; value = v }) (recordOf (take 8 xs))
 unfolding recordOf two four
-record-read xs e₀ e₁ e₂ e₃ e₄ e₅ e₆ e₇ ea el eh ev =
-    (λ i. record { kind = e₀ i; width = e₁ i; address = (ea ∙ pair e₂ e₃) i; value = (ev ∙ (λ j. (el ∙ pair e₄ e₅) j + 65536 * (eh ∙ pair e₆ e₇) j)) i }) ∙ sym (record-taken xs)
-  where
-    pair : {l l′ h h′ : ℕ} → l ≡ l′ → h ≡ h′ → l + 256 * h ≡ l′ + 256 * h′
-    pair e f = λ i. e i + 256 * f i
+record-read xs e₀ e₁ e₂ e₃ e₄ e₅ e₆ e₇ ea ev =
+    (λ i. record { kind = e₀ i; width = e₁ i; address = (ea ∙ (λ j. e₂ j + 256 * e₃ j)) i; value = (ev ∙ (λ j. e₄ j + 256 * e₅ j + 65536 * e₆ j + 16777216 * e₇ j)) i })
+    ∙ sym (record-taken xs)
 
 -- of what is whole, and of a fragment
 pub whole-read : (xs : List ℕ) (r : Record) → r ≡ recordOf (take 8 xs) → 8 ≤ length xs → Whole r ≡ itemOf (take 8 xs)

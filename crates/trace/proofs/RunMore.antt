@@ -8,12 +8,12 @@ use lib.ListN.{length, take, drop}
 use lib.Seq.{drop-drop}
 use Rattle.file.specs.declared.registers.File.{File}
 use Rattle.file.specs.Sound.{sound}
 use Rattle.access.specs.declared.record.Item.{Item}
 use Rattle.access.specs.declared.record.Item.the-variants.{Whole, Fragment}
 use Rattle.access.specs.Access.{accessItem, recordIn, replyTo}
-use Rattle.access.specs.Records.{itemOf, items, replyBytes}
-use Rattle.access.specs.Run.{fileAfter, replies}
-use Rattle.access.proofs.Sane.{access-sound}
+use Rattle.trace.specs.Records.{itemOf, items, replyBytes}
+use Rattle.trace.specs.Run.{fileAfter, replies}
+use Rattle.access.proofs.Soundness.{access-sound}
 
 eight : (n : ℕ) → 8 + 8 * n ≡ 8 * suc n
 eight n = omega arith
@@ -57,7 +57,7 @@ items-length (suc n) trace = ap suc (items-length n (drop 8 trace))
 -- a sound file stays sound along a run
 pub item-sound : (f : File) (i : Item) → T (sound f) → T (sound (accessItem f i .file))
 unfolding accessItem
-item-sound f (Whole r) s = access-sound f r s
+item-sound f (Whole r) s = access-sound f s r
 item-sound f (Fragment r) s = s
 
 pub run-sound : (f : File) (is : List Item) → T (sound f) → T (sound (fileAfter f is))

@@ -10,13 +10,13 @@ use lib.Seq.{drop-drop, take-at}
 use Rattle.bits.proofs.Test.{by-test, is-true}
 use Rattle.file.specs.declared.registers.File.{File}
 use Rattle.file.specs.Sound.{sound}
 use Rattle.access.specs.declared.record.Item.{Item}
 use Rattle.access.specs.Access.{accessItem, recordIn, replyTo}
-use Rattle.access.specs.Records.{itemOf, items, replyBytes}
-use Rattle.access.specs.Run.{Ran, fileAfter, replies, runCount, ran, run, resumed, filled}
-use Rattle.access.specs.Reader.{ranAt}
-use Rattle.access.proofs.Reading.{left-past-many}
-use Rattle.access.proofs.Runs.{replies-length, items-length, run-sound}
+use Rattle.trace.specs.Records.{itemOf, items, replyBytes}
+use Rattle.trace.specs.Run.{RunLeft, fileAfter, replies, runCount, ran, run, resumed, filled}
+use Rattle.trace.specs.Reader.{ranAt}
+use Rattle.trace.proofs.Positions.{left-past-many}
+use Rattle.trace.proofs.RunMore.{replies-length, items-length, run-sound}
 
 -- items, file and replies of a trace, part after part
 items-parted : (m n : ℕ) (trace : List ℕ) → items (m + n) trace ≡ items m trace ++ items n (drop (8 * m) trace)
@@ -60,7 +60,7 @@ module _ (f : File) (trace first second : List ℕ) where
       )
 
   -- what the two say together of the first trace
-  abbrev Same : Ran → Ran → Type 0
+  abbrev Same : RunLeft → RunLeft → Type 0
   Same r q = (q .file ≡ fileAfter f (items (r .count + q .count) trace)) × (filled r ++ filled q ≡ replies f (items (r .count + q .count) trace))
 
   pub in-pieces : T (sound f) → Same (run f trace first) (resumed (run f trace first) second)
@@ -70,9 +70,9 @@ module _ (f : File) (trace first second : List ℕ) where
       let rest = drop (8 * m) trace in
       let n = runCount rest second in
       let here : run f trace first ≡ ran m f trace first = sound-run f trace first s in
-      let there : resumed (run f trace first) second ≡ ran n (fileAfter f (items m trace)) rest second = ap (λ (r : Ran). resumed r second) here ∙ sound-run (fileAfter f (items m trace)) rest second (run-sound f (items m trace) s) in
-      subst (λ (r : Ran). Same r (resumed (run f trace first) second)) (sym here)
-      (subst (λ (q : Ran). Same (ran m f trace first) q) (sym there)
+      let there : resumed (run f trace first) second ≡ ran n (fileAfter f (items m trace)) rest second = ap (λ (r : RunLeft). resumed r second) here ∙ sound-run (fileAfter f (items m trace)) rest second (run-sound f (items m trace) s) in
+      subst (λ (r : RunLeft). Same r (resumed (run f trace first) second)) (sym here)
+      (subst (λ (q : RunLeft). Same (ran m f trace first) q) (sym there)
       (both m n .0, ap₂ (λ (x y : List ℕ). x ++ y) (filled-is m f trace first) (filled-is n (fileAfter f (items m trace)) rest second) ∙ both m n .1))
 
 -- what a reader has left after its run is what the run leaves, also of a file that is not sound

@@ -36,9 +36,9 @@ use denote.Triple.Statement.{Triple}
 use denote.Triple.Walked.{says, Stays, stay-none, walkOf, goes-none, ends-at}
 use denote.Exit.{yes}
 use Rattle.bits.proofs.Walk.{contractOf, calls-to, walk-proves}
-use Rattle.access.specs.declared.reader.Reader.{Reader}
-use Rattle.access.proofs.reader.Reader as T
-use Rattle.access.proofs.reader.Reader.Laws as T′
+use Rattle.trace.specs.declared.reader.Reader.{Reader}
+use Rattle.trace.proofs.reader.Reader as T
+use Rattle.trace.proofs.reader.Reader.Laws as T′
 
 -- a reader's type, over a signature's lifetime
 abbrev pub Row : Lfts 1 → RattleType
