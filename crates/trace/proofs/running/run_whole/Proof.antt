@@ -47,8 +47,11 @@ mul-component-2 c = record { fits = omega (arith, c .before .before .before .bef
 array-copy-out-component-2 : tie.Need-array-copy-out-component-2 Inv-loop μ-loop
 array-copy-out-component-2 c = omega (arith, c .before .before .before .before .before .before .before .before .before .palette-entry .ensures .1)
 
+mul-record-at : tie.Need-mul-record-at Inv-loop μ-loop
+mul-record-at c = search needs
+
 mul-put-reply : tie.Need-mul-put-reply Inv-loop μ-loop
-mul-put-reply c = record { fits = (λ c. search needs) (c .before .before .before .before .before .before .before .before .before) .fits }
+mul-put-reply c = record { fits = mul-record-at (c .before .before .before .before .before .before .before .before .before) .fits }
 
 put-reply-requires : tie.Need-put-reply-requires Inv-loop μ-loop
 put-reply-requires c κs = omega (arith, buffer-long _ _ _ (c .before .before .before .before .before .before .before .before .before .before .loop .inv) (c .before .before .before .before .before .before .before .before .before .before .before .before .before .before .before .before .before .before .before .pre .2), c .before .before .before .before .before .before .before .before .before .loop-test .taken, c .before .before .before .before .before .before .before .before .before .before .before .before .before .before .before .before .before .before .before .pre .2)
@@ -66,7 +69,7 @@ array-set-from-palette : tie.Need-array-set-from-palette Inv-loop μ-loop
 array-set-from-palette c = omega (arith, c .before .before .before .before .before .before .before .before .before .before .before .before .before .palette-entry .ensures .1)
 
 add-n : tie.Need-add-n Inv-loop μ-loop
-add-n c = record { fits = omega (arith, (λ c. search needs) (c .before .before .before .before .before .before .before .before .before .before .before .before .before .before .before) .fits) }
+add-n c = record { fits = omega (arith, mul-record-at (c .before .before .before .before .before .before .before .before .before .before .before .before .before .before .before) .fits) }
 
 loop-less : tie.Need-loop-less Inv-loop μ-loop
 loop-less c = omega (arith, c .before .before .before .before .before .before .before .before .before .before .before .before .before .before .before .loop-test .taken)
