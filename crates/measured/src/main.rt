@@ -1,6 +1,6 @@
 // For bench/run: runs the trace on standard input from power-on and prints nothing of it; then does one thing some hundred times with
-// the file that it ends in. Words: `run`, or `read`, `write` (the timing) or `plan` and a digit for the hundreds. The number that it
-// prints hangs on all that it did.
+// the file that it ends in. Words: `run`, or `read`, `write` (the timing), `plan` or `restore` (from power-on) and a digit for the
+// hundreds. The number that it prints hangs on all that it did.
 use file::File;
 use libc::STDIN_FILENO;
 use libc::STDOUT_FILENO;
@@ -63,10 +63,13 @@ fn placed(n: u32) -> u64 {
     n as u64
 }
 
-// The timing read, or a plan made.
+// The timing read, a plan made, or the file restored.
 fn look(what: u8, file: File, buffer: &mut [u8; 8192]) -> u64 {
     if what == b'p' {
         return counted(plan::plan(file, buffer).count);
+    }
+    if what == b's' {
+        return counted(plan::restore(File::power_on(), file, buffer).count);
     }
     placed(read_timing(file).timing.screen_start)
 }
@@ -98,11 +101,11 @@ fn write_many(file: File, timing: Timing, times: u64) -> u64 {
     sum
 }
 
-// The first byte of a word that the program was started with.
+// The first byte of a word that the program was started with; the third of `restore`, which begins as `read` does.
 fn letter(place: usize) -> u8 {
     let mut word = [0u8; 16];
     os::arg(place, &mut word);
-    word[0]
+    if word[2] == b's' { word[2] } else { word[0] }
 }
 
 fn main() {
