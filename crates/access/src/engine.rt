@@ -40,7 +40,7 @@ use places::Place;
 // What the common checks say: a refusal, or the cell of the place to be asked.
 pub enum Looked {
     Refused(Answer),
-    At(u16),
+    At(u8),
 }
 
 // Code 2.
@@ -106,7 +106,7 @@ fn is_other_row(registers: &[u16; REGISTERS], asked: Record) -> bool
 }
 
 // The checks that every record passes before its place is asked, in 01's order.
-fn look(cells: &[u16; CELLS], registers: &[u16; REGISTERS], asked: Record) -> Looked
+fn look(cells: &[u8; CELLS], registers: &[u16; REGISTERS], asked: Record) -> Looked
     ensures { λ r. ⌜ r ≡ lookedBy (now (cells .entry)) (seen (now (registers .entry)) initial) asked ⌝ }
 {
     if is_malformed(asked) {
@@ -358,7 +358,7 @@ fn word(value: u32) -> u16
 
 // Answer and effect of a record in a file of these registers and this state.
 pub fn decide(
-    cells: &[u16; CELLS],
+    cells: &[u8; CELLS],
     stored: &[u16; REGISTERS],
     registers: &[u16; REGISTERS],
     state: State,

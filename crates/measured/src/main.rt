@@ -27,7 +27,7 @@ struct Course {
 fn run_some(before: Course, trace: &mut [u8; 8192], replies: &mut [u8; 8192]) -> Course {
     let size = io::read_full(STDIN_FILENO, trace);
     let trace: &[u8] = trace;
-    let ran = access::run(before.file, &trace[..size], replies);
+    let ran = trace::run(before.file, &trace[..size], replies);
     let at = (before.sum % 8192) as usize;
     let file = ran.file;
     Course {

@@ -1,7 +1,7 @@
 // Lines on the standard output.
 use access::Item;
-use access::record_bytes;
 use libc::STDOUT_FILENO;
+use trace::record_bytes;
 
 pub fn print_number(n: usize) {
     io::print_decimal(STDOUT_FILENO, n as u64);

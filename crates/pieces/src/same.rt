@@ -44,5 +44,5 @@ pub fn same_files(a: File, b: File) -> bool {
         }
         n += 1;
     }
-    a.toggle == b.toggle && same_pointer(a.pointer, b.pointer)
+    a.state.toggle == b.state.toggle && same_pointer(a.state.pointer, b.state.pointer)
 }

@@ -20,19 +20,19 @@ use Rattle.places.specs.Places.{Index, any, sr, cr, gr, ar, indexDue, da
 
 -- ---- the numbers of cells
 
--- a register's cell is its number; the places that stand alone follow from 80h on, the indexed ports from 90h on, and FFh is nothing held
+-- a register's cell is its number; the places that stand alone follow from 6Ch on, the indexed ports from 78h on, and 7Fh is nothing held
 abbrev pub firstAlone : ℕ
-firstAlone = 0x80
+firstAlone = 0x6C
 
 abbrev pub firstIndexed : ℕ
-firstIndexed = 0x90
+firstIndexed = 0x78
 
 abbrev pub nothingHeld : ℕ
-nothingHeld = 0xFF
+nothingHeld = 0x7F
 
--- 100h more at width 2
+-- 80h more at width 2
 abbrev pub wider : ℕ
-wider = 0x100
+wider = 0x80
 
 unfoldable pub alone : List Place
 alone =
@@ -58,26 +58,26 @@ plainPlace cell =
 unfoldable pub plainCell : Place → ℕ
 plainCell (Register n) = n
 plainCell (Attribute n) = n
-plainCell PaletteState = 0x80
-plainCell ReadAddress = 0x81
-plainCell WriteAddress = 0x82
-plainCell PixelData = 0x83
-plainCell ToggleReset = 0x84
-plainCell (Fixed value) = cond (eqb value pci00) 0x85 (cond (eqb value pci02) 0x86 0x87)
-plainCell ToggleState = 0x88
-plainCell AttributeIndex = 0x89
-plainCell Unnamed = 0x8A
-plainCell UnnamedAttribute = 0x8A
+plainCell PaletteState = 0x6C
+plainCell ReadAddress = 0x6D
+plainCell WriteAddress = 0x6E
+plainCell PixelData = 0x6F
+plainCell ToggleReset = 0x70
+plainCell (Fixed value) = cond (eqb value pci00) 0x71 (cond (eqb value pci02) 0x72 0x73)
+plainCell ToggleState = 0x74
+plainCell AttributeIndex = 0x75
+plainCell Unnamed = 0x76
+plainCell UnnamedAttribute = 0x76
 
 -- the cell of an indexed port, by its rows' index
 unfoldable pub indexedCell : Index → ℕ
 indexedCell any = nothingHeld
-indexedCell (sr n) = 0x90
-indexedCell (cr n) = 0x91
-indexedCell (gr n) = 0x92
-indexedCell (ar n) = 0x93
-indexedCell indexDue = 0x94
-indexedCell (dataDue n) = 0x94
+indexedCell (sr n) = 0x78
+indexedCell (cr n) = 0x79
+indexedCell (gr n) = 0x7A
+indexedCell (ar n) = 0x7B
+indexedCell indexDue = 0x7C
+indexedCell (dataDue n) = 0x7C
 
 -- ---- the cells of the list of places
 

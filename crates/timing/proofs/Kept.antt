@@ -1,5 +1,6 @@
 -- Writing numbers whose pieces lie in stored bits keeps soundness.
 -- Assumes nothing.
+use mathlib.Core.Bool.{false}
 use Prim.Native.Nat.{ℕ, _/_, _%_, _*_, _^_}
 use mathlib.Core.List.{List, [], _∷_, _++_}
 use lib.Dec.{T}
@@ -33,7 +34,7 @@ storable-right (p ∷ ps) qs t = storable-right ps qs (right (within (storedBits
 
 -- a piece that is put is a store by its reach
 stored : Piece → ℕ → Effect
-stored p n = Store (p .register) (pieceReach p) (n % 2 ^ p .width * 2 ^ p .low)
+stored p n = Store (p .register) (pieceReach p) (n % 2 ^ p .width * 2 ^ p .low) false
 
 scatter-sound : (ps : List Piece) (n : ℕ) (f : File)
     → T (storable ps) → T (sound f) → T (sound (withRegisters (scatter ps n (f .registers)) f))

@@ -67,13 +67,12 @@ pub same-outside : (f : File) (t : Timing) → SameOutsideTable f (writeTiming f
 unfolding withTiming withRegisters register
 same-outside f t =
     after-writer (SameOutsideTable f) f t
-    (record { registers = λ r i e. refl; palette = refl; bank = refl; pointer = refl; toggle = refl })
+    (record { registers = λ r i e. refl; palette = refl; bank = refl; state = refl })
     (record {
       registers = λ r i e. written-outside (table (wide f)) (numbersOf t) (f .registers) r i e;
       palette = refl;
       bank = refl;
-      pointer = refl;
-      toggle = refl;
+      state = refl;
     })
 
 -- a bit that no number has is outside the table's reach

@@ -53,10 +53,9 @@ unfoldable pub unused : List Number → List Free → Bool
 unused table [] = true
 unused table (x ∷ xs) = eqb (bitAnd (x .bits) (tableReach table (x .register))) 0 && unused table xs
 
--- no bit of any register outside the table's pieces differs, nor the palette, the bank, the pointer or the toggle
+-- no bit of any register outside the table's pieces differs, nor the palette, the bank or the state
 pub record SameOutsideTable (before after : File) : Type 0 where
   pub registers : (r i : ℕ) → bit i (tableReach (table (wide before)) r) ≡ 0 → bit i (register after r) ≡ bit i (register before r)
   pub palette : after .palette ≡ before .palette
   pub bank : after .bank ≡ before .bank
-  pub pointer : after .pointer ≡ before .pointer
-  pub toggle : after .toggle ≡ before .toggle
+  pub state : after .state ≡ before .state

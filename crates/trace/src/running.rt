@@ -143,7 +143,7 @@ fn put_effect(registers: &mut [u16; REGISTERS], before: Served, effect: Effect) 
 
 // One access: the registers where they stand, the state by value.
 fn serve(
-    cells: &[u16; CELLS],
+    cells: &[u8; CELLS],
     stored: &[u16; REGISTERS],
     registers: &mut [u16; REGISTERS],
     state: State,

@@ -1,7 +1,6 @@
 -- `attribute` meets its contract. Assumes nothing.
 use borrow.Author.Tests.{le-ltb, lt-ltb, not-true, not-false}
 use Rattle.places.specs.EngineCells.{attributePlace}
-use borrow.Author.Needs.{needs}
 use Rattle.places.proofs.decode.attribute.Statement.{statement}
 use Rattle.places.proofs.decode.attribute.Tie as tie
 
@@ -11,11 +10,11 @@ returns c = rw (not-true (c .before .args .toggle) (c .if1 .taken))
 
 returns-2 : tie.Need-returns-2
 unfolding attributePlace
-returns-2 c = rw (not-false (c .before .before .before .args .toggle) (c .before .before .if1 .left), ← c .before .wide .ensures, lt-ltb _ _ (c .if2 .taken))
+returns-2 c = rw (not-false (c .before .before .args .toggle) (c .before .if1 .left), lt-ltb _ _ (c .if2 .taken))
 
 returns-3 : tie.Need-returns-3
 unfolding attributePlace
-returns-3 c = rw (not-false (c .before .before .before .args .toggle) (c .before .before .if1 .left), ← c .before .wide .ensures, le-ltb _ _ (c .if2 .left))
+returns-3 c = rw (not-false (c .before .before .args .toggle) (c .before .if1 .left), le-ltb _ _ (c .if2 .left))
 
 pub attribute-spec : {M : Type 1} → statement M
-attribute-spec = tie.close (tie.spec returns (λ c κs. search needs) returns-2 returns-3)
+attribute-spec = tie.close (tie.spec returns returns-2 returns-3)

@@ -8,15 +8,15 @@ use Rattle.places.proofs.decode.cell_at.Tie as tie
 
 returns : tie.Need-returns
 unfolding cellIn
-returns c = rw (eq-eqb _ _ (c .before .if1 .taken)) (c .config-cell .ensures ∙ ap (configCell _) (c .before .before .wide .ensures))
+returns c = rw (eq-eqb _ _ (c .before .if1 .taken)) (c .config-cell .ensures ∙ ap (configCell _) (c .before .before .to-usize .ensures))
 
 returns-2 : tie.Need-returns-2
 unfolding cellIn
-returns-2 c = rw (ne-eqb _ _ (c .before .before .if1 .left), eq-eqb _ _ (c .before .if2 .taken)) (c .port-cell .ensures ∙ ap (portCell _ _) (c .before .before .before .wide .ensures))
+returns-2 c = rw (ne-eqb _ _ (c .before .before .if1 .left), eq-eqb _ _ (c .before .if2 .taken)) (c .port-cell .ensures ∙ ap (portCell _ _) (c .before .before .before .to-usize .ensures))
 
 returns-3 : tie.Need-returns-3
 unfolding cellIn
-returns-3 c = rw (ne-eqb _ _ (c .before .before .before .if1 .left), ne-eqb _ _ (c .before .before .if2 .left), eq-eqb _ _ (c .before .if3 .taken)) (c .mmio-cell .ensures ∙ ap (mmioCell _) (c .before .before .before .before .wide .ensures))
+returns-3 c = rw (ne-eqb _ _ (c .before .before .before .if1 .left), ne-eqb _ _ (c .before .before .if2 .left), eq-eqb _ _ (c .before .if3 .taken)) (c .mmio-cell .ensures ∙ ap (mmioCell _) (c .before .before .before .before .to-usize .ensures))
 
 returns-4 : tie.Need-returns-4
 unfolding cellIn

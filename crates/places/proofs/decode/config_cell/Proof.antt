@@ -14,5 +14,4 @@ unfolding configCell
 returns-2 c = simp (le-ltb _ _ (c .if1 .left))
 
 pub config-cell-spec : {M : Type 1} → statement M
-config-cell-spec =
-    tie.close (tie.spec (λ c. search needs) (λ c. search needs) (λ c. search needs) returns returns-2)
+config-cell-spec = tie.close (tie.spec (λ c. search needs) (λ c. search needs) returns returns-2)

@@ -20,4 +20,4 @@ returns-3 c = simp (le-ltb _ _ (c .before .before .if1 .left), le-leb _ _ (c .be
 pub mmio-cell-spec : {M : Type 1} → statement M
 mmio-cell-spec =
     tie.close
-    (tie.spec (λ c. search needs) (λ c. search needs) (λ c. search needs) returns returns-2 (λ c κs. search needs) returns-3)
+    (tie.spec (λ c. search needs) (λ c. search needs) returns returns-2 (λ c κs. search needs) returns-3)

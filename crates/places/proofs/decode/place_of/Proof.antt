@@ -23,23 +23,23 @@ returns c = rw (lt-ltb _ _ (c .before .if1 .taken)) (c .plain .ensures)
 
 returns-2 : tie.Need-returns-2
 unfolding cellPlace seen
-returns-2 c = rw (c .before .before .before .before .match .keys1) (c .plain2 .ensures ∙ ap (λ (n : ℕ). plainPlace (getD (c .before .before .before .before .before .before .args .cells .now) (behindSRX + n) 0)) (c .before .before .wide .ensures))
+returns-2 c = rw (c .before .before .before .before .match .keys1) (c .plain2 .ensures ∙ ap (λ (n : ℕ). plainPlace (getD (c .before .before .before .before .before .before .args .cells .now) (behindSRX + n) 0)) (c .before .before .to-usize .ensures))
 
 returns-3 : tie.Need-returns-3
 unfolding cellPlace seen
-returns-3 c = rw (c .before .before .before .before .match .keys2) (c .plain3 .ensures ∙ ap (λ (n : ℕ). plainPlace (getD (c .before .before .before .before .before .before .args .cells .now) (behindCRX + n) 0)) (c .before .before .wide2 .ensures))
+returns-3 c = rw (c .before .before .before .before .match .keys2) (c .plain3 .ensures ∙ ap (λ (n : ℕ). plainPlace (getD (c .before .before .before .before .before .before .args .cells .now) (behindCRX + n) 0)) (c .before .before .to-usize2 .ensures))
 
 returns-4 : tie.Need-returns-4
 unfolding cellPlace seen
-returns-4 c = rw (c .before .before .before .before .match .keys3) (c .plain4 .ensures ∙ ap (λ (n : ℕ). plainPlace (getD (c .before .before .before .before .before .before .args .cells .now) (behindGRX + n) 0)) (c .before .before .wide3 .ensures))
+returns-4 c = rw (c .before .before .before .before .match .keys3) (c .plain4 .ensures ∙ ap (λ (n : ℕ). plainPlace (getD (c .before .before .before .before .before .before .args .cells .now) (behindGRX + n) 0)) (c .before .before .to-usize3 .ensures))
 
 returns-5 : tie.Need-returns-5
 unfolding cellPlace seen
-returns-5 c = rw (c .before .before .before .before .match .keys4) (c .plain5 .ensures ∙ ap (λ (n : ℕ). plainPlace (getD (c .before .before .before .before .before .before .args .cells .now) (behindARX + n) 0)) (c .before .before .wide4 .ensures ∙ five-bits _))
+returns-5 c = rw (c .before .before .before .before .match .keys4) (c .plain5 .ensures ∙ ap (λ (n : ℕ). plainPlace (getD (c .before .before .before .before .before .before .args .cells .now) (behindARX + n) 0)) (c .before .before .to-usize4 .ensures ∙ five-bits _))
 
 returns-6 : tie.Need-returns-6
 unfolding cellPlace seen
-returns-6 c = rw (c .before .before .before .before .match .keys5) (c .attribute .ensures ∙ ap (λ (n : ℕ). attributePlace (c .before .before .before .before .before .before .args .state .toggle) (getD (c .before .before .before .before .before .before .args .cells .now) (behindARX + n) 0)) (c .before .before .wide5 .ensures ∙ five-bits _))
+returns-6 c = rw (c .before .before .before .before .match .keys5) (c .attribute .ensures ∙ ap (λ (n : ℕ). attributePlace (c .before .before .before .before .before .before .args .state .toggle) (getD (c .before .before .before .before .before .before .args .cells .now) (behindARX + n) 0)) (c .before .before .to-usize5 .ensures ∙ five-bits _))
 
 returns-7 : tie.Need-returns-7
 unfolding cellPlace
@@ -49,8 +49,7 @@ pub place-of-spec : {M : Type 1} → statement M
 place-of-spec =
     tie.close
     (tie.spec (λ c κs. search needs) returns (λ c. search needs) (λ c κs. search needs) (λ c. search needs) (λ c. search needs)
-    (λ c. search needs) (λ c κs. search needs) (λ c. search needs) (λ c κs. search needs) (λ c. search needs) (λ c. search needs)
-    (λ c. search needs) (λ c κs. search needs) (λ c. search needs) (λ c κs. search needs) (λ c. search needs) (λ c. search needs)
-    (λ c. search needs) (λ c κs. search needs) (λ c. search needs) (λ c κs. search needs) (λ c. search needs) (λ c. search needs)
-    (λ c. search needs) (λ c κs. search needs) (λ c. search needs) (λ c κs. search needs) (λ c. search needs) (λ c. search needs)
-    (λ c. search needs) (λ c κs. search needs) returns-2 returns-3 returns-4 returns-5 returns-6 returns-7)
+    (λ c κs. search needs) (λ c. search needs) (λ c κs. search needs) (λ c. search needs) (λ c. search needs) (λ c κs. search needs)
+    (λ c. search needs) (λ c κs. search needs) (λ c. search needs) (λ c. search needs) (λ c κs. search needs) (λ c. search needs)
+    (λ c κs. search needs) (λ c. search needs) (λ c. search needs) (λ c κs. search needs) (λ c. search needs) (λ c κs. search needs)
+    (λ c. search needs) (λ c. search needs) (λ c κs. search needs) returns-2 returns-3 returns-4 returns-5 returns-6 returns-7)

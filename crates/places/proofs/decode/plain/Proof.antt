@@ -17,7 +17,7 @@ above : (n a : ℕ) → n ≤ a → (a ≡ n → ⊥) → suc n ≤ a
 above n a h other = omega (arith, other)
 
 -- the last of the places that stand alone, and those behind it
-last : (cell : ℕ) → 0x8A ≤ cell → cell - firstAlone ≡ suc (suc (suc (suc (suc (suc (suc (suc (suc (suc (cell - 0x8A))))))))))
+last : (cell : ℕ) → 0x76 ≤ cell → cell - firstAlone ≡ suc (suc (suc (suc (suc (suc (suc (suc (suc (suc (cell - 0x76))))))))))
 last cell h = omega arith
 
 alone-ends : (k : ℕ) → getD alone (suc (suc (suc (suc (suc (suc (suc (suc (suc (suc k)))))))))) Unnamed ≡ Unnamed
@@ -27,7 +27,7 @@ alone-ends (suc k) = refl
 
 returns : tie.Need-returns
 unfolding plainPlace
-returns c = rw (← c .before .wide .ensures, lt-ltb _ _ (c .if1 .taken))
+returns c = rw (lt-ltb _ _ (c .if1 .taken))
 
 returns-2 : tie.Need-returns-2
 unfolding plainPlace
@@ -72,24 +72,23 @@ returns-11 c = rw (c .match .keys10)
 returns-12 : tie.Need-returns-12
 unfolding plainPlace
 returns-12 c =
-    let cell = c .before .before .before .args .cell in
-    rw (← c .before .before .wide .ensures, le-ltb _ _ (c .before .if1 .left), c .before .before .wide .ensures)
+    let cell = c .before .before .args .cell in
+    rw (le-ltb _ _ (c .before .if1 .left))
     (by-test (ltb cell firstAlone) (λ e. rw e)
     (λ e.
-    let h1 = above 0x80 cell (ltb-false cell firstAlone e) (c .match .rest .0 .0 .0 .0 .0 .0 .0 .0 .0 .1) in
-    let h2 = above 0x81 cell h1 (c .match .rest .0 .0 .0 .0 .0 .0 .0 .0 .1) in
-    let h3 = above 0x82 cell h2 (c .match .rest .0 .0 .0 .0 .0 .0 .0 .1) in
-    let h4 = above 0x83 cell h3 (c .match .rest .0 .0 .0 .0 .0 .0 .1) in
-    let h5 = above 0x84 cell h4 (c .match .rest .0 .0 .0 .0 .0 .1) in
-    let h6 = above 0x85 cell h5 (c .match .rest .0 .0 .0 .0 .1) in
-    let h7 = above 0x86 cell h6 (c .match .rest .0 .0 .0 .1) in
-    let h8 = above 0x87 cell h7 (c .match .rest .0 .0 .1) in
-    let h9 = above 0x88 cell h8 (c .match .rest .0 .1) in
-    let h10 = above 0x89 cell h9 (c .match .rest .1) in
-    rw e (sym (ap (λ (n : ℕ). getD alone n Unnamed) (last cell h10) ∙ alone-ends (cell - 0x8A)))))
+    let h1 = above 0x6C cell (ltb-false cell firstAlone e) (c .match .rest .0 .0 .0 .0 .0 .0 .0 .0 .0 .1) in
+    let h2 = above 0x6D cell h1 (c .match .rest .0 .0 .0 .0 .0 .0 .0 .0 .1) in
+    let h3 = above 0x6E cell h2 (c .match .rest .0 .0 .0 .0 .0 .0 .0 .1) in
+    let h4 = above 0x6F cell h3 (c .match .rest .0 .0 .0 .0 .0 .0 .1) in
+    let h5 = above 0x70 cell h4 (c .match .rest .0 .0 .0 .0 .0 .1) in
+    let h6 = above 0x71 cell h5 (c .match .rest .0 .0 .0 .0 .1) in
+    let h7 = above 0x72 cell h6 (c .match .rest .0 .0 .0 .1) in
+    let h8 = above 0x73 cell h7 (c .match .rest .0 .0 .1) in
+    let h9 = above 0x74 cell h8 (c .match .rest .0 .1) in
+    let h10 = above 0x75 cell h9 (c .match .rest .1) in
+    rw e (sym (ap (λ (n : ℕ). getD alone n Unnamed) (last cell h10) ∙ alone-ends (cell - 0x76)))))
 
 pub plain-spec : {M : Type 1} → statement M
 plain-spec =
     tie.close
-    (tie.spec (λ c κs. search needs) returns returns-2 returns-3 returns-4 returns-5 returns-6 returns-7 returns-8 returns-9 returns-10
-    returns-11 returns-12)
+    (tie.spec returns returns-2 returns-3 returns-4 returns-5 returns-6 returns-7 returns-8 returns-9 returns-10 returns-11 returns-12)

@@ -1,9 +1,9 @@
 -- `port_cell` meets its contract. Assumes nothing.
+use borrow.Author.Tests.{le-leb, lt-leb, le-ltb, lt-ltb}
+use Rattle.places.specs.EngineCells.{portCell}
 use mathlib.Core.Path.{ap}
 use native.Mathlib.Omega.{arith}
 use lib.ListN.{getD}
-use borrow.Author.Tests.{le-leb, lt-leb, le-ltb, lt-ltb}
-use Rattle.places.specs.EngineCells.{portCell}
 use borrow.Author.Needs.{needs}
 use Rattle.places.proofs.decode.port_cell.Statement.{statement}
 use Rattle.places.proofs.decode.port_cell.Tie as tie
@@ -27,5 +27,4 @@ returns-4 c = simp (le-leb _ _ (c .before .before .before .if1 .left), lt-ltb _ 
 pub port-cell-spec : {M : Type 1} → statement M
 port-cell-spec =
     tie.close
-    (tie.spec returns (λ c. search needs) returns-2 (λ c. search needs) (λ c. search needs) (λ c. search needs) (λ c. search needs)
-    (λ c. search needs) returns-3 returns-4)
+    (tie.spec returns (λ c. search needs) returns-2 (λ c. search needs) (λ c. search needs) (λ c. search needs) returns-3 returns-4)
