@@ -3,7 +3,7 @@
 use Prim.Native.Nat.{ℕ, _<_}
 use mathlib.Core.Path.{_≡_, refl, sym, ap, _∙_, subst}
 use mathlib.Core.Bool.{Bool, true, false, not, _&&_, _||_}
-use mathlib.Core.List.{List, [], _∷_, _++_, append-assoc, map, map-append}
+use mathlib.Core.List.{List, [], _∷_, _++_, append-assoc}
 use borrow.Author.Tests.{eqb-true, eqb-false}
 use lib.Dec.{T, eqb, T-not, eqb-refl, lit<}
 use lib.ListN.{getD, set, length, length-set}
@@ -13,14 +13,14 @@ use Rattle.bits.proofs.Test.{left, right, by-test}
 use Rattle.file.specs.declared.registers.File.{File}
 use Rattle.file.specs.File.{register, withRegisters, withToggle}
 use Rattle.file.specs.Names.{MISC, SRX, CRX, GRX, ARX}
-use Rattle.file.specs.Registers.{storedBits}
-use Rattle.file.specs.Sound.{sound}
+use Rattle.file.specs.Registers.{storedBits, storedTable}
+use Rattle.file.specs.Sound.{allWithin}
 use Rattle.access.specs.declared.record.Record.{Record}
 use Rattle.access.specs.Checks.{isOneOf}
 use Rattle.access.specs.Places.{Index, any, sr, cr, gr, ar, indexDue, dataDue}
 use Rattle.plan.specs.Roads.{Road, toSRX, toGRX, toARX}
-use Rattle.plan.specs.Steps.{write, valueFrom, wanted, step, stepRecord, selecting, stepsOf, along}
-use Rattle.plan.specs.Restores.{Runs}
+use Rattle.plan.specs.RoadRecords.{write, selecting, along}
+use Rattle.plan.specs.Restores.{RunsInto}
 use Rattle.plan.proofs.Asked.{View, viewOf}
 use Rattle.plan.proofs.Composed.{none, then}
 use Rattle.plan.proofs.Leads.{flips, seen, leads, everyRoad, leading, singles-lead}
@@ -63,23 +63,23 @@ arx-leads f t = subst (λ (b : Bool). T (leads (shows b) toARX)) (sym t) (single
         record { misc = register f MISC; srx = register f SRX; crx = register f CRX; grx = register f GRX; arx = register f ARX; toggle = b }
 
 -- what selecting leaves
-pub record Selected (w f : File) (i : Index) : Type 0 where
-  pub runs : Runs f (map (stepRecord w) (selecting i)) (selected i f)
+pub record Selected (w : List ℕ) (f : File) (i : Index) : Type 0 where
+  pub runs : RunsInto f (selecting i) (selected i f)
   pub ready : Ready w (selected i f)
   pub view : viewOf (selected i f) ≡ seen i (viewOf f)
 
 -- by the index register's own road
-select-by : (w f : File) (to : Road) (n : ℕ) → Ready w f → T (leads (viewOf f) to) → T (loose (to .register))
+select-by : (w : List ℕ) (f : File) (to : Road) (n : ℕ) → Ready w f → T (leads (viewOf f) to) → T (loose (to .register))
     → T (within (storedBits (to .register)) n)
-    → Runs f (write to n ∷ []) (flipped (flips (to .index)) (withRegister (to .register) n f))
+    → RunsInto f (write to n ∷ []) (flipped (flips (to .index)) (withRegister (to .register) n f))
     × Ready w (flipped (flips (to .index)) (withRegister (to .register) n f))
 select-by w f to n ready l free fit = (
   ready-runs w f to n ready l fit,
   ready-flipped w (withRegister (to .register) n f) (flips (to .index)) (ready-with w f (to .register) n ready free fit),
 )
 
-select : (w f : File) (i : Index) → Ready w f → f .toggle ≡ false → T (selectable i) → Selected w f i
-unfolding selecting stepRecord valueFrom selected afterSelecting selectable flips flipped loose isOneOf withRegister withRegisters withToggle register seen viewOf
+select : (w : List ℕ) (f : File) (i : Index) → Ready w f → f .toggle ≡ false → T (selectable i) → Selected w f i
+unfolding selecting selected afterSelecting selectable flips flipped loose isOneOf withRegister withRegisters withToggle register seen viewOf
 select w f any ready t s = record { runs = none f; ready = ready; view = refl }
 select w f (sr n) ready t s =
     let by = select-by w f toSRX n ready (singles-lead (viewOf f) .srx) tt s in
@@ -104,13 +104,13 @@ select w f (dataDue n) ready t s =
 -- ---- a road, and a list of roads
 
 -- the registers after some roads
-unfoldable pub afterRoads : File → List Road → List ℕ → List ℕ
+unfoldable pub afterRoads : List ℕ → List Road → List ℕ → List ℕ
 afterRoads w [] registers = registers
 afterRoads w (road ∷ roads) registers =
-    afterRoads w roads (set (afterSelecting (road .index) registers) (road .register) (register w (road .register)))
+    afterRoads w roads (set (afterSelecting (road .index) registers) (road .register) (getD w (road .register) 0))
 
 -- the file after them: all else is as before
-unfoldable pub brought : File → List Road → File → File
+unfoldable pub brought : List ℕ → List Road → File → File
 brought w roads f = withRegisters (afterRoads w roads (f .registers)) f
 
 -- a road that a ready file may go
@@ -118,7 +118,7 @@ unfoldable pub passable : Road → Bool
 passable road = selectable (road .index) && loose (road .register)
 
 -- its index selected, the register stored: the toggle is back where it was
-road-ends : (w f : File) (i : Index) (number value : ℕ) → f .toggle ≡ false → T (selectable i)
+road-ends : (w : List ℕ) (f : File) (i : Index) (number value : ℕ) → f .toggle ≡ false → T (selectable i)
     → flipped (flips i) (withRegister number value (selected i f)) ≡ withRegisters (set (afterSelecting i (f .registers)) number value) f
 unfolding withRegisters withToggle flipped flips withRegister afterSelecting selected selectable
 road-ends w f any number value t s = refl
@@ -130,39 +130,30 @@ road-ends w f indexDue number value t s = absurd s
 road-ends w f (dataDue n) number value t s = rw t
 
 -- the records of a road, and of those behind it
-along-road : (w : File) (road : Road) (roads : List Road)
-    → map (stepRecord w) (selecting (road .index)) ++ write road (register w (road .register)) ∷ along w roads ≡ along w (road ∷ roads)
-unfolding along stepsOf stepRecord valueFrom
-along-road w road roads = sym (map-append (stepRecord w) (selecting (road .index)) (step road (wanted (road .register)) ∷ stepsOf roads))
-
-along-behind : (w : File) (road : Road) (roads : List Road) → along w (road ∷ []) ++ along w roads ≡ along w (road ∷ roads)
-unfolding along stepsOf
-along-behind w road roads =
-    ap (λ (rs : List Record). rs ++ along w roads) (sym (along-road w road []))
-    ∙ append-assoc (map (stepRecord w) (selecting (road .index))) (write road (register w (road .register)) ∷ []) (along w roads)
-    ∙ along-road w road roads
+pub along-behind : (w : List ℕ) (road : Road) (roads : List Road) → along w (road ∷ []) ++ along w roads ≡ along w (road ∷ roads)
+unfolding along
+along-behind w road roads = append-assoc (selecting (road .index)) (write road (getD w (road .register) 0) ∷ []) (along w roads)
 
 -- every road leads to its register, with its index selected, in a file that shows the wanted MISC
-abbrev pub Lead : File → List Road → Type 0
-Lead w roads = (v : View) → v .misc ≡ register w MISC → T (leading v roads)
+abbrev pub Lead : List ℕ → List Road → Type 0
+Lead w roads = (v : View) → v .misc ≡ getD w MISC 0 → T (leading v roads)
 
 -- what a list of roads does
-pub record Brings (w f : File) (roads : List Road) : Type 0 where
-  pub runs : Runs f (along w roads) (brought w roads f)
+pub record Brings (w : List ℕ) (f : File) (roads : List Road) : Type 0 where
+  pub runs : RunsInto f (along w roads) (brought w roads f)
   pub ready : Ready w (brought w roads f)
 
-module _ (w : File) (s : T (sound w)) where
+module _ (w : List ℕ) (s : T (allWithin storedTable w)) where
   -- one road
   road-brings : (f : File) (road : Road) → Ready w f → f .toggle ≡ false → T (passable road) → T (leads (seen (road .index) (viewOf f)) road)
       → Brings w f (road ∷ [])
-  unfolding along stepsOf brought afterRoads passable
+  unfolding along brought afterRoads passable
   road-brings f road ready t o l =
       record {
         runs =
-            subst (λ (rs : List Record). Runs f rs (brought w (road ∷ []) f)) (along-road w road [])
-            (then (map (stepRecord w) (selecting (road .index))) (write road (register w (road .register)) ∷ []) f (selected (road .index) f)
+            then (selecting (road .index)) (write road (getD w (road .register) 0) ∷ []) f (selected (road .index) f)
             (brought w (road ∷ []) f) (sel .runs)
-            (subst (λ (g : File). Runs (selected (road .index) f) (write road (register w (road .register)) ∷ []) g) ends stores));
+            (subst (λ (g : File). RunsInto (selected (road .index) f) (write road (getD w (road .register) 0) ∷ []) g) ends stores);
         ready = subst (λ (g : File). Ready w g) ends after;
       }
     where
@@ -172,26 +163,26 @@ module _ (w : File) (s : T (sound w)) where
       sel : Selected w f (road .index)
       sel = select w f (road .index) ready t chosen
 
-      fit : T (within (storedBits (road .register)) (register w (road .register)))
+      fit : T (within (storedBits (road .register)) (getD w (road .register) 0))
       fit = wanted-within w (road .register) s
 
-      ends : flipped (flips (road .index)) (withRegister (road .register) (register w (road .register)) (selected (road .index) f)) ≡ brought w (road ∷ []) f
-      ends = road-ends w f (road .index) (road .register) (register w (road .register)) t chosen
+      ends : flipped (flips (road .index)) (withRegister (road .register) (getD w (road .register) 0) (selected (road .index) f)) ≡ brought w (road ∷ []) f
+      ends = road-ends w f (road .index) (road .register) (getD w (road .register) 0) t chosen
 
-      stores : Runs (selected (road .index) f) (write road (register w (road .register)) ∷ [])
-          (flipped (flips (road .index)) (withRegister (road .register) (register w (road .register)) (selected (road .index) f)))
+      stores : RunsInto (selected (road .index) f) (write road (getD w (road .register) 0) ∷ [])
+          (flipped (flips (road .index)) (withRegister (road .register) (getD w (road .register) 0) (selected (road .index) f)))
       stores =
-          ready-runs w (selected (road .index) f) road (register w (road .register)) (sel .ready)
+          ready-runs w (selected (road .index) f) road (getD w (road .register) 0) (sel .ready)
           (subst (λ (v : View). T (leads v road)) (sym (sel .view)) l) fit
 
-      after : Ready w (flipped (flips (road .index)) (withRegister (road .register) (register w (road .register)) (selected (road .index) f)))
+      after : Ready w (flipped (flips (road .index)) (withRegister (road .register) (getD w (road .register) 0) (selected (road .index) f)))
       after =
-          ready-flipped w (withRegister (road .register) (register w (road .register)) (selected (road .index) f)) (flips (road .index))
-          (ready-with w (selected (road .index) f) (road .register) (register w (road .register)) (sel .ready) (search (left, right)) fit)
+          ready-flipped w (withRegister (road .register) (getD w (road .register) 0) (selected (road .index) f)) (flips (road .index))
+          (ready-with w (selected (road .index) f) (road .register) (getD w (road .register) 0) (sel .ready) (search (left, right)) fit)
 
   -- any list of roads
   pub roads-bring : (roads : List Road) (f : File) → Ready w f → f .toggle ≡ false → T (everyRoad passable roads) → Lead w roads → Brings w f roads
-  unfolding along stepsOf brought afterRoads everyRoad leading viewOf withRegisters
+  unfolding along brought afterRoads everyRoad leading viewOf withRegisters
   roads-bring [] f ready t o lead = record { runs = none f; ready = ready }
   roads-bring (road ∷ roads) f ready t o lead =
       let first = road-brings f road ready t (left (passable road) (everyRoad passable roads) o)
@@ -200,7 +191,7 @@ module _ (w : File) (s : T (sound w)) where
       (λ v e. right (leads (seen (road .index) v) road) _ (lead v e)) in
       record {
         runs =
-            subst (λ (rs : List Record). Runs f rs (brought w (road ∷ roads) f))
+            subst (λ (rs : List Record). RunsInto f rs (brought w (road ∷ roads) f))
             (along-behind w road roads)
             (then (along w (road ∷ [])) (along w roads) f (brought w (road ∷ []) f) (brought w (road ∷ roads) f) (first .runs) (rest .runs));
         ready = rest .ready;
@@ -243,47 +234,47 @@ select-length indexDue registers = refl
 select-length (dataDue m) registers = length-set registers ARX m
 
 -- as many registers as before
-pub after-length : (w : File) (roads : List Road) (registers : List ℕ) → length (afterRoads w roads registers) ≡ length registers
+pub after-length : (w : List ℕ) (roads : List Road) (registers : List ℕ) → length (afterRoads w roads registers) ≡ length registers
 unfolding afterRoads
 after-length w [] registers = refl
 after-length w (road ∷ roads) registers =
-    after-length w roads (set (afterSelecting (road .index) registers) (road .register) (register w (road .register)))
-    ∙ length-set (afterSelecting (road .index) registers) (road .register) (register w (road .register))
+    after-length w roads (set (afterSelecting (road .index) registers) (road .register) (getD w (road .register) 0))
+    ∙ length-set (afterSelecting (road .index) registers) (road .register) (getD w (road .register) 0)
     ∙ select-length (road .index) registers
 
 -- one list of roads behind another
-pub after-append : (w : File) (a b : List Road) (registers : List ℕ) → afterRoads w (a ++ b) registers ≡ afterRoads w b (afterRoads w a registers)
+pub after-append : (w : List ℕ) (a b : List Road) (registers : List ℕ) → afterRoads w (a ++ b) registers ≡ afterRoads w b (afterRoads w a registers)
 unfolding afterRoads
 after-append w [] b registers = refl
 after-append w (road ∷ a) b registers =
-    after-append w a b (set (afterSelecting (road .index) registers) (road .register) (register w (road .register)))
+    after-append w a b (set (afterSelecting (road .index) registers) (road .register) (getD w (road .register) 0))
 
 -- whether a register holds its wanted value after some roads, if it did or did not before
 unfoldable pub settles : List Road → ℕ → Bool → Bool
 settles [] n held = held
 settles (road ∷ roads) n held = settles roads n (eqb (road .register) n || held && not (eqb (moves (road .index)) n))
 
-pub settled : (w : File) (roads : List Road) (registers : List ℕ) (n : ℕ) (held : Bool) → n < length registers
-    → (T held → getD registers n 0 ≡ register w n) → T (settles roads n held) → getD (afterRoads w roads registers) n 0 ≡ register w n
+pub settled : (w : List ℕ) (roads : List Road) (registers : List ℕ) (n : ℕ) (held : Bool) → n < length registers
+    → (T held → getD registers n 0 ≡ getD w n 0) → T (settles roads n held) → getD (afterRoads w roads registers) n 0 ≡ getD w n 0
 unfolding afterRoads settles
 settled w [] registers n held h e t = e t
 settled w (road ∷ roads) registers n held h e t =
-    settled w roads (set (afterSelecting (road .index) registers) (road .register) (register w (road .register))) n
+    settled w roads (set (afterSelecting (road .index) registers) (road .register) (getD w (road .register) 0)) n
     (eqb (road .register) n || held && not (eqb (moves (road .index)) n))
     (rw (length-set, select-length (road .index) registers) h)
     (λ held′. by-test (eqb (road .register) n) stored (kept held′)) t
   where
     stored : eqb (road .register) n ≡ true
-        → getD (set (afterSelecting (road .index) registers) (road .register) (register w (road .register))) n 0 ≡ register w n
+        → getD (set (afterSelecting (road .index) registers) (road .register) (getD w (road .register) 0)) n 0 ≡ getD w n 0
     stored q =
         rw (eqb-true (road .register) n q)
-        (getD-set-same (afterSelecting (road .index) registers) n (register w n) 0 (rw (select-length (road .index) registers) h))
+        (getD-set-same (afterSelecting (road .index) registers) n (getD w n 0) 0 (rw (select-length (road .index) registers) h))
 
     kept : T (eqb (road .register) n || held && not (eqb (moves (road .index)) n)) → eqb (road .register) n ≡ false
-        → getD (set (afterSelecting (road .index) registers) (road .register) (register w (road .register))) n 0 ≡ register w n
+        → getD (set (afterSelecting (road .index) registers) (road .register) (getD w (road .register) 0)) n 0 ≡ getD w n 0
     kept held′ q =
         let still : T (held && not (eqb (moves (road .index)) n)) = rw q at held′ in
-        getD-set-other (afterSelecting (road .index) registers) (road .register) n (register w (road .register)) 0 (λ x. eqb-false (road .register) n q (sym x))
+        getD-set-other (afterSelecting (road .index) registers) (road .register) n (getD w (road .register) 0) 0 (λ x. eqb-false (road .register) n q (sym x))
         ∙ select-keeps (road .index) registers n (right held (not (eqb (moves (road .index)) n)) still)
         ∙ e (left held (not (eqb (moves (road .index)) n)) still)
 
@@ -292,12 +283,12 @@ unfoldable pub spares : List Road → ℕ → Bool
 spares [] n = true
 spares (road ∷ roads) n = not (eqb (road .register) n) && not (eqb (moves (road .index)) n) && spares roads n
 
-pub spared : (w : File) (roads : List Road) (registers : List ℕ) (n : ℕ) → T (spares roads n)
+pub spared : (w : List ℕ) (roads : List Road) (registers : List ℕ) (n : ℕ) → T (spares roads n)
     → getD (afterRoads w roads registers) n 0 ≡ getD registers n 0
 unfolding afterRoads spares
 spared w [] registers n t = refl
 spared w (road ∷ roads) registers n t =
-    spared w roads (set (afterSelecting (road .index) registers) (road .register) (register w (road .register))) n (search (left, right))
-    ∙ getD-set-other (afterSelecting (road .index) registers) (road .register) n (register w (road .register)) 0
+    spared w roads (set (afterSelecting (road .index) registers) (road .register) (getD w (road .register) 0)) n (search (left, right))
+    ∙ getD-set-other (afterSelecting (road .index) registers) (road .register) n (getD w (road .register) 0) 0
     (differ (road .register) n (search (left, right)))
     ∙ select-keeps (road .index) registers n (search (left, right))

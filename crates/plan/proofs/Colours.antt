@@ -29,8 +29,8 @@ use Rattle.access.specs.Access.{paletteUp, inBank, entryNumber, answerAt, pixel
 use Rattle.access.specs.Checks.{isWrite, isPort, malformed, otherHalf}
 use Rattle.access.specs.Lookup.{selects, fits, first, rowOf}
 use Rattle.access.specs.Places.{Row, any, places, each, attributePorts, generalPorts, crtcPorts, pipelinePlace, mmioPlaces, pciPlaces}
-use Rattle.plan.specs.Plan.{mmioWrite, pixels, entries}
-use Rattle.plan.specs.Restores.{accepted, Runs, bytes}
+use Rattle.plan.specs.Plan.{mmioWrite, pixel, pixels, entries}
+use Rattle.plan.specs.Restores.{accepted, RunsInto, bytes}
 use Rattle.plan.proofs.Asked.{asked, does}
 use Rattle.plan.proofs.Composed.{none, one, then}
 use Rattle.plan.proofs.Ready.{On, spaces-on}
@@ -42,7 +42,7 @@ byteRow address place = record { kind = 5; address = address; index = any; width
 
 pub byte-runs : (f : File) (address value : ℕ) (place : Place) → T (sound f) → On f → value < 256
     → rowOf f (mmioWrite address value) ≡ some (byteRow address place) → answerAt true f place ≡ Done 0
-    → Runs f (mmioWrite address value ∷ []) (apply (writeAt f place value) f)
+    → RunsInto f (mmioWrite address value ∷ []) (apply (writeAt f place value) f)
 unfolding malformed otherHalf isPort isWrite effectAt accepted codeOf
 byte-runs f address value place s on h e done =
     one f (mmioWrite address value) (apply (writeAt f place value) f) (rw answers tt)
@@ -56,7 +56,7 @@ byte-runs f address value place s on h e done =
 
 -- 'Writing 3C7h or 3C8h sets the address and the mode'
 pub address-runs : (f : File) (reading : Bool) (value : ℕ) → T (sound f) → On f → value < 256
-    → Runs f (mmioWrite (cond reading 0xA4 0xA8) value ∷ []) (withPointer (addressed reading value) f)
+    → RunsInto f (mmioWrite (cond reading 0xA4 0xA8) value ∷ []) (withPointer (addressed reading value) f)
 unfolding rowOf first fits selects places each attributePorts generalPorts crtcPorts pipelinePlace mmioPlaces pciPlaces sequencer crtc graphics attribute pipeline answerAt writeAt apply
 address-runs f true value s on h = byte-runs f 0xA4 value ReadAddress s on h refl refl
 address-runs f false value s on h = byte-runs f 0xA8 value WriteAddress s on h refl refl
@@ -82,7 +82,7 @@ up-as f g bank e up =
     }
 
 pixel-runs : (f : File) (bank : Bool) (p : Pointer) (value : ℕ) → Up f bank → T (pointerSound p) → value < 256
-    → Runs (withPointer p f) (mmioWrite 0xAC value ∷ []) (apply (pixelWrite (withPointer p f) value) (withPointer p f))
+    → RunsInto (withPointer p f) (mmioWrite 0xAC value ∷ []) (apply (pixelWrite (withPointer p f) value) (withPointer p f))
 unfolding rowOf first fits selects places each attributePorts generalPorts crtcPorts pipelinePlace mmioPlaces pciPlaces sequencer crtc graphics attribute pipeline answerAt writeAt sound withPointer paletteUp register On
 pixel-runs f bank p value up t h =
     byte-runs (withPointer p f) 0xAC value PixelData (both (allWithin storedTable (f .registers)) (pointerSound p) (up .registersSound) t) (up .on) h refl
@@ -123,7 +123,7 @@ third-leaves f bank entry c up h =
 -- the three writes of an entry
 entry-runs : (f : File) (bank : Bool) (entry : ℕ) (c : Colour) → Up f bank → entry < size bank
     → c .red < 256 → c .green < 256 → c .blue < 256
-    → Runs (withPointer (addressed false (entry % 256)) f) (mmioWrite 0xAC (c .red) ∷ mmioWrite 0xAC (c .green) ∷ mmioWrite 0xAC (c .blue) ∷ [])
+    → RunsInto (withPointer (addressed false (entry % 256)) f) (mmioWrite 0xAC (c .red) ∷ mmioWrite 0xAC (c .green) ∷ mmioWrite 0xAC (c .blue) ∷ [])
     (withPointer (addressed false (suc entry % 256)) (paintIn bank entry c f))
 unfolding pixelWrite stores afterWrite moved apply withPointer addressed pointerSound
 entry-runs f bank entry c up h r g b =
@@ -135,7 +135,7 @@ entry-runs f bank entry c up h r g b =
     (withPointer (between (entry % 256) 1 (c .red) 0) f) (withPointer (between (entry % 256) 2 (c .red) (c .green)) f)
     (withPointer (addressed false (suc entry % 256)) (paintIn bank entry c f))
     (pixel-runs f bank (between (entry % 256) 1 (c .red) 0) (c .green) up tt g)
-    (subst (λ (x : File). Runs (withPointer (between (entry % 256) 2 (c .red) (c .green)) f) (mmioWrite 0xAC (c .blue) ∷ []) x)
+    (subst (λ (x : File). RunsInto (withPointer (between (entry % 256) 2 (c .red) (c .green)) f) (mmioWrite 0xAC (c .blue) ∷ []) x)
     (third-leaves f bank entry c up h)
     (pixel-runs f bank (between (entry % 256) 2 (c .red) (c .green)) (c .blue) up tt b)))
 
@@ -169,11 +169,11 @@ painted-registers true first cs f = refl
 painted-registers false first cs f = refl
 
 pixels-run : (cs : List Colour) (f : File) (bank : Bool) (first : ℕ) → Up f bank → first + length cs ≤ size bank → T (bytes cs)
-    → Runs (withPointer (addressed false (first % 256)) f) (pixels cs)
+    → RunsInto (withPointer (addressed false (first % 256)) f) (pixels cs)
     (withPointer (addressed false ((first + length cs) % 256)) (painted bank first cs f))
-unfolding pixels bytes
+unfolding pixels pixel bytes
 pixels-run [] f bank first up h t =
-    subst (λ (g : File). Runs (withPointer (addressed false (first % 256)) f) [] g)
+    subst (λ (g : File). RunsInto (withPointer (addressed false (first % 256)) f) [] g)
     (ap₂ (λ (n : ℕ) (g : File). withPointer (addressed false (n % 256)) g) (sym (add-zero first)) (painted-none bank first f))
     (none (withPointer (addressed false (first % 256)) f))
 pixels-run (c ∷ cs) f bank first up h t =
@@ -182,7 +182,7 @@ pixels-run (c ∷ cs) f bank first up h t =
     (withPointer (addressed false ((first + suc (length cs)) % 256)) (painted bank first (c ∷ cs) f))
     (entry-runs f bank first c up (omega arith) (ltb→lt (c .red) 256 (search (left, right))) (ltb→lt (c .green) 256 (search (left, right)))
     (ltb→lt (c .blue) 256 (search (left, right))))
-    (subst (λ (g : File). Runs (withPointer (addressed false (suc first % 256)) (paintIn bank first c f)) (pixels cs) g)
+    (subst (λ (g : File). RunsInto (withPointer (addressed false (suc first % 256)) (paintIn bank first c f)) (pixels cs) g)
     (ap₂ (λ (n : ℕ) (g : File). withPointer (addressed false (n % 256)) g) onward (painted-next bank first c cs f))
     (pixels-run cs (paintIn bank first c f) bank (suc first) (up-as f (paintIn bank first c f) bank (paint-keeps f bank first c) up)
     (omega arith) (search (left, right))))
@@ -206,7 +206,7 @@ afterRun bank run f =
 
 -- every record of a run is accepted, and its entries hold its colours
 pub run-runs : (run : Run) (f : File) (bank : Bool) → T (sound f) → Up f bank → T (inRange bank run)
-    → Runs f (entries (run .first) (run .colours)) (afterRun bank run f)
+    → RunsInto f (entries (run .first) (run .colours)) (afterRun bank run f)
 unfolding entries inRange afterRun On register
 run-runs run f bank s up t =
     then (mmioWrite 0xA8 (run .first) ∷ []) (pixels (run .colours)) f (withPointer (addressed false (run .first % 256)) f) (afterRun bank run f)

@@ -19,7 +19,7 @@ use Rattle.file.specs.Sound.{allWithin, sound}
 use Rattle.file.proofs.Soundness.{registers-sound}
 use Rattle.access.specs.declared.record.Record.{Record}
 use Rattle.plan.specs.Plan.{entries}
-use Rattle.plan.specs.Restores.{Runs}
+use Rattle.plan.specs.Restores.{RunsInto}
 use Rattle.plan.proofs.Colours.{Up, up-as, size, entriesIn, withEntries, painted, painted-registers, Run, inRange, afterRun, run-runs}
 use Rattle.plan.proofs.Composed.{none, then}
 
@@ -47,7 +47,7 @@ after-registers bank run f = painted-registers bank (run .first) (run .colours) 
 
 -- every record of any list of runs is accepted
 pub runs-run : (runs : List Run) (f : File) (bank : Bool) → T (sound f) → Up f bank → T (everyRun (inRange bank) runs)
-    → Runs f (runRecords runs) (afterRuns bank runs f)
+    → RunsInto f (runRecords runs) (afterRuns bank runs f)
 unfolding runRecords everyRun afterRuns
 runs-run [] f bank s up t = none f
 runs-run (run ∷ runs) f bank s up t =

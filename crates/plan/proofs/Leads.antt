@@ -16,7 +16,7 @@ use Rattle.access.specs.Lookup.{attributeIndex, selects, fits, first, rowOf}
 use Rattle.access.specs.Places.{Index, any, sr, cr, gr, ar, indexDue, dataDue, Row, places, each, attributePorts, generalPorts, crtcPorts, pipelinePlace, mmioPlaces, pciPlaces}
 use Rattle.access.proofs.Targets.{storesInto, movesToggle}
 use Rattle.plan.specs.Roads.{Road, portRoad, eachRoad, but, toPCI04, toCR11, toB0, toMISC, toSRX, toGRX, toARX, registerRoads}
-use Rattle.plan.specs.Steps.{write}
+use Rattle.plan.specs.RoadRecords.{write}
 use Rattle.plan.proofs.Asked.{View, shown}
 
 -- an access with that index flips the toggle

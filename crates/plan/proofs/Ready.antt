@@ -3,10 +3,10 @@
 use Prim.Native.Nat.{ℕ, _<_}
 use mathlib.Core.Path.{_≡_, refl, _∙_, subst}
 use mathlib.Core.Bool.{Bool, true, false, cond, not, _&&_}
-use mathlib.Core.List.{[], _∷_}
+use mathlib.Core.List.{List, [], _∷_}
 use borrow.Author.Tests.{eqb-true, eqb-false}
 use lib.Dec.{T, eqb, leb, T-not}
-use lib.ListN.{set}
+use lib.ListN.{getD, set}
 use lib.Seq.{getD-set-same, getD-set-other}
 use Rattle.bits.specs.Store.{bit, within}
 use Rattle.bits.proofs.Test.{both, by-test}
@@ -22,8 +22,8 @@ use Rattle.access.specs.Access.{lockedOut, reachIn}
 use Rattle.access.specs.Checks.{isPort, isMmio, isOneOf, spaceOff}
 use Rattle.plan.specs.Roads.{Road}
 use Rattle.plan.specs.Plan.{openSpaces, openLock}
-use Rattle.plan.specs.Steps.{write}
-use Rattle.plan.specs.Restores.{Runs}
+use Rattle.plan.specs.RoadRecords.{write}
+use Rattle.plan.specs.Restores.{RunsInto}
 use Rattle.plan.proofs.Asked.{viewOf}
 use Rattle.plan.proofs.Composed.{one}
 use Rattle.plan.proofs.Leads.{flips, leads}
@@ -66,10 +66,10 @@ with-sound f number value s w =
     both (allWithin storedTable (set (f .registers) number value)) (pointerSound (f .pointer))
     (set-within storedTable (f .registers) number value (registers-sound f s) w) (pointer-sound f s)
 
--- a sound file's registers are within their stored bits
-pub wanted-within : (w : File) (number : ℕ) → T (sound w) → T (within (storedBits number) (register w number))
-unfolding storedBits register
-wanted-within w number s = at storedTable (w .registers) number (registers-sound w s)
+-- registers that are within their stored bits are so one by one
+pub wanted-within : (w : List ℕ) (number : ℕ) → T (allWithin storedTable w) → T (within (storedBits number) (getD w number 0))
+unfolding storedBits
+wanted-within w number s = at storedTable w number s
 
 -- ---- ready
 
@@ -77,11 +77,11 @@ wanted-within w number s = at storedTable (w .registers) number (registers-sound
 unfoldable pub On : File → Type 0
 On f = register f PCI04 ≡ openSpaces
 
-pub record Ready (w f : File) : Type 0 where
+pub record Ready (w : List ℕ) (f : File) : Type 0 where
   pub isSound : T (sound f)
   pub on : On f
   pub unlocked : register f CR11 ≡ openLock
-  pub misc : register f MISC ≡ register w MISC
+  pub misc : register f MISC ≡ getD w MISC 0
 
 pub spaces-on : (f : File) (r : Record) → On f → spaceOff f r ≡ false
 unfolding On openSpaces spaceOff bit
@@ -107,14 +107,14 @@ beyond-lock f number e h =
 -- a record by a road, in a sound file that has both spaces on
 pub on-runs : (f : File) (road : Road) (value : ℕ) → T (sound f) → On f → Free f (road .register) → T (leads (viewOf f) road)
     → T (within (storedBits (road .register)) value)
-    → Runs f (write road value ∷ []) (flipped (flips (road .index)) (withRegister (road .register) value f))
+    → RunsInto f (write road value ∷ []) (flipped (flips (road .index)) (withRegister (road .register) value f))
 on-runs f road value s on free l w =
     let stores = road-stores f road value l s (spaces-on f (write road value) on) free w in
     one f (write road value) (flipped (flips (road .index)) (withRegister (road .register) value f)) (stores .done) (stores .file)
 
 -- and in a file that is ready
-pub ready-runs : (w f : File) (road : Road) (value : ℕ) → Ready w f → T (leads (viewOf f) road) → T (within (storedBits (road .register)) value)
-    → Runs f (write road value ∷ []) (flipped (flips (road .index)) (withRegister (road .register) value f))
+pub ready-runs : (w : List ℕ) (f : File) (road : Road) (value : ℕ) → Ready w f → T (leads (viewOf f) road) → T (within (storedBits (road .register)) value)
+    → RunsInto f (write road value ∷ []) (flipped (flips (road .index)) (withRegister (road .register) value f))
 ready-runs w f road value ready = on-runs f road value (ready .isSound) (ready .on) (unlocked-free f (road .register) (ready .unlocked))
 
 -- the registers that a ready file is known by
@@ -122,7 +122,7 @@ unfoldable pub loose : ℕ → Bool
 loose number = not (isOneOf (PCI04 ∷ CR11 ∷ MISC ∷ []) number)
 
 -- another register anew leaves it ready
-pub ready-with : (w f : File) (number value : ℕ) → Ready w f → T (loose number) → T (within (storedBits number) value)
+pub ready-with : (w : List ℕ) (f : File) (number value : ℕ) → Ready w f → T (loose number) → T (within (storedBits number) value)
     → Ready w (withRegister number value f)
 unfolding On loose isOneOf
 ready-with w f number value ready l v =
@@ -137,7 +137,7 @@ ready-with w f number value ready l v =
     other n t e =
         T-not (isOneOf (PCI04 ∷ CR11 ∷ MISC ∷ []) number) l (subst (λ (m : ℕ). T (isOneOf (PCI04 ∷ CR11 ∷ MISC ∷ []) m)) e t)
 
-pub ready-flipped : (w f : File) (flip : Bool) → Ready w f → Ready w (flipped flip f)
+pub ready-flipped : (w : List ℕ) (f : File) (flip : Bool) → Ready w f → Ready w (flipped flip f)
 unfolding On flipped withToggle sound register
 ready-flipped w f true ready = record { isSound = ready .isSound; on = ready .on; unlocked = ready .unlocked; misc = ready .misc }
 ready-flipped w f false ready = ready

@@ -29,7 +29,7 @@ use Rattle.access.specs.Lookup.{fits, rowOf}
 use Rattle.access.specs.Places.{Row}
 use Rattle.access.proofs.Targets.{storesInto, movesToggle}
 use Rattle.plan.specs.Roads.{Road}
-use Rattle.plan.specs.Steps.{write}
+use Rattle.plan.specs.RoadRecords.{write}
 use Rattle.plan.specs.Restores.{accepted}
 use Rattle.plan.proofs.Leads.{flips, same, finds, leads}
 use Rattle.plan.proofs.Asked.{asked, does, viewOf, shown, row-by, half-by}
