@@ -5,7 +5,6 @@ use mathlib.Core.Bool.{true, false, true≢false}
 use mathlib.Core.List.{List, [], _++_, map, append-nil}
 use native.Mathlib.Omega.{arith}
 use borrow.Author.Tests.{eq-eqb, ne-eqb, le-leb, lt-leb}
-use lib.Dec.{T}
 use lib.ListN.{getD, length, take, drop, length-append, length-map}
 use lib.Seq.{sets-eq, take-at}
 use Rattle.bits.proofs.Test.{by-test, passes}
@@ -14,22 +13,21 @@ use Rattle.file.specs.declared.answer.Answer.the-variants.{Done, ShortBuffer, N
 use Rattle.file.specs.declared.registers.File.{File}
 use Rattle.file.specs.Answers.{codeOf, refused}
 use Rattle.file.specs.Sound.{sound}
-use Rattle.access.specs.declared.record.Item.{Item}
 use Rattle.access.specs.declared.record.Item.the-variants.{Whole}
 use Rattle.access.specs.Records.{itemCount, items}
-use Rattle.access.specs.Run.{fileAfter, answers, replies, runCount, ran, run}
+use Rattle.access.specs.Run.{fileAfter, runCount, ran, run}
 use Rattle.plan.specs.declared.planning.Planned.{Planned}
 use Rattle.plan.specs.declared.restoring.Restored.{Restored}
 use Rattle.plan.specs.Appended.{Appended}
 use Rattle.plan.specs.Plan.{planRecords}
 use Rattle.plan.specs.Promises.{PlanKept, RestoreKept}
 use Rattle.plan.specs.Refusals.{planAnswer, restoreAnswer}
-use Rattle.plan.specs.Restores.{allAccepted, traceOf, IsFile, RunsInto, PlanWritten}
+use Rattle.plan.specs.Restores.{traceOf, IsFile, RunsInto, PlanWritten}
 use Rattle.plan.proofs.Appending.{trace-count}
-use Rattle.plan.proofs.Counted.{plan-room}
-use Rattle.plan.proofs.Fitting.{trace-items}
+use Rattle.plan.proofs.PlanCount.{plan-room}
+use Rattle.plan.proofs.AcceptedFits.{trace-items}
 use Rattle.plan.proofs.RepliesAccepted.{codes-zero}
-use Rattle.plan.proofs.Restored.{plan-serves, planned-runs, never-fourteen}
+use Rattle.plan.proofs.PlanServes.{plan-serves, planned-runs, never-fourteen}
 
 -- ---- a plan
 

@@ -15,7 +15,7 @@ use Rattle.plan.specs.Appended.{Appended}
 use Rattle.plan.specs.EngineRows.{indexPort, indexBy, roadOf}
 use Rattle.plan.specs.Plan.{portWrite}
 use Rattle.plan.specs.RoadRecords.{selecting, along}
-use Rattle.plan.proofs.Along.{along-behind}
+use Rattle.plan.proofs.RegisterStageRuns.{along-behind}
 use Rattle.plan.proofs.Appending.{Left, none-left}
 
 -- one record selects an index, by the port

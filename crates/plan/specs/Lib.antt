@@ -6,3 +6,6 @@ pub mod Refusals
 pub mod Promises
 pub mod Appended
 pub mod EngineRows
+pub mod RegisterStage
+pub mod ColourStage
+pub mod StageEnds

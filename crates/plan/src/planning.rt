@@ -43,13 +43,13 @@ pub fn plan(wanted: File, buffer: &mut [u8]) -> Planned
     ensures { λ r. ⌜ PlanKept wanted (now (buffer .entry)) (now (buffer .exit)) r ⌝ }
 {
     if !is_sound(wanted) {
-        return refused(Answer::NotSound);
+        return no_plan(Answer::NotSound);
     }
     if wanted.pointer.next != 0 {
-        return refused(Answer::NotBeforeRed);
+        return no_plan(Answer::NotBeforeRed);
     }
     if buffer.len() < 8192 {
-        return refused(Answer::ShortBuffer);
+        return no_plan(Answer::ShortBuffer);
     }
     let end = put_plan(wanted, buffer, 0);
     Planned {
@@ -58,7 +58,8 @@ pub fn plan(wanted: File, buffer: &mut [u8]) -> Planned
     }
 }
 
-fn refused(answer: Answer) -> Planned
+// A refusal has no records.
+fn no_plan(answer: Answer) -> Planned
     ensures { λ r. ⌜ r ≡ record { answer = answer; count = 0 } ⌝ }
 {
     Planned { answer, count: 0 }

@@ -26,6 +26,7 @@ pub fn put(written: Record, buffer: &mut [u8], at: usize) -> usize
     at + 8
 }
 
+// A word to config space.
 pub fn config_write(address: u16, value: u32, buffer: &mut [u8], at: usize) -> usize
     requires { ⌜ at + 8 ≤ length (now buffer) ⌝ }
     ensures { λ r. ⌜ Appended (now (buffer .entry)) at (configWrite address value ∷ []) (now (buffer .exit)) r ⌝ }
@@ -39,6 +40,7 @@ pub fn config_write(address: u16, value: u32, buffer: &mut [u8], at: usize) -> u
     put(written, buffer, at)
 }
 
+// A byte to a port.
 pub fn port_write(address: u16, value: u32, buffer: &mut [u8], at: usize) -> usize
     requires { ⌜ at + 8 ≤ length (now buffer) ⌝ }
     ensures { λ r. ⌜ Appended (now (buffer .entry)) at (portWrite address value ∷ []) (now (buffer .exit)) r ⌝ }
@@ -52,6 +54,7 @@ pub fn port_write(address: u16, value: u32, buffer: &mut [u8], at: usize) -> usi
     put(written, buffer, at)
 }
 
+// A port's byte.
 pub fn port_read(address: u16, buffer: &mut [u8], at: usize) -> usize
     requires { ⌜ at + 8 ≤ length (now buffer) ⌝ }
     ensures { λ r. ⌜ Appended (now (buffer .entry)) at (portRead address ∷ []) (now (buffer .exit)) r ⌝ }
@@ -65,6 +68,7 @@ pub fn port_read(address: u16, buffer: &mut [u8], at: usize) -> usize
     put(written, buffer, at)
 }
 
+// A byte to MMIO.
 pub fn mmio_write(address: u16, value: u32, buffer: &mut [u8], at: usize) -> usize
     requires { ⌜ at + 8 ≤ length (now buffer) ⌝ }
     ensures { λ r. ⌜ Appended (now (buffer .entry)) at (mmioWrite address value ∷ []) (now (buffer .exit)) r ⌝ }

@@ -38,20 +38,20 @@ pub fn restore(current: File, wanted: File, buffer: &mut [u8]) -> Restored
     ensures { λ r. ⌜ RestoreKept current wanted (now (buffer .entry)) (now (buffer .exit)) r ⌝ }
 {
     if !is_sound(current) {
-        return refused(Answer::NotSound, current);
+        return not_restored(Answer::NotSound, current);
     }
     let planned = plan(wanted, buffer);
     let answer = planned.answer;
     let count = planned.count;
     if 2 <= answer.code() {
-        return refused(answer, current);
+        return not_restored(answer, current);
     }
     let mut replies = [0u8; 8192];
     let size = 8 * count;
     let ran = run(current, &buffer[..size], &mut replies);
     let file = ran.file;
     if !all_done(&replies, count) {
-        return refused(Answer::PlanRefused, current);
+        return not_restored(Answer::PlanRefused, current);
     }
     Restored {
         answer,
@@ -60,7 +60,8 @@ pub fn restore(current: File, wanted: File, buffer: &mut [u8]) -> Restored
     }
 }
 
-fn refused(answer: Answer, current: File) -> Restored
+// A refusal has no records and leaves the file.
+fn not_restored(answer: Answer, current: File) -> Restored
     ensures { λ r. ⌜ r ≡ record { answer = answer; count = 0; file = current } ⌝ }
 {
     Restored {

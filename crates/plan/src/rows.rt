@@ -132,13 +132,13 @@ pub fn held(registers: &[u16], number: usize) -> u32
     ensures { λ r. ⌜ r ≡ getD (now (registers .entry)) number 0 ⌝ }
 {
     if number < registers.len() {
-        wide(registers[number])
+        wide_word(registers[number])
     } else {
         0
     }
 }
 
-fn wide(x: u16) -> u32
+fn wide_word(x: u16) -> u32
     ensures { λ r. ⌜ r ≡ x ⌝ }
 {
     x as u32

@@ -34,7 +34,7 @@ pub fn put_opening(registers: &[u16], buffer: &mut [u8], at: usize) -> usize
     port_read(by_half(misc, 0x3BA, 0x3DA), buffer, at)
 }
 
-fn wide(x: u8) -> u32
+fn wide_byte(x: u8) -> u32
     ensures { λ r. ⌜ r ≡ x ⌝ }
 {
     x as u32
@@ -45,9 +45,9 @@ fn put_pixel(colour: Colour, buffer: &mut [u8], at: usize) -> usize
     requires { ⌜ at + 8 * 3 ≤ length (now buffer) ⌝ }
     ensures { λ r. ⌜ Appended (now (buffer .entry)) at (pixel colour) (now (buffer .exit)) r ⌝ }
 {
-    let at = mmio_write(0xAC, wide(colour.red), buffer, at);
-    let at = mmio_write(0xAC, wide(colour.green), buffer, at);
-    mmio_write(0xAC, wide(colour.blue), buffer, at)
+    let at = mmio_write(0xAC, wide_byte(colour.red), buffer, at);
+    let at = mmio_write(0xAC, wide_byte(colour.green), buffer, at);
+    mmio_write(0xAC, wide_byte(colour.blue), buffer, at)
 }
 
 // The entries of the palette, from the first on.
@@ -128,9 +128,9 @@ fn put_pointer(pointer: Pointer, buffer: &mut [u8], at: usize) -> usize
     ensures { λ r. ⌜ Appended (now (buffer .entry)) at (pointerWrite pointer ∷ []) (now (buffer .exit)) r ⌝ }
 {
     if pointer.reading {
-        return mmio_write(0xA4, wide(pointer.address), buffer, at);
+        return mmio_write(0xA4, wide_byte(pointer.address), buffer, at);
     }
-    mmio_write(0xA8, wide(pointer.address), buffer, at)
+    mmio_write(0xA8, wide_byte(pointer.address), buffer, at)
 }
 
 // The pointer; then B0, CR11 and PCI04 as wanted.

@@ -4,8 +4,8 @@ use native.Mathlib.Omega.{arith}
 use borrow.Author.Needs.{needs}
 use borrow.Author.Tests.{not-true, not-false}
 use denote.Ref.{now}
-use Rattle.plan.proofs.Counted.{plan-count}
-use Rattle.plan.proofs.Typed.{is-file}
+use Rattle.plan.proofs.PlanCount.{plan-count}
+use Rattle.plan.proofs.FileIsFile.{is-file}
 use Rattle.plan.proofs.PromisesKept.{plan-unsound, plan-not-red, plan-short, plan-made}
 use Rattle.plan.proofs.planning.plan.Statement.{statement}
 use Rattle.plan.proofs.planning.plan.Tie as tie
@@ -13,19 +13,19 @@ use Rattle.plan.proofs.planning.plan.Tie as tie
 returns : tie.Need-returns
 returns c =
     let args = c .before .before .before .before .args in
-    plan-unsound (args .wanted) (now (args .buffer)) (sym (c .before .before .is-sound .ensures) ∙ not-true _ (c .before .if1 .taken)) (c .refused .result) (c .refused .ensures)
+    plan-unsound (args .wanted) (now (args .buffer)) (sym (c .before .before .is-sound .ensures) ∙ not-true _ (c .before .if1 .taken)) (c .no-plan .result) (c .no-plan .ensures)
 
 returns-2 : tie.Need-returns-2
 returns-2 c =
     let args = c .before .before .before .before .before .before .args in
     plan-not-red (args .wanted) (now (args .buffer)) (sym (c .before .before .before .before .is-sound .ensures) ∙ not-false _ (c .before .before .before .if1 .left)) (c .before .if2 .taken)
-    (c .refused2 .result) (c .refused2 .ensures)
+    (c .no-plan2 .result) (c .no-plan2 .ensures)
 
 returns-3 : tie.Need-returns-3
 returns-3 c =
     let args = c .before .before .before .before .before .before .before .args in
     plan-short (args .wanted) (now (args .buffer)) (sym (c .before .before .before .before .before .is-sound .ensures) ∙ not-false _ (c .before .before .before .before .if1 .left)) (c .before .before .if2 .left)
-    (omega (arith, c .before .if3 .taken)) (c .refused3 .result) (c .refused3 .ensures)
+    (omega (arith, c .before .if3 .taken)) (c .no-plan3 .result) (c .no-plan3 .ensures)
 
 put-plan-requires : tie.Need-put-plan-requires
 put-plan-requires c κs =

@@ -7,7 +7,7 @@ use Rattle.plan.specs.Plan.{opening, colours, indices, planRecords}
 use Rattle.plan.specs.RoadRecords.{selecting, along}
 use Rattle.plan.specs.Roads.{registerRoads, indexRoads}
 use Rattle.plan.proofs.Appending.{append-then, room-behind}
-use Rattle.plan.proofs.Counted.{plan-parts}
+use Rattle.plan.proofs.PlanCount.{plan-parts}
 use Rattle.plan.proofs.planning.put_plan.Statement.{statement}
 use Rattle.plan.proofs.planning.put_plan.Tie as tie
 

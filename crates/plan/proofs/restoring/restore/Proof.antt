@@ -7,7 +7,7 @@ use borrow.Author.Tests.{not-true, not-false}
 use denote.Ref.{now}
 use lib.Seq.{length-take-le}
 use Rattle.file.specs.Answers.{codeOf}
-use Rattle.plan.proofs.Typed.{is-file}
+use Rattle.plan.proofs.FileIsFile.{is-file}
 use Rattle.plan.proofs.PromisesKept.{written-room, written-few, run-ends, run-codes, restore-unsound, restore-unplanned, written, restore-done}
 use Rattle.plan.proofs.restoring.restore.Statement.{statement}
 use Rattle.plan.proofs.restoring.restore.Tie as tie
@@ -16,13 +16,13 @@ returns : tie.Need-returns
 returns c =
     let args = c .before .before .before .before .args in
     restore-unsound (args .current) (args .wanted) (now (args .buffer)) (sym (c .before .before .is-sound .ensures) ∙ not-true _ (c .before .if1 .taken))
-    (c .refused .result) (c .refused .ensures)
+    (c .not-restored .result) (c .not-restored .ensures)
 
 returns-2 : tie.Need-returns-2
 returns-2 c =
     let args = c .before .before .before .before .before .before .before .before .before .before .args in
     restore-unplanned (args .current) (args .wanted) (now (args .buffer)) (sym (c .before .before .before .before .before .before .before .before .is-sound .ensures) ∙ not-false _ (c .before .before .before .before .before .before .before .if1 .left)) _
-    (c .before .before .before .before .before .plan .result) (c .before .before .before .before .before .plan .ensures) (omega (arith, c .before .before .code .ensures, c .before .if2 .taken)) (c .refused2 .result) (c .refused2 .ensures)
+    (c .before .before .before .before .before .plan .result) (c .before .before .before .before .before .plan .ensures) (omega (arith, c .before .before .code .ensures, c .before .if2 .taken)) (c .not-restored2 .result) (c .not-restored2 .ensures)
 
 mul-size : tie.Need-mul-size
 mul-size c =

@@ -2,7 +2,6 @@
 use mathlib.Core.Path.{sym, _∙_}
 use native.Mathlib.Omega.{arith}
 use borrow.Author.Needs.{needs}
-use lib.ListN.{length}
 use denote.Ref.{now}
 use Rattle.plan.proofs.Appending.{append-none}
 use Rattle.plan.proofs.RowsAsRoads.{selecting-by}

@@ -1,10 +1,9 @@
 -- `put_register` meets its contract. Assumes nothing.
-use Prim.Native.Nat.{_/_, _%_}
 use native.Mathlib.Omega.{arith}
 use borrow.Author.Needs.{needs}
 use lib.ListN.{length-append}
-use Rattle.plan.specs.EngineRows.{indexBy, roadOf}
-use Rattle.plan.specs.RoadRecords.{selecting, along}
+use Rattle.plan.specs.EngineRows.{roadOf}
+use Rattle.plan.specs.RoadRecords.{along}
 use Rattle.plan.proofs.Appending.{append-then}
 use Rattle.plan.proofs.rows.put_register.Statement.{statement}
 use Rattle.plan.proofs.rows.put_register.Tie as tie

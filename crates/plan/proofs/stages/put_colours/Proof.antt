@@ -5,7 +5,7 @@ use borrow.Author.Needs.{needs}
 use lib.ListN.{length}
 use Rattle.plan.specs.Plan.{openBank, entries, colours}
 use Rattle.plan.proofs.Appending.{append-then, room-behind}
-use Rattle.plan.proofs.Counted.{colours-parts}
+use Rattle.plan.proofs.PlanCount.{colours-parts}
 use Rattle.plan.proofs.stages.put_colours.Statement.{statement}
 use Rattle.plan.proofs.stages.put_colours.Tie as tie
 

@@ -12,9 +12,9 @@ returns c =
     let second = third .before .before .before .before .before in
     let first = second .before .before .before .before .before in
     append-then
-    (append-then (rw (first .before .before .wide .ensures) at (first .mmio-write .ensures))
-    (rw (second .before .before .wide2 .ensures) at (second .mmio-write2 .ensures)))
-    (rw (third .before .before .wide3 .ensures) at (third .mmio-write3 .ensures))
+    (append-then (rw (first .before .before .wide-byte .ensures) at (first .mmio-write .ensures))
+    (rw (second .before .before .wide-byte2 .ensures) at (second .mmio-write2 .ensures)))
+    (rw (third .before .before .wide-byte3 .ensures) at (third .mmio-write3 .ensures))
 
 pub put-pixel-spec : {M : Type 1} → statement M
 put-pixel-spec =

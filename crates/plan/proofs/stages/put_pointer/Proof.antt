@@ -4,10 +4,10 @@ use Rattle.plan.proofs.stages.put_pointer.Statement.{statement}
 use Rattle.plan.proofs.stages.put_pointer.Tie as tie
 
 returns : tie.Need-returns
-returns c = rw (c .before .before .before .before .before .if1 .taken) (rw (c .before .before .before .before .wide .ensures) at (c .before .before .mmio-write .ensures))
+returns c = rw (c .before .before .before .before .before .if1 .taken) (rw (c .before .before .before .before .wide-byte .ensures) at (c .before .before .mmio-write .ensures))
 
 returns-2 : tie.Need-returns-2
-returns-2 c = rw (c .before .before .before .before .before .if1 .left) (rw (c .before .before .before .before .wide2 .ensures) at (c .before .before .mmio-write2 .ensures))
+returns-2 c = rw (c .before .before .before .before .before .if1 .left) (rw (c .before .before .before .before .wide-byte2 .ensures) at (c .before .before .mmio-write2 .ensures))
 
 pub put-pointer-spec : {M : Type 1} → statement M
 put-pointer-spec =

@@ -6,7 +6,7 @@ use mathlib.Core.Bool.{Bool, true, false, cond, not, _&&_}
 use mathlib.Core.List.{List, [], _∷_}
 use native.Mathlib.Omega.{arith}
 use lib.Dec.{T, eqb, leb, le→leb, lit<, eqb→eq}
-use lib.ListN.{getD, set, length}
+use lib.ListN.{getD, length}
 use Rattle.bits.specs.Store.{bit, store, within}
 use Rattle.bits.proofs.Bit.{bit-lt}
 use Rattle.bits.proofs.Test.{left, right, both}
@@ -25,33 +25,24 @@ use Rattle.plan.specs.Roads.{toPCI04, toCR11, toB0, toSRX, toGRX, toARX,
 use Rattle.plan.specs.Plan.{toggleRead, pointerWrite, openPalette, openBank, entries, colours, indices, closing}
 use Rattle.plan.specs.RoadRecords.{write, selecting, along}
 use Rattle.plan.specs.Restores.{RunsInto, bytes}
-use Rattle.plan.proofs.Along.{brought, passable, selectable, Lead, Brings, roads-bring, arx-leads}
-use Rattle.plan.proofs.Asked.{viewOf}
-use Rattle.plan.proofs.Colours.{Up, size, entriesIn, withEntries, painted, inRange, afterRun, run-runs, address-runs}
-use Rattle.plan.proofs.Composed.{then}
-use Rattle.plan.proofs.Entries.{sets-all}
-use Rattle.plan.proofs.Leads.{flips, seen, leads, everyRoad, leading, singles-lead, registers-lead, crx-leads}
-use Rattle.plan.proofs.Opening.{config-runs, open-fits}
-use Rattle.plan.proofs.Ready.{On, Ready, at-any, with-sound, wanted-within, ready-runs, ready-with, ready-flipped, loose}
-use Rattle.plan.proofs.Stored.{withRegister, flipped}
-use Rattle.plan.proofs.Toggled.{toggle-runs}
+use Rattle.plan.specs.RegisterStage.{withRegister, flipped, flips, everyRoad, SpacesOn, Ready, loose, selectable, brought, passable, Brings}
+use Rattle.plan.specs.ColourStage.{PaletteReady, entryCount, entriesIn, withEntries, painted, inRange, afterStretch}
+use Rattle.plan.specs.StageEnds.{coloured, indexed, closed}
+use Rattle.plan.proofs.RegisterStageRuns.{AllLead, roads-bring, arx-leads}
+use Rattle.plan.proofs.LookupBySelectors.{selectorsOf}
+use Rattle.plan.proofs.StretchRuns.{stretch-runs, address-runs}
+use Rattle.plan.proofs.RunsCompose.{runs-then}
+use Rattle.plan.proofs.ColourStageRuns.{sets-all}
+use Rattle.plan.proofs.RoadsLead.{withIndex, leads, leading, single-roads-lead, registers-lead, crx-leads}
+use Rattle.plan.proofs.OpeningRuns.{config-runs, open-fits}
+use Rattle.plan.proofs.ReadyRuns.{at-any, with-sound, wanted-within, ready-runs, ready-with, ready-flipped}
+use Rattle.plan.proofs.ToggleReads.{toggle-runs}
 
 -- ---- colours
 
--- the file with all colours as wanted, the pointer behind the bank's
-unfoldable pub coloured : List Colour → List Colour → File → File
-coloured palette bank f =
-    record {
-      registers = set (f .registers) B0 openBank;
-      palette = palette;
-      bank = bank;
-      pointer = addressed false 16;
-      toggle = f .toggle;
-    }
-
 -- a ready file stays ready while its registers stay
 ready-as : (w : List ℕ) (f g : File) → g .registers ≡ f .registers → T (pointerSound (g .pointer)) → Ready w f → Ready w g
-unfolding On sound register
+unfolding SpacesOn sound register
 ready-as w f g e p ready =
     record {
       isSound =
@@ -66,24 +57,24 @@ ready-as w f g e p ready =
 abbrev choosing : Bool → ℕ
 choosing bank = cond bank openBank openPalette
 
-chosen-up : (w : List ℕ) (f : File) (bank : Bool) → Ready w f → register f B0 ≡ choosing bank → Up f bank
+chosen-up : (w : List ℕ) (f : File) (bank : Bool) → Ready w f → register f B0 ≡ choosing bank → PaletteReady f bank
 unfolding openPalette openBank paletteUp inBank bit
 chosen-up w f true ready b0 = record { registersSound = registers-sound f (ready .isSound); on = ready .on; up = rw b0; chosen = rw b0 }
 chosen-up w f false ready b0 = record { registersSound = registers-sound f (ready .isSound); on = ready .on; up = rw b0; chosen = rw b0 }
 
 -- all entries, from the first on
 all-run : (w : List ℕ) (f : File) (bank : Bool) (new : List Colour) → Ready w f → register f B0 ≡ choosing bank
-    → length (entriesIn bank f) ≡ size bank → length new ≡ size bank → T (bytes new)
-    → RunsInto f (entries 0 new) (withPointer (addressed false (size bank % 256)) (withEntries bank new f))
-unfolding afterRun painted inRange
+    → length (entriesIn bank f) ≡ entryCount bank → length new ≡ entryCount bank → T (bytes new)
+    → RunsInto f (entries 0 new) (withPointer (addressed false (entryCount bank % 256)) (withEntries bank new f))
+unfolding afterStretch painted inRange
 all-run w f bank new ready b0 old many t =
     subst (λ (g : File). RunsInto f (entries 0 new) g)
     (ap₂ (λ (a : ℕ) (l : List Colour). withPointer (addressed false (a % 256)) (withEntries bank l f)) total
     (sets-all (entriesIn bank f) new (old ∙ sym many)))
-    (run-runs (record { first = 0; colours = new }) f bank (ready .isSound) (chosen-up w f bank ready b0)
-    (both (leb (0 + length new) (size bank)) (bytes new) (le→leb (0 + length new) (size bank) (omega (arith, many))) t))
+    (stretch-runs (record { first = 0; colours = new }) f bank (ready .isSound) (chosen-up w f bank ready b0)
+    (both (leb (0 + length new) (entryCount bank)) (bytes new) (le→leb (0 + length new) (entryCount bank) (omega (arith, many))) t))
   where
-    total : 0 + length new ≡ size bank
+    total : 0 + length new ≡ entryCount bank
     total = omega (arith, many)
 
 module _ (w : List ℕ) (palette bank : List Colour) (f : File) (all : length palette ≡ 256) (allBytes : T (bytes palette))
@@ -105,15 +96,15 @@ module _ (w : List ℕ) (palette bank : List Colour) (f : File) (all : length pa
   pub colours-run : RunsInto f (colours palette bank) (coloured palette bank f)
   unfolding colours coloured flips flipped withRegister withRegisters withPointer withPalette withBank
   colours-run =
-      then (entries 0 palette) (write toB0 openBank ∷ entries 0 bank) f half (coloured palette bank f)
+      runs-then (entries 0 palette) (write toB0 openBank ∷ entries 0 bank) f half (coloured palette bank f)
       (all-run w f false palette ready b0 many all allBytes)
-      (then (write toB0 openBank ∷ []) (entries 0 bank) half (withRegister B0 openBank half) (coloured palette bank f)
-      (ready-runs w half toB0 openBank half-ready (singles-lead (viewOf half) .b0) (open-fits .bank))
+      (runs-then (write toB0 openBank ∷ []) (entries 0 bank) half (withRegister B0 openBank half) (coloured palette bank f)
+      (ready-runs w half toB0 openBank half-ready (single-roads-lead (selectorsOf half) .b0) (open-fits .bank))
       (all-run w (withRegister B0 openBank half) true bank switched-ready (at-any half B0 openBank B0 (half-ready .isSound) (lit< tt)) few
       sixteen bankBytes))
 
   pub coloured-ready : Ready w (coloured palette bank f)
-  unfolding coloured withRegister withRegisters withPointer withPalette addressed pointerSound
+  unfolding coloured withRegister withRegisters withPointer withPalette addressed pointerSound withBank
   coloured-ready = ready-as w (withRegister B0 openBank half) (coloured palette bank f) refl tt switched-ready
 
 -- ---- registers
@@ -133,16 +124,12 @@ indices-open : (misc : ℕ) → T (everyRoad passable (indexRoads misc))
 unfolding everyRoad passable selectable loose isOneOf indexRoads
 indices-open misc = tt
 
-indices-lead : (w : List ℕ) → Lead w (indexRoads (getD w MISC 0))
-unfolding leading everyRoad seen indexRoads byHalf
+indices-lead : (w : List ℕ) → AllLead w (indexRoads (getD w MISC 0))
+unfolding leading everyRoad withIndex indexRoads byHalf
 indices-lead w v e =
-    both (leads v toSRX) (leads v toGRX && (leads v (toCRX (getD w MISC 0)) && true)) (singles-lead v .srx)
-    (both (leads v toGRX) (leads v (toCRX (getD w MISC 0)) && true) (singles-lead v .grx)
+    both (leads v toSRX) (leads v toGRX && (leads v (toCRX (getD w MISC 0)) && true)) (single-roads-lead v .srx)
+    (both (leads v toGRX) (leads v (toCRX (getD w MISC 0)) && true) (single-roads-lead v .grx)
     (both (leads v (toCRX (getD w MISC 0))) true (crx-leads v (bit 0 (getD w MISC 0)) (bit-lt 0 (getD w MISC 0)) (ap (bit 0) e)) tt))
-
--- the file with the index registers and the toggle as wanted
-unfoldable pub indexed : List ℕ → Bool → File → File
-indexed w toggle f = withToggle toggle (withRegister ARX (getD w ARX 0) (brought w (indexRoads (getD w MISC 0)) f))
 
 module _ (w : List ℕ) (toggle : Bool) (f : File) (s : T (allWithin storedTable w)) (ready : Ready w f) (t : f .toggle ≡ false) where
   -- SRX, GRX and CRX
@@ -160,9 +147,9 @@ module _ (w : List ℕ) (toggle : Bool) (f : File) (s : T (allWithin storedTable
   pub indices-run : RunsInto f (indices w toggle) (indexed w toggle f)
   unfolding indices indexed flips flipped brought withRegister withRegisters withToggle
   indices-run =
-      then (along w (indexRoads (getD w MISC 0))) (write toARX (getD w ARX 0) ∷ toggleRead (getD w MISC 0) toggle ∷ [])
+      runs-then (along w (indexRoads (getD w MISC 0))) (write toARX (getD w ARX 0) ∷ toggleRead (getD w MISC 0) toggle ∷ [])
       f (brought w (indexRoads (getD w MISC 0)) f) (indexed w toggle f) (three .runs)
-      (then (write toARX (getD w ARX 0) ∷ []) (toggleRead (getD w MISC 0) toggle ∷ [])
+      (runs-then (write toARX (getD w ARX 0) ∷ []) (toggleRead (getD w MISC 0) toggle ∷ [])
       (brought w (indexRoads (getD w MISC 0)) f) (flipped true (withRegister ARX (getD w ARX 0) (brought w (indexRoads (getD w MISC 0)) f))) (indexed w toggle f)
       (ready-runs w (brought w (indexRoads (getD w MISC 0)) f) toARX (getD w ARX 0) (three .ready) (arx-leads (brought w (indexRoads (getD w MISC 0)) f) t) (wanted-within w ARX s))
       (toggle-runs w (flipped true (withRegister ARX (getD w ARX 0) (brought w (indexRoads (getD w MISC 0)) f))) toggle four-ready (ap not t)))
@@ -174,11 +161,6 @@ module _ (w : List ℕ) (toggle : Bool) (f : File) (s : T (allWithin storedTable
       (pointer-sound _ (four-ready .isSound)) four-ready
 
 -- ---- closing
-
--- the file with the pointer and what was open as wanted
-unfoldable pub closed : List ℕ → Pointer → File → File
-closed w p f =
-    withRegister PCI04 (getD w PCI04 0) (withRegister CR11 (getD w CR11 0) (withRegister B0 (getD w B0 0) (withPointer p f)))
 
 -- a sound pointer before red holds nothing
 before-red : (p : Pointer) → T (pointerSound p) → p .next ≡ 0 → addressed (p .reading) (p .address) ≡ p
@@ -206,17 +188,17 @@ module _ (w : List ℕ) (p : Pointer) (f : File) (s : T (allWithin storedTable w
   pub closing-runs : RunsInto f (closing w p) (closed w p f)
   unfolding closing closed closingRoads along selecting flips flipped
   closing-runs =
-      then (pointerWrite p ∷ []) (along w closingRoads)
+      runs-then (pointerWrite p ∷ []) (along w closingRoads)
       f pointed (closed w p f)
       (subst (λ (q : Pointer). RunsInto f (pointerWrite p ∷ []) (withPointer q f)) (before-red p ps red)
       (address-runs f (p .reading) (p .address) (ready .isSound) (ready .on) small))
-      (then (write toB0 (getD w B0 0) ∷ []) (write toCR11 (getD w CR11 0) ∷ write toPCI04 (getD w PCI04 0) ∷ [])
+      (runs-then (write toB0 (getD w B0 0) ∷ []) (write toCR11 (getD w CR11 0) ∷ write toPCI04 (getD w PCI04 0) ∷ [])
       pointed (withRegister B0 (getD w B0 0) pointed) (closed w p f)
-      (ready-runs w pointed toB0 (getD w B0 0) pointed-ready (singles-lead (viewOf pointed) .b0) (wanted-within w B0 s))
-      (then (write toCR11 (getD w CR11 0) ∷ []) (write toPCI04 (getD w PCI04 0) ∷ [])
+      (ready-runs w pointed toB0 (getD w B0 0) pointed-ready (single-roads-lead (selectorsOf pointed) .b0) (wanted-within w B0 s))
+      (runs-then (write toCR11 (getD w CR11 0) ∷ []) (write toPCI04 (getD w PCI04 0) ∷ [])
       (withRegister B0 (getD w B0 0) pointed) (withRegister CR11 (getD w CR11 0) (withRegister B0 (getD w B0 0) pointed)) (closed w p f)
       (ready-runs w (withRegister B0 (getD w B0 0) pointed) toCR11 (getD w CR11 0) b0-ready
-      (singles-lead (viewOf (withRegister B0 (getD w B0 0) pointed)) .cr11) (wanted-within w CR11 s))
+      (single-roads-lead (selectorsOf (withRegister B0 (getD w B0 0) pointed)) .cr11) (wanted-within w CR11 s))
       (config-runs (withRegister CR11 (getD w CR11 0) (withRegister B0 (getD w B0 0) pointed)) (getD w PCI04 0)
       (with-sound (withRegister B0 (getD w B0 0) pointed) CR11 (getD w CR11 0) (b0-ready .isSound) (wanted-within w CR11 s))
       (wanted-within w PCI04 s))))

@@ -26,27 +26,28 @@ use Rattle.access.specs.Places.{Row, any, places, each, attributePorts, general
 use Rattle.plan.specs.Roads.{byHalf}
 use Rattle.plan.specs.Plan.{portRead, toIndex, toggleRead}
 use Rattle.plan.specs.Restores.{accepted, RunsInto}
-use Rattle.plan.proofs.Asked.{asked, does}
-use Rattle.plan.proofs.Composed.{one}
-use Rattle.plan.proofs.Ready.{On, Ready, spaces-on}
+use Rattle.plan.specs.RegisterStage.{SpacesOn, Ready}
+use Rattle.plan.proofs.ChecksPassed.{answered-by-place, does-as-place}
+use Rattle.plan.proofs.RunsCompose.{runs-one}
+use Rattle.plan.proofs.ReadyRuns.{spaces-on}
 
 abbrev readRow : ℕ → Place → Row
 readRow address place = record { kind = 2; address = address; index = any; width = 1; place = place }
 
-read-runs : (f : File) (address value : ℕ) (place : Place) → T (sound f) → On f → rowOf f (portRead address) ≡ some (readRow address place)
+read-runs : (f : File) (address value : ℕ) (place : Place) → T (sound f) → SpacesOn f → rowOf f (portRead address) ≡ some (readRow address place)
     → otherHalf f (portRead address) ≡ false → answerAt false f place ≡ Done value → RunsInto f (portRead address ∷ []) (apply (readAt f place) f)
 unfolding malformed isWrite effectAt accepted codeOf
 read-runs f address value place s on e h done =
-    one f (portRead address) (apply (readAt f place) f) (rw answers tt) (does f (portRead address) (readRow address place) value e answers)
+    runs-one f (portRead address) (apply (readAt f place) f) (rw answers tt) (does-as-place f (portRead address) (readRow address place) value e answers)
   where
     answers : answer f (portRead address) ≡ Done value
     answers =
-        asked f (portRead address) (readRow address place)
+        answered-by-place f (portRead address) (readRow address place)
         (record { isSound = s; formed = refl; on = spaces-on f (portRead address) on; found = e; half = h; width = refl })
         ∙ done
 
 -- by the half that MISC[0] has
-reset-by : (f : File) → T (sound f) → On f → (x : ℕ) → x < 2 → bit 0 (register f MISC) ≡ x
+reset-by : (f : File) → T (sound f) → SpacesOn f → (x : ℕ) → x < 2 → bit 0 (register f MISC) ≡ x
     → RunsInto f (portRead (cond (eqb x 1) 0x3DA 0x3BA) ∷ []) (withToggle false f)
 unfolding otherHalf isPort isOneOf answerAt readAt apply rowOf first fits selects places each attributePorts generalPorts crtcPorts pipelinePlace mmioPlaces pciPlaces sequencer crtc graphics attribute pipeline
 reset-by f s on =

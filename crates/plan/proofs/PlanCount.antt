@@ -20,14 +20,14 @@ pixels-count [] = refl
 pixels-count (c ∷ cs) = omega (arith, pixels-count cs)
 
 -- 769 records for the palette, 50 for the bank
-colours-count : (palette bank : List Colour) → length palette ≡ 256 → length bank ≡ 16 → length (colours palette bank) ≡ 819
+colour-records : (palette bank : List Colour) → length palette ≡ 256 → length bank ≡ 16 → length (colours palette bank) ≡ 819
 unfolding colours entries
-colours-count palette bank p b = rw (length-append, pixels-count palette, pixels-count bank, p, b)
+colour-records palette bank p b = rw (length-append, pixels-count palette, pixels-count bank, p, b)
 
 -- one or two records for each register
-registers-count : (w : List ℕ) → length (along w registerRoads) ≡ 140
+register-records : (w : List ℕ) → length (along w registerRoads) ≡ 140
 unfolding along selecting registerRoads eachRoad but isOneOf sequencer crtc graphics attribute pipeline
-registers-count w = refl
+register-records w = refl
 
 -- the stages one behind the other
 pub colours-parts : (palette bank : List Colour) → length (colours palette bank) ≡ length (entries 0 palette) + (1 + length (entries 0 bank))
@@ -41,7 +41,7 @@ plan-parts w = simp length-append
 
 pub plan-count : (w : File) → IsFile w → length (planRecords w) ≡ 973
 plan-count w wf =
-    plan-parts w ∙ simp (colours-count (w .palette) (w .bank) (wf .palette) (wf .bank), registers-count (w .registers))
+    plan-parts w ∙ simp (colour-records (w .palette) (w .bank) (wf .palette) (wf .bank), register-records (w .registers))
 
 -- 'at most 1,024 records'
 pub plan-room : (w : File) → IsFile w → length (planRecords w) ≤ 1024

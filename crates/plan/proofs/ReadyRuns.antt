@@ -1,8 +1,8 @@
--- The file in which a plan's stages run: sound, both spaces on, unlocked, MISC as wanted; and what one record by a road does there.
+-- One record by a road, in a file that is ready: it is accepted, stores its value, and leaves the file ready.
 -- Assumes nothing.
 use Prim.Native.Nat.{ℕ, _<_}
 use mathlib.Core.Path.{_≡_, refl, _∙_, subst}
-use mathlib.Core.Bool.{Bool, true, false, cond, not, _&&_}
+use mathlib.Core.Bool.{Bool, true, false, cond, _&&_}
 use mathlib.Core.List.{List, [], _∷_}
 use borrow.Author.Tests.{eqb-true, eqb-false}
 use lib.Dec.{T, eqb, leb, T-not}
@@ -24,10 +24,11 @@ use Rattle.plan.specs.Roads.{Road}
 use Rattle.plan.specs.Plan.{openSpaces, openLock}
 use Rattle.plan.specs.RoadRecords.{write}
 use Rattle.plan.specs.Restores.{RunsInto}
-use Rattle.plan.proofs.Asked.{viewOf}
-use Rattle.plan.proofs.Composed.{one}
-use Rattle.plan.proofs.Leads.{flips, leads}
-use Rattle.plan.proofs.Stored.{withRegister, flipped, Free, road-stores}
+use Rattle.plan.specs.RegisterStage.{withRegister, flipped, flips, SpacesOn, Ready, loose}
+use Rattle.plan.proofs.LookupBySelectors.{selectorsOf}
+use Rattle.plan.proofs.RunsCompose.{runs-one}
+use Rattle.plan.proofs.RoadsLead.{leads}
+use Rattle.plan.proofs.RoadStores.{Free, road-stores}
 
 -- ---- one register anew
 
@@ -46,8 +47,8 @@ at-any f number value n s h =
     (λ e. rw (e, eqb-true n number e) (at-same f number value s h)) (λ e. rw e (at-other f number value n (eqb-false n number e)))
 
 -- what the file then shows
-pub view-with : (f : File) (number value : ℕ) → T (sound f) → number < 100
-    → viewOf (withRegister number value f)
+pub selectors-with : (f : File) (number value : ℕ) → T (sound f) → number < 100
+    → selectorsOf (withRegister number value f)
     ≡ record {
       misc = cond (eqb MISC number) value (register f MISC);
       srx = cond (eqb SRX number) value (register f SRX);
@@ -56,8 +57,8 @@ pub view-with : (f : File) (number value : ℕ) → T (sound f) → number < 100
       arx = cond (eqb ARX number) value (register f ARX);
       toggle = f .toggle;
     }
-unfolding viewOf withRegister withRegisters
-view-with f number value s h =
+unfolding selectorsOf withRegister withRegisters
+selectors-with f number value s h =
     rw (at-any f number value MISC s h, at-any f number value SRX s h, at-any f number value CRX s h, at-any f number value GRX s h, at-any f number value ARX s h)
 
 pub with-sound : (f : File) (number value : ℕ) → T (sound f) → T (within (storedBits number) value) → T (sound (withRegister number value f))
@@ -71,20 +72,10 @@ pub wanted-within : (w : List ℕ) (number : ℕ) → T (allWithin storedTable w
 unfolding storedBits
 wanted-within w number s = at storedTable w number s
 
--- ---- ready
+-- ---- in a ready file
 
--- PCI04 as a plan opens it
-unfoldable pub On : File → Type 0
-On f = register f PCI04 ≡ openSpaces
-
-pub record Ready (w : List ℕ) (f : File) : Type 0 where
-  pub isSound : T (sound f)
-  pub on : On f
-  pub unlocked : register f CR11 ≡ openLock
-  pub misc : register f MISC ≡ getD w MISC 0
-
-pub spaces-on : (f : File) (r : Record) → On f → spaceOff f r ≡ false
-unfolding On openSpaces spaceOff bit
+pub spaces-on : (f : File) (r : Record) → SpacesOn f → spaceOff f r ≡ false
+unfolding SpacesOn openSpaces spaceOff bit
 spaces-on f r on = rw on (by-test (isPort r) (λ e. rw e (none (isMmio r))) (λ e. rw e (none (isMmio r))))
   where
     none : (b : Bool) → (b && false) ≡ false
@@ -105,26 +96,22 @@ beyond-lock f number e h =
     }
 
 -- a record by a road, in a sound file that has both spaces on
-pub on-runs : (f : File) (road : Road) (value : ℕ) → T (sound f) → On f → Free f (road .register) → T (leads (viewOf f) road)
+pub on-runs : (f : File) (road : Road) (value : ℕ) → T (sound f) → SpacesOn f → Free f (road .register) → T (leads (selectorsOf f) road)
     → T (within (storedBits (road .register)) value)
     → RunsInto f (write road value ∷ []) (flipped (flips (road .index)) (withRegister (road .register) value f))
 on-runs f road value s on free l w =
     let stores = road-stores f road value l s (spaces-on f (write road value) on) free w in
-    one f (write road value) (flipped (flips (road .index)) (withRegister (road .register) value f)) (stores .done) (stores .file)
+    runs-one f (write road value) (flipped (flips (road .index)) (withRegister (road .register) value f)) (stores .done) (stores .file)
 
 -- and in a file that is ready
-pub ready-runs : (w : List ℕ) (f : File) (road : Road) (value : ℕ) → Ready w f → T (leads (viewOf f) road) → T (within (storedBits (road .register)) value)
+pub ready-runs : (w : List ℕ) (f : File) (road : Road) (value : ℕ) → Ready w f → T (leads (selectorsOf f) road) → T (within (storedBits (road .register)) value)
     → RunsInto f (write road value ∷ []) (flipped (flips (road .index)) (withRegister (road .register) value f))
 ready-runs w f road value ready = on-runs f road value (ready .isSound) (ready .on) (unlocked-free f (road .register) (ready .unlocked))
-
--- the registers that a ready file is known by
-unfoldable pub loose : ℕ → Bool
-loose number = not (isOneOf (PCI04 ∷ CR11 ∷ MISC ∷ []) number)
 
 -- another register anew leaves it ready
 pub ready-with : (w : List ℕ) (f : File) (number value : ℕ) → Ready w f → T (loose number) → T (within (storedBits number) value)
     → Ready w (withRegister number value f)
-unfolding On loose isOneOf
+unfolding SpacesOn loose isOneOf
 ready-with w f number value ready l v =
     record {
       isSound = with-sound f number value (ready .isSound) v;
@@ -138,6 +125,6 @@ ready-with w f number value ready l v =
         T-not (isOneOf (PCI04 ∷ CR11 ∷ MISC ∷ []) number) l (subst (λ (m : ℕ). T (isOneOf (PCI04 ∷ CR11 ∷ MISC ∷ []) m)) e t)
 
 pub ready-flipped : (w : List ℕ) (f : File) (flip : Bool) → Ready w f → Ready w (flipped flip f)
-unfolding On flipped withToggle sound register
+unfolding SpacesOn flipped withToggle sound register
 ready-flipped w f true ready = record { isSound = ready .isSound; on = ready .on; unlocked = ready .unlocked; misc = ready .misc }
 ready-flipped w f false ready = ready

@@ -21,44 +21,20 @@ use Rattle.access.specs.Places.{Index, any, sr, cr, gr, ar, indexDue, dataDue}
 use Rattle.plan.specs.Roads.{Road, toSRX, toGRX, toARX}
 use Rattle.plan.specs.RoadRecords.{write, selecting, along}
 use Rattle.plan.specs.Restores.{RunsInto}
-use Rattle.plan.proofs.Asked.{View, viewOf}
-use Rattle.plan.proofs.Composed.{none, then}
-use Rattle.plan.proofs.Leads.{flips, seen, leads, everyRoad, leading, singles-lead}
-use Rattle.plan.proofs.Ready.{Ready, view-with, wanted-within, ready-runs, loose, ready-with, ready-flipped}
-use Rattle.plan.proofs.Stored.{withRegister, flipped}
+use Rattle.plan.specs.RegisterStage.{withRegister, flipped, flips, everyRoad, Ready, loose, afterSelecting, selectable, selected, afterRoads, brought, passable, moves, endsWanted, leavesAlone, Brings}
+use Rattle.plan.proofs.LookupBySelectors.{Selectors, selectorsOf}
+use Rattle.plan.proofs.RunsCompose.{runs-none, runs-then}
+use Rattle.plan.proofs.RoadsLead.{withIndex, leads, leading, single-roads-lead}
+use Rattle.plan.proofs.ReadyRuns.{selectors-with, wanted-within, ready-runs, ready-with, ready-flipped}
 
 -- ---- selecting an index
 
--- the registers with an index selected
-unfoldable pub afterSelecting : Index → List ℕ → List ℕ
-afterSelecting any registers = registers
-afterSelecting (sr n) registers = set registers SRX n
-afterSelecting (cr n) registers = registers
-afterSelecting (gr n) registers = set registers GRX n
-afterSelecting (ar n) registers = registers
-afterSelecting indexDue registers = registers
-afterSelecting (dataDue n) registers = set registers ARX n
-
--- an index that a plan selects, or none
-unfoldable pub selectable : Index → Bool
-selectable any = true
-selectable (sr n) = within (storedBits SRX) n
-selectable (cr n) = false
-selectable (gr n) = within (storedBits GRX) n
-selectable (ar n) = false
-selectable indexDue = false
-selectable (dataDue n) = within (storedBits ARX) n
-
--- the file with it selected: data is due after a 3C0h write
-unfoldable pub selected : Index → File → File
-selected i f = flipped (flips i) (withRegisters (afterSelecting i (f .registers)) f)
-
 -- 3C0h, with the toggle at index
-pub arx-leads : (f : File) → f .toggle ≡ false → T (leads (viewOf f) toARX)
-unfolding seen viewOf
-arx-leads f t = subst (λ (b : Bool). T (leads (shows b) toARX)) (sym t) (singles-lead (viewOf f) .arx)
+pub arx-leads : (f : File) → f .toggle ≡ false → T (leads (selectorsOf f) toARX)
+unfolding withIndex selectorsOf
+arx-leads f t = subst (λ (b : Bool). T (leads (shows b) toARX)) (sym t) (single-roads-lead (selectorsOf f) .arx)
   where
-    shows : Bool → View
+    shows : Bool → Selectors
     shows b =
         record { misc = register f MISC; srx = register f SRX; crx = register f CRX; grx = register f GRX; arx = register f ARX; toggle = b }
 
@@ -66,10 +42,10 @@ arx-leads f t = subst (λ (b : Bool). T (leads (shows b) toARX)) (sym t) (single
 pub record Selected (w : List ℕ) (f : File) (i : Index) : Type 0 where
   pub runs : RunsInto f (selecting i) (selected i f)
   pub ready : Ready w (selected i f)
-  pub view : viewOf (selected i f) ≡ seen i (viewOf f)
+  pub selectors : selectorsOf (selected i f) ≡ withIndex i (selectorsOf f)
 
 -- by the index register's own road
-select-by : (w : List ℕ) (f : File) (to : Road) (n : ℕ) → Ready w f → T (leads (viewOf f) to) → T (loose (to .register))
+select-by : (w : List ℕ) (f : File) (to : Road) (n : ℕ) → Ready w f → T (leads (selectorsOf f) to) → T (loose (to .register))
     → T (within (storedBits (to .register)) n)
     → RunsInto f (write to n ∷ []) (flipped (flips (to .index)) (withRegister (to .register) n f))
     × Ready w (flipped (flips (to .index)) (withRegister (to .register) n f))
@@ -79,15 +55,15 @@ select-by w f to n ready l free fit = (
 )
 
 select : (w : List ℕ) (f : File) (i : Index) → Ready w f → f .toggle ≡ false → T (selectable i) → Selected w f i
-unfolding selecting selected afterSelecting selectable flips flipped loose isOneOf withRegister withRegisters withToggle register seen viewOf
-select w f any ready t s = record { runs = none f; ready = ready; view = refl }
+unfolding selecting selected afterSelecting selectable flips flipped loose isOneOf withRegister withRegisters withToggle register withIndex selectorsOf
+select w f any ready t s = record { runs = runs-none f; ready = ready; selectors = refl }
 select w f (sr n) ready t s =
-    let by = select-by w f toSRX n ready (singles-lead (viewOf f) .srx) tt s in
-    record { runs = by .0; ready = by .1; view = view-with f SRX n (ready .isSound) (lit< tt) }
+    let by = select-by w f toSRX n ready (single-roads-lead (selectorsOf f) .srx) tt s in
+    record { runs = by .0; ready = by .1; selectors = selectors-with f SRX n (ready .isSound) (lit< tt) }
 select w f (cr n) ready t s = absurd s
 select w f (gr n) ready t s =
-    let by = select-by w f toGRX n ready (singles-lead (viewOf f) .grx) tt s in
-    record { runs = by .0; ready = by .1; view = view-with f GRX n (ready .isSound) (lit< tt) }
+    let by = select-by w f toGRX n ready (single-roads-lead (selectorsOf f) .grx) tt s in
+    record { runs = by .0; ready = by .1; selectors = selectors-with f GRX n (ready .isSound) (lit< tt) }
 select w f (ar n) ready t s = absurd s
 select w f indexDue ready t s = absurd s
 select w f (dataDue n) ready t s =
@@ -95,27 +71,13 @@ select w f (dataDue n) ready t s =
     record {
       runs = by .0;
       ready = by .1;
-      view =
+      selectors =
           rw t
-          (ap (λ (v : View). record { misc = v .misc; srx = v .srx; crx = v .crx; grx = v .grx; arx = v .arx; toggle = true })
-          (view-with f ARX n (ready .isSound) (lit< tt)));
+          (ap (λ (v : Selectors). record { misc = v .misc; srx = v .srx; crx = v .crx; grx = v .grx; arx = v .arx; toggle = true })
+          (selectors-with f ARX n (ready .isSound) (lit< tt)));
     }
 
 -- ---- a road, and a list of roads
-
--- the registers after some roads
-unfoldable pub afterRoads : List ℕ → List Road → List ℕ → List ℕ
-afterRoads w [] registers = registers
-afterRoads w (road ∷ roads) registers =
-    afterRoads w roads (set (afterSelecting (road .index) registers) (road .register) (getD w (road .register) 0))
-
--- the file after them: all else is as before
-unfoldable pub brought : List ℕ → List Road → File → File
-brought w roads f = withRegisters (afterRoads w roads (f .registers)) f
-
--- a road that a ready file may go
-unfoldable pub passable : Road → Bool
-passable road = selectable (road .index) && loose (road .register)
 
 -- its index selected, the register stored: the toggle is back where it was
 road-ends : (w : List ℕ) (f : File) (i : Index) (number value : ℕ) → f .toggle ≡ false → T (selectable i)
@@ -135,23 +97,18 @@ unfolding along
 along-behind w road roads = append-assoc (selecting (road .index)) (write road (getD w (road .register) 0) ∷ []) (along w roads)
 
 -- every road leads to its register, with its index selected, in a file that shows the wanted MISC
-abbrev pub Lead : List ℕ → List Road → Type 0
-Lead w roads = (v : View) → v .misc ≡ getD w MISC 0 → T (leading v roads)
-
--- what a list of roads does
-pub record Brings (w : List ℕ) (f : File) (roads : List Road) : Type 0 where
-  pub runs : RunsInto f (along w roads) (brought w roads f)
-  pub ready : Ready w (brought w roads f)
+abbrev pub AllLead : List ℕ → List Road → Type 0
+AllLead w roads = (v : Selectors) → v .misc ≡ getD w MISC 0 → T (leading v roads)
 
 module _ (w : List ℕ) (s : T (allWithin storedTable w)) where
   -- one road
-  road-brings : (f : File) (road : Road) → Ready w f → f .toggle ≡ false → T (passable road) → T (leads (seen (road .index) (viewOf f)) road)
+  road-brings : (f : File) (road : Road) → Ready w f → f .toggle ≡ false → T (passable road) → T (leads (withIndex (road .index) (selectorsOf f)) road)
       → Brings w f (road ∷ [])
   unfolding along brought afterRoads passable
   road-brings f road ready t o l =
       record {
         runs =
-            then (selecting (road .index)) (write road (getD w (road .register) 0) ∷ []) f (selected (road .index) f)
+            runs-then (selecting (road .index)) (write road (getD w (road .register) 0) ∷ []) f (selected (road .index) f)
             (brought w (road ∷ []) f) (sel .runs)
             (subst (λ (g : File). RunsInto (selected (road .index) f) (write road (getD w (road .register) 0) ∷ []) g) ends stores);
         ready = subst (λ (g : File). Ready w g) ends after;
@@ -173,7 +130,7 @@ module _ (w : List ℕ) (s : T (allWithin storedTable w)) where
           (flipped (flips (road .index)) (withRegister (road .register) (getD w (road .register) 0) (selected (road .index) f)))
       stores =
           ready-runs w (selected (road .index) f) road (getD w (road .register) 0) (sel .ready)
-          (subst (λ (v : View). T (leads v road)) (sym (sel .view)) l) fit
+          (subst (λ (v : Selectors). T (leads v road)) (sym (sel .selectors)) l) fit
 
       after : Ready w (flipped (flips (road .index)) (withRegister (road .register) (getD w (road .register) 0) (selected (road .index) f)))
       after =
@@ -181,33 +138,23 @@ module _ (w : List ℕ) (s : T (allWithin storedTable w)) where
           (ready-with w (selected (road .index) f) (road .register) (getD w (road .register) 0) (sel .ready) (search (left, right)) fit)
 
   -- any list of roads
-  pub roads-bring : (roads : List Road) (f : File) → Ready w f → f .toggle ≡ false → T (everyRoad passable roads) → Lead w roads → Brings w f roads
-  unfolding along brought afterRoads everyRoad leading viewOf withRegisters
-  roads-bring [] f ready t o lead = record { runs = none f; ready = ready }
+  pub roads-bring : (roads : List Road) (f : File) → Ready w f → f .toggle ≡ false → T (everyRoad passable roads) → AllLead w roads → Brings w f roads
+  unfolding along brought afterRoads everyRoad leading selectorsOf withRegisters
+  roads-bring [] f ready t o lead = record { runs = runs-none f; ready = ready }
   roads-bring (road ∷ roads) f ready t o lead =
       let first = road-brings f road ready t (left (passable road) (everyRoad passable roads) o)
-      (left (leads (seen (road .index) (viewOf f)) road) _ (lead (viewOf f) (ready .misc))) in
+      (left (leads (withIndex (road .index) (selectorsOf f)) road) _ (lead (selectorsOf f) (ready .misc))) in
       let rest = roads-bring roads (brought w (road ∷ []) f) (first .ready) t (right (passable road) (everyRoad passable roads) o)
-      (λ v e. right (leads (seen (road .index) v) road) _ (lead v e)) in
+      (λ v e. right (leads (withIndex (road .index) v) road) _ (lead v e)) in
       record {
         runs =
             subst (λ (rs : List Record). RunsInto f rs (brought w (road ∷ roads) f))
             (along-behind w road roads)
-            (then (along w (road ∷ [])) (along w roads) f (brought w (road ∷ []) f) (brought w (road ∷ roads) f) (first .runs) (rest .runs));
+            (runs-then (along w (road ∷ [])) (along w roads) f (brought w (road ∷ []) f) (brought w (road ∷ roads) f) (first .runs) (rest .runs));
         ready = rest .ready;
       }
 
 -- ---- what they leave in the registers
-
--- the index register that selecting moves; 100, which none has, where there is none
-unfoldable pub moves : Index → ℕ
-moves any = 100
-moves (sr n) = SRX
-moves (cr n) = 100
-moves (gr n) = GRX
-moves (ar n) = 100
-moves indexDue = 100
-moves (dataDue n) = ARX
 
 differ : (m n : ℕ) → T (not (eqb m n)) → n ≡ m → ⊥
 differ m n h e = T-not (eqb m n) h (subst (λ (x : ℕ). T (eqb x n)) e (eqb-refl n))
@@ -249,17 +196,12 @@ after-append w [] b registers = refl
 after-append w (road ∷ a) b registers =
     after-append w a b (set (afterSelecting (road .index) registers) (road .register) (getD w (road .register) 0))
 
--- whether a register holds its wanted value after some roads, if it did or did not before
-unfoldable pub settles : List Road → ℕ → Bool → Bool
-settles [] n held = held
-settles (road ∷ roads) n held = settles roads n (eqb (road .register) n || held && not (eqb (moves (road .index)) n))
-
-pub settled : (w : List ℕ) (roads : List Road) (registers : List ℕ) (n : ℕ) (held : Bool) → n < length registers
-    → (T held → getD registers n 0 ≡ getD w n 0) → T (settles roads n held) → getD (afterRoads w roads registers) n 0 ≡ getD w n 0
-unfolding afterRoads settles
-settled w [] registers n held h e t = e t
-settled w (road ∷ roads) registers n held h e t =
-    settled w roads (set (afterSelecting (road .index) registers) (road .register) (getD w (road .register) 0)) n
+pub ends-wanted : (w : List ℕ) (roads : List Road) (registers : List ℕ) (n : ℕ) (held : Bool) → n < length registers
+    → (T held → getD registers n 0 ≡ getD w n 0) → T (endsWanted roads n held) → getD (afterRoads w roads registers) n 0 ≡ getD w n 0
+unfolding afterRoads endsWanted
+ends-wanted w [] registers n held h e t = e t
+ends-wanted w (road ∷ roads) registers n held h e t =
+    ends-wanted w roads (set (afterSelecting (road .index) registers) (road .register) (getD w (road .register) 0)) n
     (eqb (road .register) n || held && not (eqb (moves (road .index)) n))
     (rw (length-set, select-length (road .index) registers) h)
     (λ held′. by-test (eqb (road .register) n) stored (kept held′)) t
@@ -278,17 +220,12 @@ settled w (road ∷ roads) registers n held h e t =
         ∙ select-keeps (road .index) registers n (right held (not (eqb (moves (road .index)) n)) still)
         ∙ e (left held (not (eqb (moves (road .index)) n)) still)
 
--- a register that some roads neither name nor move
-unfoldable pub spares : List Road → ℕ → Bool
-spares [] n = true
-spares (road ∷ roads) n = not (eqb (road .register) n) && not (eqb (moves (road .index)) n) && spares roads n
-
-pub spared : (w : List ℕ) (roads : List Road) (registers : List ℕ) (n : ℕ) → T (spares roads n)
+pub left-alone : (w : List ℕ) (roads : List Road) (registers : List ℕ) (n : ℕ) → T (leavesAlone roads n)
     → getD (afterRoads w roads registers) n 0 ≡ getD registers n 0
-unfolding afterRoads spares
-spared w [] registers n t = refl
-spared w (road ∷ roads) registers n t =
-    spared w roads (set (afterSelecting (road .index) registers) (road .register) (getD w (road .register) 0)) n (search (left, right))
+unfolding afterRoads leavesAlone
+left-alone w [] registers n t = refl
+left-alone w (road ∷ roads) registers n t =
+    left-alone w roads (set (afterSelecting (road .index) registers) (road .register) (getD w (road .register) 0)) n (search (left, right))
     ∙ getD-set-other (afterSelecting (road .index) registers) (road .register) n (getD w (road .register) 0) 0
     (differ (road .register) n (search (left, right)))
     ∙ select-keeps (road .index) registers n (search (left, right))

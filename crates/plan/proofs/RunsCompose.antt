@@ -11,22 +11,22 @@ use Rattle.access.specs.Access.{answer, access, accessItem}
 use Rattle.access.specs.Run.{fileAfter, answers}
 use Rattle.plan.specs.Restores.{accepted, allAccepted, RunsInto}
 
-pub none : (f : File) → RunsInto f [] f
+pub runs-none : (f : File) → RunsInto f [] f
 unfolding allAccepted answers fileAfter
-none f = record { allDone = tt; ends = refl }
+runs-none f = record { allDone = tt; ends = refl }
 
 -- one record
-pub one : (f : File) (r : Record) (g : File) → T (accepted (answer f r)) → access f r .file ≡ g → RunsInto f (r ∷ []) g
+pub runs-one : (f : File) (r : Record) (g : File) → T (accepted (answer f r)) → access f r .file ≡ g → RunsInto f (r ∷ []) g
 unfolding allAccepted answers fileAfter accessItem access
-one f r g t e = record { allDone = both (accepted (answer f r)) _ t tt; ends = e }
+runs-one f r g t e = record { allDone = both (accepted (answer f r)) _ t tt; ends = e }
 
 -- lists one behind the other
-pub then : (rs ss : List Record) (f g h : File) → RunsInto f rs g → RunsInto g ss h → RunsInto f (rs ++ ss) h
+pub runs-then : (rs ss : List Record) (f g h : File) → RunsInto f rs g → RunsInto g ss h → RunsInto f (rs ++ ss) h
 unfolding allAccepted answers fileAfter accessItem access
-then [] ss f g h r s = subst (λ (x : File). RunsInto x ss h) (sym (r .ends)) s
-then (a ∷ rs) ss f g h r s =
+runs-then [] ss f g h r s = subst (λ (x : File). RunsInto x ss h) (sym (r .ends)) s
+runs-then (a ∷ rs) ss f g h r s =
     let rest : RunsInto (access f a .file) (rs ++ ss) h =
-    then rs ss (access f a .file) g h
+    runs-then rs ss (access f a .file) g h
     (record { allDone = right (accepted (answer f a)) (allAccepted (answers (access f a .file) (map Whole rs))) (r .allDone); ends = r .ends }) s in
     record {
       allDone =

@@ -2,10 +2,9 @@
 -- Assumes nothing.
 use Prim.Native.Nat.{ℕ, _*_, _<_}
 use mathlib.Core.Path.{_≡_, refl, sym, ap, ap₂, _∙_, subst}
-use mathlib.Core.Bool.{Bool, true, false, cond, not, true≢false}
-use mathlib.Core.List.{List, [], _∷_, _++_, map}
+use mathlib.Core.Bool.{Bool, cond, not}
+use mathlib.Core.List.{List, _∷_, _++_, map}
 use native.Mathlib.Omega.{arith}
-use borrow.Author.Tests.{eqb-true}
 use lib.Dec.{T, eqb, leb, T-not, eqb→eq}
 use lib.ListN.{getD, length, drop}
 use lib.Seq.{ext-getD}
@@ -13,7 +12,7 @@ use Rattle.bits.proofs.Test.{by-test, passes, is-true, chosen, everyBelow, belo
 use Rattle.file.specs.declared.answer.Answer.{Answer}
 use Rattle.file.specs.declared.answer.Answer.the-variants.{Done, ShortBuffer, NotSound, NotBeforeRed}
 use Rattle.file.specs.declared.registers.File.{File}
-use Rattle.file.specs.File.{register, withRegisters, withPointer, withToggle}
+use Rattle.file.specs.File.{register, withRegisters, withPointer, withToggle, withPalette, withBank}
 use Rattle.file.specs.Names.{MISC, B0}
 use Rattle.file.specs.Registers.{storedTable, sequencer, crtc, graphics, attribute, pipeline}
 use Rattle.file.specs.Answers.{codeOf, refused}
@@ -30,14 +29,14 @@ use Rattle.plan.specs.Plan.{openPalette, opening, colours, indices, clos
 use Rattle.plan.specs.RoadRecords.{along}
 use Rattle.plan.specs.Refusals.{planAnswer, restoreAnswer, answerByRun}
 use Rattle.plan.specs.Restores.{allAccepted, RunsInto, IsFile, Plans, PlanWritten}
-use Rattle.plan.proofs.Along.{afterSelecting, afterRoads, brought, Brings, moves, settles, settled, after-length, after-append}
-use Rattle.plan.proofs.Composed.{then}
-use Rattle.plan.proofs.Counted.{plan-room}
-use Rattle.plan.proofs.Fitting.{run-fits, trace-items}
-use Rattle.plan.proofs.Ready.{Ready}
-use Rattle.plan.proofs.Opening.{opened, opening-runs, opened-ready, opened-up}
-use Rattle.plan.proofs.StageLaws.{coloured, colours-run, coloured-ready, registers-bring, indexed, indices-run, indexed-ready, closed, closing-runs}
-use Rattle.plan.proofs.Stored.{withRegister}
+use Rattle.plan.specs.RegisterStage.{withRegister, Ready, afterSelecting, afterRoads, brought, moves, endsWanted, Brings}
+use Rattle.plan.specs.StageEnds.{opened, coloured, indexed, closed}
+use Rattle.plan.proofs.RegisterStageRuns.{ends-wanted, after-length, after-append}
+use Rattle.plan.proofs.RunsCompose.{runs-then}
+use Rattle.plan.proofs.PlanCount.{plan-room}
+use Rattle.plan.proofs.AcceptedFits.{run-fits, trace-items}
+use Rattle.plan.proofs.OpeningRuns.{opening-runs, opened-ready, opened-up}
+use Rattle.plan.proofs.LaterStagesRun.{colours-run, coloured-ready, registers-bring, indices-run, indexed-ready, closing-runs}
 
 -- ---- every register is named
 
@@ -50,9 +49,9 @@ unfoldable pub planRoads : ℕ → List Road
 planRoads misc = registerRoads ++ lastRoads misc
 
 -- after them every register holds its wanted value, if MISC did before
-all-settle : (misc : ℕ) → T (everyBelow (λ (n : ℕ). settles (planRoads misc) n (eqb n MISC)) 100)
-unfolding everyBelow settles planRoads lastRoads closingRoads moves registerRoads indexRoads eachRoad but isOneOf sequencer crtc graphics attribute pipeline
-all-settle misc = tt
+all-end-wanted : (misc : ℕ) → T (everyBelow (λ (n : ℕ). endsWanted (planRoads misc) n (eqb n MISC)) 100)
+unfolding everyBelow endsWanted planRoads lastRoads closingRoads moves registerRoads indexRoads eachRoad but isOneOf sequencer crtc graphics attribute pipeline
+all-end-wanted misc = tt
 
 -- the registers that the stages after the colours leave are the wanted ones
 registers-as-wanted : (w xs : List ℕ) (misc : ℕ) → T (allWithin storedTable w) → length xs ≡ length w → length w ≡ 100 → getD xs MISC 0 ≡ getD w MISC 0
@@ -61,9 +60,9 @@ registers-as-wanted w xs misc s many all same =
     ext-getD 0 (afterRoads w (planRoads misc) xs) w (after-length w (planRoads misc) xs ∙ many)
     (λ n h.
     let small : n < 100 = omega (arith, after-length w (planRoads misc) xs) in
-    settled w (planRoads misc) xs n (eqb n MISC) (omega arith)
+    ends-wanted w (planRoads misc) xs n (eqb n MISC) (omega arith)
     (λ t. subst (λ (m : ℕ). getD xs m 0 ≡ getD w m 0) (sym (eqb→eq n MISC t)) same)
-    (below (λ (m : ℕ). settles (planRoads misc) m (eqb m MISC)) 100 (all-settle misc) n small))
+    (below (λ (m : ℕ). endsWanted (planRoads misc) m (eqb m MISC)) 100 (all-end-wanted misc) n small))
 
 -- ---- demand 3
 
@@ -104,11 +103,11 @@ module _ (w f : File) (ws : T (sound w)) (fs : T (sound f)) (wf : IsFile w) (red
       opening-ready opening-up many few
 
   third-brings : Brings (w .registers) afterColours registerRoads
-  unfolding coloured opened withToggle
+  unfolding coloured opened withToggle withPointer withBank withPalette withRegister withRegisters
   third-brings = registers-bring (w .registers) afterColours within-bits colours-ready refl
 
   ends-in : closed (w .registers) (w .pointer) afterIndices ≡ w
-  unfolding closed indexed brought coloured withRegister withRegisters withToggle withPointer planRoads lastRoads closingRoads indexRoads afterRoads afterSelecting register
+  unfolding closed indexed brought coloured withRegister withRegisters withToggle withPointer planRoads lastRoads closingRoads indexRoads afterRoads afterSelecting register withBank withPalette
   ends-in =
       ap (λ (rs : List ℕ). withRegisters rs w)
       (sym (after-append (w .registers) registerRoads (lastRoads (getD (w .registers) MISC 0)) (afterColours .registers))
@@ -116,15 +115,15 @@ module _ (w f : File) (ws : T (sound w)) (fs : T (sound f)) (wf : IsFile w) (red
       (sound-count afterColours (colours-ready .isSound) ∙ sym (sound-count w ws)) (sound-count w ws) (colours-ready .misc))
 
   pub plan-restores : RunsInto f (planRecords w) w
-  unfolding planRecords brought withRegisters coloured opened withToggle
+  unfolding planRecords brought withRegisters coloured opened withToggle withPointer withBank withPalette withRegister
   plan-restores =
       subst (λ (g : File). RunsInto f (planRecords w) g) ends-in
-      (then (opening (w .registers) ++ colours (w .palette) (w .bank) ++ along (w .registers) registerRoads ++ indices (w .registers) (w .toggle))
+      (runs-then (opening (w .registers) ++ colours (w .palette) (w .bank) ++ along (w .registers) registerRoads ++ indices (w .registers) (w .toggle))
       (closing (w .registers) (w .pointer)) f afterIndices (closed (w .registers) (w .pointer) afterIndices)
-      (then (opening (w .registers) ++ colours (w .palette) (w .bank) ++ along (w .registers) registerRoads) (indices (w .registers) (w .toggle))
+      (runs-then (opening (w .registers) ++ colours (w .palette) (w .bank) ++ along (w .registers) registerRoads) (indices (w .registers) (w .toggle))
       f afterRegisters afterIndices
-      (then (opening (w .registers) ++ colours (w .palette) (w .bank)) (along (w .registers) registerRoads) f afterColours afterRegisters
-      (then (opening (w .registers)) (colours (w .palette) (w .bank)) f afterOpening afterColours (opening-runs (w .registers) f within-bits fs)
+      (runs-then (opening (w .registers) ++ colours (w .palette) (w .bank)) (along (w .registers) registerRoads) f afterColours afterRegisters
+      (runs-then (opening (w .registers)) (colours (w .palette) (w .bank)) f afterOpening afterColours (opening-runs (w .registers) f within-bits fs)
       second-runs)
       (third-brings .runs))
       (indices-run (w .registers) (w .toggle) afterRegisters within-bits (third-brings .ready) refl))

@@ -2,7 +2,7 @@
 -- Assumes nothing.
 use Prim.Native.Nat.{ℕ, _<_, _^_, _%_}
 use mathlib.Core.Path.{_≡_, refl, sym, ap, ap₂, _∙_, subst}
-use mathlib.Core.Bool.{Bool, true, false, cond, not, _||_}
+use mathlib.Core.Bool.{Bool, true, false, not, _||_}
 use mathlib.Core.Option.{Option, none, some}
 use native.Mathlib.Nat.{lt-of-le-of-lt}
 use native.Mathlib.Omega.{arith}
@@ -31,16 +31,10 @@ use Rattle.access.proofs.Targets.{storesInto, movesToggle}
 use Rattle.plan.specs.Roads.{Road}
 use Rattle.plan.specs.RoadRecords.{write}
 use Rattle.plan.specs.Restores.{accepted}
-use Rattle.plan.proofs.Leads.{flips, same, finds, leads}
-use Rattle.plan.proofs.Asked.{asked, does, viewOf, shown, row-by, half-by}
-
--- a file with one register anew
-unfoldable pub withRegister : ℕ → ℕ → File → File
-withRegister number value f = withRegisters (set (f .registers) number value) f
-
--- and flipped or not
-unfoldable pub flipped : Bool → File → File
-flipped flip f = cond flip (withToggle (not (f .toggle)) f) f
+use Rattle.plan.specs.RegisterStage.{withRegister, flipped, flips}
+use Rattle.plan.proofs.RoadsLead.{same, finds, leads}
+use Rattle.plan.proofs.ChecksPassed.{answered-by-place, does-as-place}
+use Rattle.plan.proofs.LookupBySelectors.{selectorsOf, bareFile, row-by, half-by}
 
 -- the lock does not bear on a register
 pub record Free (f : File) (number : ℕ) : Type 0 where
@@ -100,7 +94,7 @@ pub record Stores (f : File) (road : Road) (value : ℕ) : Type 0 where
   pub done : T (accepted (answer f (write road value)))
   pub file : access f (write road value) .file ≡ flipped (flips (road .index)) (withRegister (road .register) value f)
 
-module _ (f : File) (road : Road) (value : ℕ) (l : T (leads (viewOf f) road)) (s : T (sound f)) (on : spaceOff f (write road value) ≡ false)
+module _ (f : File) (road : Road) (value : ℕ) (l : T (leads (selectorsOf f) road)) (s : T (sound f)) (on : spaceOff f (write road value) ≡ false)
     (free : Free f (road .register)) (w : T (within (storedBits (road .register)) value)) where
   -- the record is a write in good form
   is-write : isWrite (write road value) ≡ true
@@ -120,7 +114,7 @@ module _ (f : File) (road : Road) (value : ℕ) (l : T (leads (viewOf f) road)) 
       )
 
   -- it finds what the test found
-  found-as : rowOf f (write road value) ≡ rowOf (shown (viewOf f)) (write road 0)
+  found-as : rowOf f (write road value) ≡ rowOf (bareFile (selectorsOf f)) (write road 0)
   unfolding rowOf fits
   found-as = sym (row-by f (write road value))
 
@@ -128,8 +122,8 @@ module _ (f : File) (road : Road) (value : ℕ) (l : T (leads (viewOf f) road)) 
   unfolding leads otherHalf isPort
   fits-half =
       sym (half-by f (write road value))
-      ∙ not-true (otherHalf (shown (viewOf f)) (write road 0))
-      (is-true (not (otherHalf (shown (viewOf f)) (write road 0))) (search (left, right) depth 8))
+      ∙ not-true (otherHalf (bareFile (selectorsOf f)) (write road 0))
+      (is-true (not (otherHalf (bareFile (selectorsOf f)) (write road 0))) (search (left, right) depth 8))
 
   stores-by : (o : Option Row) → rowOf f (write road value) ≡ o → T (finds road o) → Stores f road value
   unfolding finds leads accepted codeOf effectAt
@@ -138,7 +132,7 @@ module _ (f : File) (road : Road) (value : ℕ) (l : T (leads (viewOf f) road)) 
       record {
         done = rw done tt;
         file =
-            (rw is-write at (does f (write road value) row 0 e done))
+            (rw is-write at (does-as-place f (write road value) row 0 e done))
             ∙ place-stores f (road .register) value free (row .place) into small
             ∙ ap₂ flipped moves (exactly f (road .register) value s w);
       }
@@ -154,7 +148,7 @@ module _ (f : File) (road : Road) (value : ℕ) (l : T (leads (viewOf f) road)) 
 
       done : answer f (write road value) ≡ Done 0
       done =
-          asked f (write road value) row
+          answered-by-place f (write road value) row
           (record {
             isSound = s;
             formed = well-formed;
