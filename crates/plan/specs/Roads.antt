@@ -44,7 +44,7 @@ unfoldable pub but : List ℕ → List Road → List Road
 but numbers [] = []
 but numbers (r ∷ rs) = cond (isOneOf numbers (r .register)) [] (r ∷ []) ++ but numbers rs
 
--- what has to stand open while a plan runs: written first, and the first three of them once more at the end
+-- what has to stand open while a plan runs: written first
 abbrev pub toPCI04 : Road
 toPCI04 = configRoad PCI04 0x04
 
@@ -57,6 +57,7 @@ toB0 = mmioRoad B0 1 0xB0
 abbrev pub toMISC : Road
 toMISC = mmioRoad MISC 1 0x80
 
+-- three of them once more at the end, PCI04 last
 unfoldable pub closingRoads : List Road
 closingRoads = toB0 ∷ toCR11 ∷ toPCI04 ∷ []
 
