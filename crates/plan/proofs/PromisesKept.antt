@@ -77,7 +77,13 @@ module _ (w : File) (before : List ℕ) where
 
 -- ---- a plan that is run
 
-module _ (w : File) (before after : List ℕ) (count : ℕ) (p : PlanWritten w before after count) where
+-- an answer that is no refusal has a plan in the buffer
+pub plan-written : {w : File} {before after : List ℕ} (p : Planned) → PlanKept w before after p → {code : ℕ} → code ≡ codeOf (p .answer) → code < 2
+    → PlanWritten w before after (p .count)
+unfolding refused
+plan-written p done e small = done .made (lt-leb 2 (codeOf (p .answer)) (rw e at small))
+
+module _ {w : File} {before after : List ℕ} {count : ℕ} (p : PlanWritten w before after count) where
   -- its records stand whole in the buffer
   pub written-room : 8 * count ≤ length after
   written-room =
@@ -129,11 +135,11 @@ module _ (w : File) (before after : List ℕ) (count : ℕ) (p : PlanWritten w b
 
 -- ---- a restore
 
-module _ (f w : File) (before : List ℕ) where
-  restore-refused : (after : List ℕ) (a : Answer) → a ≡ restoreAnswer f w (length before) → refused a ≡ true → after ≡ before
+module _ (f : File) {w : File} {before : List ℕ} where
+  restore-refused : {after : List ℕ} (a : Answer) → a ≡ restoreAnswer f w (length before) → refused a ≡ true → after ≡ before
       → (r : Restored) → r ≡ record { answer = a; count = 0; file = f } → RestoreKept f w before after r
   unfolding items fileAfter
-  restore-refused after a e t same r q =
+  restore-refused {after} a e t same r q =
       subst (λ (x : Restored). RestoreKept f w before after x) (sym q)
       (record {
         answered = e;
@@ -147,39 +153,34 @@ module _ (f w : File) (before : List ℕ) where
 
   pub restore-unsound : sound f ≡ false → (r : Restored) → r ≡ record { answer = NotSound; count = 0; file = f } → RestoreKept f w before before r
   unfolding restoreAnswer refused codeOf
-  restore-unsound s = restore-refused before NotSound (rw s) refl refl
+  restore-unsound s = restore-refused NotSound (rw s) refl refl
 
-  module _ (s : sound f ≡ true) (after : List ℕ) (p : Planned) (done : PlanKept w before after p) where
+  module _ (s : sound f ≡ true) {after : List ℕ} (p : Planned) (done : PlanKept w before after p) where
     as-planned : p .answer ≡ restoreAnswer f w (length before)
     unfolding restoreAnswer
     as-planned = done .answered ∙ rw s
 
-    pub restore-unplanned : 2 ≤ codeOf (p .answer) → (r : Restored) → r ≡ record { answer = p .answer; count = 0; file = f }
+    pub restore-unplanned : {code : ℕ} → code ≡ codeOf (p .answer) → 2 ≤ code → (r : Restored) → r ≡ record { answer = p .answer; count = 0; file = f }
         → RestoreKept f w before after r
     unfolding refused
-    restore-unplanned t =
-        let no = le-leb 2 (codeOf (p .answer)) t in
-        restore-refused after (p .answer) as-planned no (done .kept no)
+    restore-unplanned e large =
+        let no = le-leb 2 (codeOf (p .answer)) (rw e at large) in
+        restore-refused (p .answer) as-planned no (done .kept no)
 
-    module _ (t : codeOf (p .answer) < 2) where
-      yes : refused (p .answer) ≡ false
-      unfolding refused
-      yes = lt-leb 2 (codeOf (p .answer)) t
-
-      pub written : PlanWritten w before after (p .count)
-      written = done .made yes
-
-      pub restore-done : (g : File) → g ≡ w → IsFile f → RestoreKept f w before after (record { answer = p .answer; count = p .count; file = g })
-      restore-done g e ff =
-          record {
-            answered = as-planned;
-            made = done .made;
-            ran = e ∙ sym (planned-runs w before after (p .count) written f ff (passes (sound f) s) .1);
-            restored = λ _. e;
-            none = λ n. absurd (true≢false (sym n ∙ yes));
-            back = λ n. absurd (true≢false (sym n ∙ yes));
-            kept = λ n. absurd (true≢false (sym n ∙ yes));
-          }
+    pub restore-done : {code : ℕ} → code ≡ codeOf (p .answer) → code < 2 → IsFile f → (g : File) → g ≡ w
+        → RestoreKept f w before after (record { answer = p .answer; count = p .count; file = g })
+    unfolding refused
+    restore-done same small ff g e =
+        let yes = lt-leb 2 (codeOf (p .answer)) (rw same at small) in
+        record {
+          answered = as-planned;
+          made = done .made;
+          ran = e ∙ sym (planned-runs w before after (p .count) (done .made yes) f ff (passes (sound f) s) .1);
+          restored = λ _. e;
+          none = λ n. absurd (true≢false (sym n ∙ yes));
+          back = λ n. absurd (true≢false (sym n ∙ yes));
+          kept = λ n. absurd (true≢false (sym n ∙ yes));
+        }
 
 -- ---- what the promises settle
 
