@@ -25,7 +25,7 @@ allAccepted [] = true
 allAccepted (a ∷ as′) = accepted a && allAccepted as′
 
 -- from one file, every record is accepted and the run ends in another
-pub record Runs (f : File) (records : List Record) (g : File) : Type 0 where
+pub record RunsInto (f : File) (records : List Record) (g : File) : Type 0 where
   pub allDone : T (allAccepted (answers f (map Whole records)))
   pub ends : fileAfter f (map Whole records) ≡ g
 
@@ -59,10 +59,10 @@ pub record IsFile (f : File) : Type 0 where
 pub record Plans (w : File) (records : List Record) : Type 0 where
   pub room : length records ≤ 1024
   pub whole : T (allInBytes records)
-  pub restores : (f : File) → IsFile f → T (sound f) → Runs f records w
+  pub restores : (f : File) → IsFile f → T (sound f) → RunsInto f records w
 
 -- 'the plan fills the buffer's first 8 bytes times the count, and the rest stays': what a buffer holds before and after
-pub record Planned (w : File) (before after : List ℕ) (count : ℕ) : Type 0 where
+pub record PlanWritten (w : File) (before after : List ℕ) (count : ℕ) : Type 0 where
   pub records : List Record
   pub plans : Plans w records
   pub counted : count ≡ length records
