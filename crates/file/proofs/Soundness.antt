@@ -2,7 +2,7 @@
 -- Assumes nothing.
 use Prim.Native.Nat.{ℕ, zero, suc, _+_, _<_, _≤_}
 use mathlib.Core.Path.{_≡_, refl, sym, ap, ap₂, _∙_, subst}
-use mathlib.Core.Bool.{Bool, true, false, _&&_}
+use mathlib.Core.Bool.{Bool, true, false, cond, not, _&&_}
 use mathlib.Core.List.{List, [], _∷_}
 use native.Mathlib.Numerals.{add-one}
 use lib.Bits.{bitOr, bitXor}
@@ -17,12 +17,13 @@ use Rattle.file.specs.declared.effect.Effect.the-variants.{Nothing, Stor
 use Rattle.file.specs.declared.palette.Colour.{Colour}
 use Rattle.file.specs.declared.palette.Pointer.{Pointer}
 use Rattle.file.specs.declared.registers.File.{File}
+use Rattle.file.specs.declared.state.State.{State}
 use Rattle.file.specs.Effects.{apply, storeIn, paintIn}
-use Rattle.file.specs.File.{register, withRegisters, withPalette, withBank, withState, powerOn}
+use Rattle.file.specs.File.{register, powerOn}
 use Rattle.file.specs.Palette.{byColour, addressed, moved, afterWrite, afterRead, pointerSound}
 use Rattle.file.specs.Registers.{registerCount, storedBits, storedTable}
 use Rattle.file.specs.Sound.{allWithin, sound}
-use Rattle.file.specs.State.{pointing, stateSound}
+use Rattle.file.specs.State.{pointing, toggling, stateSound}
 
 -- a register of a sound file is within its row
 pub at : (table values : List ℕ) (number : ℕ) → T (allWithin table values) → T (within (getD table number 0) (getD values number 0))
@@ -132,9 +133,22 @@ pub registers-sound : (f : File) → T (sound f) → T (allWithin storedTable (f
 unfolding sound
 registers-sound f = left (allWithin storedTable (f .registers)) (stateSound (f .state))
 
-state-sound : (f : File) → T (sound f) → T (stateSound (f .state))
+pub state-sound : (f : File) → T (sound f) → T (stateSound (f .state))
 unfolding sound
 state-sound f = right (allWithin storedTable (f .registers)) (stateSound (f .state))
+
+pub sound-by : (f : File) → T (allWithin storedTable (f .registers)) → T (stateSound (f .state)) → T (sound f)
+unfolding sound
+sound-by f = both (allWithin storedTable (f .registers)) (stateSound (f .state))
+
+-- a state with a part anew
+pub pointing-sound : (p : Pointer) (s : State) → T (pointerSound p) → T (stateSound s) → T (stateSound (pointing p s))
+unfolding stateSound pointing
+pointing-sound p s t h = t
+
+pub toggling-sound : (toggle : Bool) (s : State) → T (stateSound s) → T (stateSound (toggling toggle s))
+unfolding stateSound toggling
+toggling-sound toggle s h = h
 
 pub pointer-sound : (f : File) → T (sound f) → T (pointerSound (f .state .pointer))
 unfolding stateSound
@@ -154,35 +168,37 @@ keeps (Move pointer) = pointerSound pointer
 keeps (Paint bank entry colour pointer) = pointerSound pointer
 
 store-sound : (f : File) (number reach value : ℕ)
-    → T (within (storedBits number) reach) → T (sound f) → T (sound (storeIn number reach value f))
-unfolding storedBits sound storeIn withRegisters register
+    → T (within (storedBits number) reach) → T (sound f) → T (allWithin storedTable (storeIn number reach value f .registers))
+unfolding storedBits storeIn register
 store-sound f number reach value w s =
-    both (allWithin storedTable (set (f .registers) number (store reach (getD (f .registers) number 0) value))) (stateSound (f .state))
-    (set-within storedTable (f .registers) number (store reach (getD (f .registers) number 0) value) (registers-sound f s)
+    set-within storedTable (f .registers) number (store reach (getD (f .registers) number 0) value) (registers-sound f s)
     (store-within (getD storedTable number 0) reach (getD (f .registers) number 0) value w
-    (at storedTable (f .registers) number (registers-sound f s))))
-    (state-sound f s)
+    (at storedTable (f .registers) number (registers-sound f s)))
 
--- a new pointer, beside registers that stay
-move-to : (f g : File) (p : Pointer) → g .registers ≡ f .registers → T (pointerSound p) → T (sound f) → T (sound (withState (pointing p (f .state)) g))
-unfolding sound stateSound withState pointing
-move-to f g p same t s =
-    both (allWithin storedTable (g .registers)) (stateSound (pointing p (f .state)))
-    (subst (λ (l : List ℕ). T (allWithin storedTable l)) (sym same) (registers-sound f s)) t
-
+-- what is painted is neither registers nor state
 pub paint-keeps : (f : File) (bank : Bool) (entry : ℕ) (colour : Colour) → paintIn bank entry colour f .registers ≡ f .registers
-unfolding paintIn withBank withPalette
+unfolding paintIn
 paint-keeps f true entry colour = refl
 paint-keeps f false entry colour = refl
 
+pub paint-keeps-state : (f : File) (bank : Bool) (entry : ℕ) (colour : Colour) → paintIn bank entry colour f .state ≡ f .state
+unfolding paintIn
+paint-keeps-state f true entry colour = refl
+paint-keeps-state f false entry colour = refl
+
 -- such an effect leaves a sound file sound
 pub apply-sound : (e : Effect) (f : File) → T (keeps e) → T (sound f) → T (sound (apply e f))
-unfolding keeps apply sound stateSound
+unfolding keeps apply
 apply-sound Nothing f k s = s
-apply-sound (Store number reach value flips) f k s = store-sound f number reach value k s
-apply-sound (Toggle toggle) f k s = s
-apply-sound (Move pointer) f k s = move-to f f pointer refl k s
-apply-sound (Paint bank entry colour pointer) f k s = move-to f (paintIn bank entry colour f) pointer (paint-keeps f bank entry colour) k s
+apply-sound (Store number reach value flips) f k s =
+    sound-by (apply (Store number reach value flips) f) (store-sound f number reach value k s)
+    (toggling-sound (cond flips (not (f .state .toggle)) (f .state .toggle)) (f .state) (state-sound f s))
+apply-sound (Toggle toggle) f k s = sound-by (apply (Toggle toggle) f) (registers-sound f s) (toggling-sound toggle (f .state) (state-sound f s))
+apply-sound (Move pointer) f k s = sound-by (apply (Move pointer) f) (registers-sound f s) (pointing-sound pointer (f .state) k (state-sound f s))
+apply-sound (Paint bank entry colour pointer) f k s =
+    sound-by (apply (Paint bank entry colour pointer) f)
+    (subst (λ (l : List ℕ). T (allWithin storedTable l)) (sym (paint-keeps f bank entry colour)) (registers-sound f s))
+    (pointing-sound pointer (f .state) k (state-sound f s))
 
 -- the file at power-on is sound
 pub powerOn-sound : T (sound powerOn)

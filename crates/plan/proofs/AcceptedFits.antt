@@ -13,18 +13,17 @@ use Rattle.bits.proofs.Test.{left, right, both, by-test, either, neither, twice
 use Rattle.file.specs.declared.answer.Answer.{Answer}
 use Rattle.file.specs.declared.registers.File.{File}
 use Rattle.file.specs.Answers.{codeOf}
-use Rattle.file.specs.Registers.{sequencer, crtc, graphics, attribute, pipeline}
 use Rattle.access.specs.declared.record.Item.{Item}
 use Rattle.access.specs.declared.record.Item.the-variants.{Whole}
 use Rattle.access.specs.declared.record.Record.{Record}
-use Rattle.access.specs.Access.{answerAt, answer, access, accessItem}
+use Rattle.access.specs.Access.{answerAt, answer, access, accessItem, placeOf}
 use Rattle.access.specs.Checks.{Check, isWrite, checks, firstRefusal, notSound, malformed, noRow, notHeld}
-use Rattle.access.specs.Lookup.{fits, rowOf, placeOf}
-use Rattle.access.specs.Places.{Row, places, each, attributePorts, generalPorts, crtcPorts, pipelinePlace, mmioPlaces, pciPlaces}
-use Rattle.access.specs.Records.{bytesOf, itemOf, items}
-use Rattle.access.specs.Run.{answers}
-use Rattle.access.proofs.Rows.{every, Passes, row-passes}
-use Rattle.access.proofs.Inverse.{record-of-bytes}
+use Rattle.places.specs.Lookup.{matches, rowAt, placeAt}
+use Rattle.places.specs.Places.{Row, places}
+use Rattle.trace.specs.Records.{bytesOf, itemOf, items}
+use Rattle.trace.specs.Run.{answers}
+use Rattle.places.proofs.Rows.{every, Passes, row-passes}
+use Rattle.trace.proofs.BytesAndRecords.{record-of-bytes}
 use Rattle.plan.specs.Restores.{accepted, allAccepted, inBytes, allInBytes, traceOf}
 
 -- ---- what an accepted record passed
@@ -54,10 +53,10 @@ all-passed f r a = passed checks f r (answerAt (isWrite r) f (placeOf f r)) tt a
 
 -- a record that is found has an address of two bytes
 short-address : (f : File) (r : Record) → T (not (notHeld f r)) → r .address < 65536
-unfolding notHeld noRow fits every places each attributePorts generalPorts crtcPorts pipelinePlace mmioPlaces pciPlaces sequencer crtc graphics attribute pipeline
-short-address f r t = at-row (rowOf f r) t (row-passes (λ (row : Row). ltb (row .address) 65536) f r tt)
+unfolding notHeld noRow matches every places
+short-address f r t = at-row (rowAt f (r .kind) (r .address)) t (row-passes f (r .kind) (r .address) (λ (row : Row). ltb (row .address) 65536) tt)
   where
-    at-row : (o : Option Row) → T (not (noRow o)) → Passes (λ (row : Row). ltb (row .address) 65536 && fits f r row) o → r .address < 65536
+    at-row : (o : Option Row) → T (not (noRow o)) → Passes (λ (row : Row). ltb (row .address) 65536 && matches f (r .kind) (r .address) row) o → r .address < 65536
     at-row none n p = absurd n
     at-row (some row) n p =
         subst (λ (a : ℕ). a < 65536) (sym (eqb→eq (r .address) (row .address) (search (left, right))))

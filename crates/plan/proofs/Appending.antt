@@ -8,7 +8,7 @@ use native.Mathlib.Omega.{arith}
 use lib.ListN.{length, set, length-append}
 use lib.Seq.{sets, length-sets}
 use Rattle.access.specs.declared.record.Record.{Record}
-use Rattle.access.specs.Records.{bytesOf}
+use Rattle.trace.specs.Records.{bytesOf}
 use Rattle.plan.specs.Appended.{Appended}
 use Rattle.plan.specs.Restores.{traceOf}
 

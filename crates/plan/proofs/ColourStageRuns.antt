@@ -1,7 +1,7 @@
 -- The stage of colours, over any list of stretches of entries: every record is accepted, what the stretches name holds the wanted colours, and all else but
 -- the pointer is as before. Assumes nothing.
 use Prim.Native.Nat.{ℕ, zero, suc, _+_, _-_, _≤_, _<_}
-use mathlib.Core.Path.{_≡_, refl, ap, _∙_, subst}
+use mathlib.Core.Path.{_≡_, refl, sym, ap, _∙_, subst}
 use mathlib.Core.Bool.{Bool, true, false, not, _&&_, _||_}
 use mathlib.Core.List.{List, [], _∷_, _++_, append-nil}
 use native.Mathlib.Omega.{arith}
@@ -12,22 +12,26 @@ use Rattle.bits.proofs.Test.{left, right, both, by-test, passes}
 use Rattle.file.specs.declared.palette.Colour.{Colour}
 use Rattle.file.specs.declared.palette.Pointer.{Pointer}
 use Rattle.file.specs.declared.registers.File.{File}
+use Rattle.file.specs.declared.state.State.{State}
+use Rattle.file.specs.State.{stateSound}
 use Rattle.file.specs.File.{withPalette, withBank, withPointer, black}
 use Rattle.file.specs.Palette.{addressed, pointerSound}
 use Rattle.file.specs.Registers.{storedTable}
 use Rattle.file.specs.Sound.{allWithin, sound}
-use Rattle.file.proofs.Soundness.{registers-sound}
+use Rattle.file.proofs.Soundness.{registers-sound, sound-by, state-sound, pointing-sound, addressed-sound}
 use Rattle.plan.specs.Plan.{entries}
 use Rattle.plan.specs.Restores.{RunsInto}
 use Rattle.plan.specs.ColourStage.{PaletteReady, entryCount, entriesIn, withEntries, painted, Stretch, inRange, afterStretch, stretchRecords, everyStretch, afterStretches, entriesAfter, inStretch, Agrees, AllAgree, colourEndsWanted}
-use Rattle.plan.proofs.StretchRuns.{up-as, painted-registers, stretch-runs}
+use Rattle.plan.proofs.StretchRuns.{up-as, painted-registers, painted-state, stretch-runs}
 use Rattle.plan.proofs.RunsCompose.{runs-none, runs-then}
 
 after-sound : (bank : Bool) (stretch : Stretch) (f : File) → T (sound f) → T (sound (afterStretch bank stretch f))
-unfolding sound afterStretch withPointer addressed pointerSound
+unfolding afterStretch withPointer
 after-sound bank stretch f s =
-    both (allWithin storedTable (painted bank (stretch .first) (stretch .colours) f .registers)) true
-    (rw (painted-registers bank (stretch .first) (stretch .colours) f) (registers-sound f s)) tt
+    sound-by (afterStretch bank stretch f)
+    (subst (λ (rs : List ℕ). T (allWithin storedTable rs)) (sym (painted-registers bank (stretch .first) (stretch .colours) f)) (registers-sound f s))
+    (pointing-sound (addressed false _) (painted bank (stretch .first) (stretch .colours) f .state) (addressed-sound false _)
+    (subst (λ (q : State). T (stateSound q)) (sym (painted-state bank (stretch .first) (stretch .colours) f)) (state-sound f s)))
 
 after-registers : (bank : Bool) (stretch : Stretch) (f : File) → afterStretch bank stretch f .registers ≡ f .registers
 unfolding afterStretch withPointer
@@ -42,7 +46,7 @@ stretches-run (stretch ∷ stretches) f bank s up t =
     runs-then (entries (stretch .first) (stretch .colours)) (stretchRecords stretches) f (afterStretch bank stretch f) (afterStretches bank stretches (afterStretch bank stretch f))
     (stretch-runs stretch f bank s up (left (inRange bank stretch) (everyStretch (inRange bank) stretches) t))
     (stretches-run stretches (afterStretch bank stretch f) bank (after-sound bank stretch f s)
-    (up-as f (afterStretch bank stretch f) bank (after-registers bank stretch f) up) (right (inRange bank stretch) (everyStretch (inRange bank) stretches) t))
+    (up-as f (afterStretch bank stretch f) bank (after-registers bank stretch f) (state-sound _ (after-sound bank stretch f s)) up) (right (inRange bank stretch) (everyStretch (inRange bank) stretches) t))
 
 -- ---- what they leave among the entries
 
@@ -57,20 +61,20 @@ unfolding afterStretch painted withPointer withBank withPalette
 one-entries true stretch f = refl
 one-entries false stretch f = refl
 
-none-leaves : (bank : Bool) (f : File) → f ≡ withPointer (f .pointer) (withEntries bank (entriesIn bank f) f)
+none-leaves : (bank : Bool) (f : File) → f ≡ withPointer (f .state .pointer) (withEntries bank (entriesIn bank f) f)
 unfolding withPointer withBank withPalette
 none-leaves true f = refl
 none-leaves false f = refl
 
 -- all but the pointer and the entries is as before
 pub stretches-leave : (bank : Bool) (stretches : List Stretch) (f : File)
-    → afterStretches bank stretches f ≡ withPointer (afterStretches bank stretches f .pointer) (withEntries bank (entriesAfter stretches (entriesIn bank f)) f)
+    → afterStretches bank stretches f ≡ withPointer (afterStretches bank stretches f .state .pointer) (withEntries bank (entriesAfter stretches (entriesIn bank f)) f)
 unfolding afterStretches entriesAfter
 stretches-leave bank [] f = none-leaves bank f
 stretches-leave bank (stretch ∷ stretches) f =
     stretches-leave bank stretches (afterStretch bank stretch f)
-    ∙ one-leaves bank stretch f (afterStretches bank stretches (afterStretch bank stretch f) .pointer) (entriesAfter stretches (entriesIn bank (afterStretch bank stretch f)))
-    ∙ ap (λ (l : List Colour). withPointer (afterStretches bank stretches (afterStretch bank stretch f) .pointer) (withEntries bank (entriesAfter stretches l) f)) (one-entries bank stretch f)
+    ∙ one-leaves bank stretch f (afterStretches bank stretches (afterStretch bank stretch f) .state .pointer) (entriesAfter stretches (entriesIn bank (afterStretch bank stretch f)))
+    ∙ ap (λ (l : List Colour). withPointer (afterStretches bank stretches (afterStretch bank stretch f) .state .pointer) (withEntries bank (entriesAfter stretches l) f)) (one-entries bank stretch f)
 
 -- a stretch of all entries leaves none of the old ones
 pub sets-all : (old new : List Colour) → length old ≡ length new → sets old 0 new ≡ new

@@ -13,7 +13,7 @@ use Rattle.file.specs.declared.palette.Colour.{Colour}
 use Rattle.file.proofs.registers.File.{the-type}
 use Rattle.file.proofs.palette.Colour as C
 use Rattle.bits.proofs.Test.{both}
-use Rattle.file.proofs.Typed.{palette-count, bank-count}
+use Rattle.file.proofs.Typed.{palette-count, bank-count, address-byte}
 use Rattle.plan.specs.Restores.{bytes, IsFile}
 
 -- a colour is three bytes
@@ -40,5 +40,5 @@ is-file f vs g =
       bank = bank-count f vs g;
       paletteBytes = each-bytes (f .palette) _ (g .1 .1 .1 .0 .1 .1);
       bankBytes = each-bytes (f .bank) _ (g .1 .1 .1 .1 .0 .1 .1);
-      address = g .1 .1 .1 .1 .1 .0 .1 .1 .0 .1;
+      address = address-byte f vs g;
     }

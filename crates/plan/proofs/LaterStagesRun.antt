@@ -16,16 +16,17 @@ use Rattle.file.specs.declared.registers.File.{File}
 use Rattle.file.specs.File.{register, withRegisters, withPalette, withBank, withPointer, withToggle}
 use Rattle.file.specs.Names.{MISC, ARX, PCI04, CR11, B0}
 use Rattle.file.specs.Palette.{addressed, pointerSound}
-use Rattle.file.specs.Registers.{storedBits, storedTable, registers, singles, sequencer, crtc, graphics, attribute, pipeline}
+use Rattle.file.specs.Registers.{storedBits, storedTable}
 use Rattle.file.specs.Sound.{allWithin, sound}
-use Rattle.file.proofs.Soundness.{registers-sound, pointer-sound}
+use Rattle.file.proofs.Soundness.{registers-sound, sound-by, state-sound, pointing-sound, toggling-sound, addressed-sound}
+use Rattle.file.specs.State.{stateSound}
+use Rattle.places.specs.Lookup.{isOneOf}
 use Rattle.access.specs.Access.{paletteUp, inBank}
-use Rattle.access.specs.Checks.{isOneOf}
 use Rattle.plan.specs.Roads.{toPCI04, toCR11, toB0, toSRX, toGRX, toARX, toCRX, registerRoads, indexRoads, closingRoads, eachRoad, but, byHalf}
 use Rattle.plan.specs.Plan.{toggleRead, pointerWrite, openPalette, openBank, entries, colours, indices, closing}
 use Rattle.plan.specs.RoadRecords.{write, selecting, along}
 use Rattle.plan.specs.Restores.{RunsInto, bytes}
-use Rattle.plan.specs.RegisterStage.{withRegister, flipped, flips, everyRoad, SpacesOn, Ready, loose, selectable, brought, passable, Brings}
+use Rattle.plan.specs.RegisterStage.{withRegister, withFlip, indexFlips, everyRoad, SpacesOn, Ready, loose, selectable, brought, passable, Brings}
 use Rattle.plan.specs.ColourStage.{PaletteReady, entryCount, entriesIn, withEntries, painted, inRange, afterStretch}
 use Rattle.plan.specs.StageEnds.{coloured, indexed, closed}
 use Rattle.plan.proofs.RegisterStageRuns.{AllLead, roads-bring, arx-leads}
@@ -41,13 +42,12 @@ use Rattle.plan.proofs.ToggleReads.{toggle-runs}
 -- ---- colours
 
 -- a ready file stays ready while its registers stay
-ready-as : (w : List ℕ) (f g : File) → g .registers ≡ f .registers → T (pointerSound (g .pointer)) → Ready w f → Ready w g
-unfolding SpacesOn sound register
+ready-as : (w : List ℕ) (f g : File) → g .registers ≡ f .registers → T (stateSound (g .state)) → Ready w f → Ready w g
+unfolding SpacesOn register
 ready-as w f g e p ready =
     record {
       isSound =
-          both (allWithin storedTable (g .registers)) (pointerSound (g .pointer))
-          (subst (λ (rs : List ℕ). T (allWithin storedTable rs)) (sym e) (registers-sound f (ready .isSound))) p;
+          sound-by g (subst (λ (rs : List ℕ). T (allWithin storedTable rs)) (sym e) (registers-sound f (ready .isSound))) p;
       on = ap (λ (rs : List ℕ). getD rs PCI04 0) e ∙ ready .on;
       unlocked = ap (λ (rs : List ℕ). getD rs CR11 0) e ∙ ready .unlocked;
       misc = ap (λ (rs : List ℕ). getD rs MISC 0) e ∙ ready .misc;
@@ -59,8 +59,8 @@ choosing bank = cond bank openBank openPalette
 
 chosen-up : (w : List ℕ) (f : File) (bank : Bool) → Ready w f → register f B0 ≡ choosing bank → PaletteReady f bank
 unfolding openPalette openBank paletteUp inBank bit
-chosen-up w f true ready b0 = record { registersSound = registers-sound f (ready .isSound); on = ready .on; up = rw b0; chosen = rw b0 }
-chosen-up w f false ready b0 = record { registersSound = registers-sound f (ready .isSound); on = ready .on; up = rw b0; chosen = rw b0 }
+chosen-up w f true ready b0 = record { isSound = ready .isSound; on = ready .on; up = rw b0; chosen = rw b0 }
+chosen-up w f false ready b0 = record { isSound = ready .isSound; on = ready .on; up = rw b0; chosen = rw b0 }
 
 -- all entries, from the first on
 all-run : (w : List ℕ) (f : File) (bank : Bool) (new : List Colour) → Ready w f → register f B0 ≡ choosing bank
@@ -86,7 +86,7 @@ module _ (w : List ℕ) (palette bank : List Colour) (f : File) (all : length pa
 
   half-ready : Ready w half
   unfolding withPointer withPalette addressed pointerSound
-  half-ready = ready-as w f half refl tt ready
+  half-ready = ready-as w f half refl (pointing-sound (addressed false 0) (f .state) (addressed-sound false 0) (state-sound f (ready .isSound))) ready
 
   switched-ready : Ready w (withRegister B0 openBank half)
   unfolding loose isOneOf
@@ -94,7 +94,7 @@ module _ (w : List ℕ) (palette bank : List Colour) (f : File) (all : length pa
 
   -- the stage
   pub colours-run : RunsInto f (colours palette bank) (coloured palette bank f)
-  unfolding colours coloured flips flipped withRegister withRegisters withPointer withPalette withBank
+  unfolding colours coloured indexFlips withFlip withRegister withRegisters withPointer withPalette withBank
   colours-run =
       runs-then (entries 0 palette) (write toB0 openBank ∷ entries 0 bank) f half (coloured palette bank f)
       (all-run w f false palette ready b0 many all allBytes)
@@ -105,17 +105,19 @@ module _ (w : List ℕ) (palette bank : List Colour) (f : File) (all : length pa
 
   pub coloured-ready : Ready w (coloured palette bank f)
   unfolding coloured withRegister withRegisters withPointer withPalette addressed pointerSound withBank
-  coloured-ready = ready-as w (withRegister B0 openBank half) (coloured palette bank f) refl tt switched-ready
+  coloured-ready =
+      ready-as w (withRegister B0 openBank half) (coloured palette bank f) refl
+      (pointing-sound (addressed false 16) (f .state) (addressed-sound false 16) (state-sound f (ready .isSound))) switched-ready
 
 -- ---- registers
 
 -- a ready file may go every road, by one computed test
 registers-open : T (everyRoad passable registerRoads)
-unfolding everyRoad passable selectable loose isOneOf registerRoads eachRoad but storedBits storedTable registers singles sequencer crtc graphics attribute pipeline within store
+unfolding everyRoad passable selectable loose isOneOf registerRoads storedBits storedTable within store
 registers-open = tt
 
 -- the stage
-pub registers-bring : (w : List ℕ) (f : File) → T (allWithin storedTable w) → Ready w f → f .toggle ≡ false → Brings w f registerRoads
+pub registers-bring : (w : List ℕ) (f : File) → T (allWithin storedTable w) → Ready w f → f .state .toggle ≡ false → Brings w f registerRoads
 registers-bring w f s ready t = roads-bring w s registerRoads f ready t registers-open (λ v e. registers-lead v)
 
 -- ---- indices
@@ -131,13 +133,13 @@ indices-lead w v e =
     (both (leads v toGRX) (leads v (toCRX (getD w MISC 0)) && true) (single-roads-lead v .grx)
     (both (leads v (toCRX (getD w MISC 0))) true (crx-leads v (bit 0 (getD w MISC 0)) (bit-lt 0 (getD w MISC 0)) (ap (bit 0) e)) tt))
 
-module _ (w : List ℕ) (toggle : Bool) (f : File) (s : T (allWithin storedTable w)) (ready : Ready w f) (t : f .toggle ≡ false) where
+module _ (w : List ℕ) (toggle : Bool) (f : File) (s : T (allWithin storedTable w)) (ready : Ready w f) (t : f .state .toggle ≡ false) where
   -- SRX, GRX and CRX
   three : Brings w f (indexRoads (getD w MISC 0))
   three = roads-bring w s (indexRoads (getD w MISC 0)) f ready t (indices-open (getD w MISC 0)) (indices-lead w)
 
   -- ARX too: data is due then
-  four-ready : Ready w (flipped true (withRegister ARX (getD w ARX 0) (brought w (indexRoads (getD w MISC 0)) f)))
+  four-ready : Ready w (withFlip true (withRegister ARX (getD w ARX 0) (brought w (indexRoads (getD w MISC 0)) f)))
   unfolding loose isOneOf
   four-ready =
       ready-flipped w (withRegister ARX (getD w ARX 0) (brought w (indexRoads (getD w MISC 0)) f)) true
@@ -145,20 +147,20 @@ module _ (w : List ℕ) (toggle : Bool) (f : File) (s : T (allWithin storedTable
 
   -- the stage
   pub indices-run : RunsInto f (indices w toggle) (indexed w toggle f)
-  unfolding indices indexed flips flipped brought withRegister withRegisters withToggle
+  unfolding indices indexed indexFlips withFlip brought withRegister withRegisters withToggle
   indices-run =
       runs-then (along w (indexRoads (getD w MISC 0))) (write toARX (getD w ARX 0) ∷ toggleRead (getD w MISC 0) toggle ∷ [])
       f (brought w (indexRoads (getD w MISC 0)) f) (indexed w toggle f) (three .runs)
       (runs-then (write toARX (getD w ARX 0) ∷ []) (toggleRead (getD w MISC 0) toggle ∷ [])
-      (brought w (indexRoads (getD w MISC 0)) f) (flipped true (withRegister ARX (getD w ARX 0) (brought w (indexRoads (getD w MISC 0)) f))) (indexed w toggle f)
+      (brought w (indexRoads (getD w MISC 0)) f) (withFlip true (withRegister ARX (getD w ARX 0) (brought w (indexRoads (getD w MISC 0)) f))) (indexed w toggle f)
       (ready-runs w (brought w (indexRoads (getD w MISC 0)) f) toARX (getD w ARX 0) (three .ready) (arx-leads (brought w (indexRoads (getD w MISC 0)) f) t) (wanted-within w ARX s))
-      (toggle-runs w (flipped true (withRegister ARX (getD w ARX 0) (brought w (indexRoads (getD w MISC 0)) f))) toggle four-ready (ap not t)))
+      (toggle-runs w (withFlip true (withRegister ARX (getD w ARX 0) (brought w (indexRoads (getD w MISC 0)) f))) toggle four-ready (ap not t)))
 
   pub indexed-ready : Ready w (indexed w toggle f)
-  unfolding indexed flipped withToggle
+  unfolding indexed withFlip withToggle
   indexed-ready =
-      ready-as w (flipped true (withRegister ARX (getD w ARX 0) (brought w (indexRoads (getD w MISC 0)) f))) (indexed w toggle f) refl
-      (pointer-sound _ (four-ready .isSound)) four-ready
+      ready-as w (withFlip true (withRegister ARX (getD w ARX 0) (brought w (indexRoads (getD w MISC 0)) f))) (indexed w toggle f) refl
+      (toggling-sound toggle _ (state-sound _ (four-ready .isSound))) four-ready
 
 -- ---- closing
 
@@ -178,7 +180,7 @@ module _ (w : List ℕ) (p : Pointer) (f : File) (s : T (allWithin storedTable w
 
   pointed-ready : Ready w pointed
   unfolding withPointer
-  pointed-ready = ready-as w f pointed refl ps ready
+  pointed-ready = ready-as w f pointed refl (pointing-sound p (f .state) ps (state-sound f (ready .isSound))) ready
 
   b0-ready : Ready w (withRegister B0 (getD w B0 0) pointed)
   unfolding loose isOneOf
@@ -186,7 +188,7 @@ module _ (w : List ℕ) (p : Pointer) (f : File) (s : T (allWithin storedTable w
 
   -- the stage
   pub closing-runs : RunsInto f (closing w p) (closed w p f)
-  unfolding closing closed closingRoads along selecting flips flipped
+  unfolding closing closed closingRoads along selecting indexFlips withFlip
   closing-runs =
       runs-then (pointerWrite p ∷ []) (along w closingRoads)
       f pointed (closed w p f)

@@ -1,16 +1,16 @@
 -- A lookup goes by the index registers, MISC and the toggle alone. Assumes nothing.
 use Prim.Native.Nat.{ℕ}
 use mathlib.Core.Path.{_≡_, refl}
-use mathlib.Core.Bool.{Bool, false}
+use mathlib.Core.Bool.{Bool}
 use mathlib.Core.List.{List, [], _∷_}
 use Rattle.file.specs.declared.registers.File.{File}
-use Rattle.file.specs.File.{register}
+use Rattle.file.specs.File.{register, seen}
 use Rattle.file.specs.Names.{MISC, SRX, CRX, GRX, ARX}
-use Rattle.file.specs.Palette.{addressed}
+use Rattle.file.specs.State.{initial, toggling}
 use Rattle.access.specs.declared.record.Record.{Record}
 use Rattle.access.specs.Checks.{otherHalf}
-use Rattle.access.specs.Lookup.{attributeIndex, selects, fits, first, rowOf}
-use Rattle.access.specs.Places.{Index, any, sr, cr, gr, ar, indexDue, dataDue, Row, places}
+use Rattle.places.specs.Lookup.{attributeIndex, selects, matches, first, rowAt}
+use Rattle.places.specs.Places.{Index, any, sr, cr, gr, ar, indexDue, dataDue, Row, places}
 
 -- what a lookup goes by
 pub record Selectors : Type 0 where
@@ -29,19 +29,13 @@ selectorsOf f =
       crx = register f CRX;
       grx = register f GRX;
       arx = register f ARX;
-      toggle = f .toggle;
+      toggle = f .state .toggle;
     }
 
 -- a file that has no more than that
 unfoldable pub bareFile : Selectors → File
-bareFile v =
-    record {
-      registers = v .misc ∷ v .srx ∷ v .crx ∷ v .grx ∷ v .arx ∷ [];
-      palette = [];
-      bank = [];
-      pointer = addressed false 0;
-      toggle = v .toggle;
-    }
+unfolding seen initial toggling
+bareFile v = seen (v .misc ∷ v .srx ∷ v .crx ∷ v .grx ∷ v .arx ∷ []) (toggling (v .toggle) initial)
 
 selects-by : (f : File) (i : Index) → selects (bareFile (selectorsOf f)) i ≡ selects f i
 unfolding bareFile selectorsOf selects attributeIndex register
@@ -53,15 +47,16 @@ selects-by f (ar n) = refl
 selects-by f indexDue = refl
 selects-by f (dataDue n) = refl
 
-first-by : (f : File) (r : Record) (rows : List Row) → first (fits (bareFile (selectorsOf f)) r) rows ≡ first (fits f r) rows
-unfolding first fits
-first-by f r [] = refl
-first-by f r (row ∷ rows) = rw (selects-by f (row .index), first-by f r rows)
+first-by : (f : File) (kind address : ℕ) (rows : List Row)
+    → first (matches (bareFile (selectorsOf f)) kind address) rows ≡ first (matches f kind address) rows
+unfolding first matches
+first-by f kind address [] = refl
+first-by f kind address (row ∷ rows) = rw (selects-by f (row .index), first-by f kind address rows)
 
 -- a lookup in it finds the same row
-pub row-by : (f : File) (r : Record) → rowOf (bareFile (selectorsOf f)) r ≡ rowOf f r
-unfolding rowOf
-row-by f r = first-by f r places
+pub row-by : (f : File) (kind address : ℕ) → rowAt (bareFile (selectorsOf f)) kind address ≡ rowAt f kind address
+unfolding rowAt
+row-by f kind address = first-by f kind address places
 
 -- and MISC[0] judges the same
 pub half-by : (f : File) (r : Record) → otherHalf (bareFile (selectorsOf f)) r ≡ otherHalf f r

@@ -1,6 +1,7 @@
 -- The plan's opening, from any sound file.
 -- Assumes nothing.
 use Prim.Native.Nat.{ℕ}
+use mathlib.Core.Bool.{false}
 use mathlib.Core.Path.{_≡_, refl, _∙_}
 use mathlib.Core.List.{List, [], _∷_}
 use lib.Dec.{T, lit<}
@@ -9,14 +10,15 @@ use Rattle.bits.specs.Store.{store, within}
 use Rattle.file.specs.declared.registers.File.{File}
 use Rattle.file.specs.File.{register, withToggle}
 use Rattle.file.specs.Names.{MISC, PCI04, CR11, B0}
-use Rattle.file.specs.Registers.{storedBits, storedTable, registers, singles, sequencer, crtc, graphics, attribute, pipeline}
+use Rattle.file.specs.Registers.{storedBits, storedTable}
+use Rattle.file.proofs.Soundness.{sound-by, registers-sound, state-sound, toggling-sound}
 use Rattle.file.specs.Sound.{allWithin, sound}
 use Rattle.access.specs.Checks.{isPort, isMmio, spaceOff}
 use Rattle.plan.specs.Roads.{toPCI04, toCR11, toB0, toMISC}
 use Rattle.plan.specs.Plan.{toIndex, openSpaces, openLock, openPalette, openBank, opening}
 use Rattle.plan.specs.RoadRecords.{write}
 use Rattle.plan.specs.Restores.{RunsInto}
-use Rattle.plan.specs.RegisterStage.{withRegister, flipped, flips, SpacesOn, Ready}
+use Rattle.plan.specs.RegisterStage.{withRegister, withFlip, indexFlips, SpacesOn, Ready}
 use Rattle.plan.specs.StageEnds.{withSpacesOn, withLockOff, withPaletteUp, withMISC, opened}
 use Rattle.plan.proofs.LookupBySelectors.{selectorsOf}
 use Rattle.plan.proofs.RunsCompose.{runs-one, runs-then}
@@ -28,7 +30,7 @@ use Rattle.plan.proofs.ToggleReads.{reset-runs}
 -- PCI04 by config, which is open in every file
 pub config-runs : (f : File) (value : ℕ) → T (sound f) → T (within (storedBits PCI04) value)
     → RunsInto f (write toPCI04 value ∷ []) (withRegister PCI04 value f)
-unfolding spaceOff isPort isMmio flips flipped
+unfolding spaceOff isPort isMmio indexFlips withFlip
 config-runs f value s w =
     let stores = road-stores f toPCI04 value (single-roads-lead (selectorsOf f) .pci04) s refl (beyond-lock f PCI04 refl refl) w in
     runs-one f (write toPCI04 value) (withRegister PCI04 value f) (stores .done) (stores .file)
@@ -41,7 +43,7 @@ pub record OpenFits : Type 0 where
   pub bank : T (within (storedBits B0) openBank)
 
 pub open-fits : OpenFits
-unfolding openSpaces openLock openPalette openBank storedBits storedTable registers singles sequencer crtc graphics attribute pipeline within store
+unfolding openSpaces openLock openPalette openBank storedBits storedTable within store
 open-fits = record { spaces = tt; lock = tt; palette = tt; bank = tt }
 
 module _ (w : List ℕ) (f : File) (ws : T (allWithin storedTable w)) (fs : T (sound f)) where
@@ -91,7 +93,7 @@ module _ (w : List ℕ) (f : File) (ws : T (allWithin storedTable w)) (fs : T (s
 
   -- the stage
   pub opening-runs : RunsInto f (opening w) (opened w f)
-  unfolding opening opened flips flipped
+  unfolding opening opened indexFlips withFlip
   opening-runs =
       runs-then (write toPCI04 openSpaces ∷ []) (write toCR11 openLock ∷ write toB0 openPalette ∷ write toMISC (getD w MISC 0) ∷ toIndex (getD w MISC 0) ∷ [])
       f (withSpacesOn f) (opened w f) (config-runs f openSpaces fs (open-fits .spaces))
@@ -108,8 +110,8 @@ module _ (w : List ℕ) (f : File) (ws : T (allWithin storedTable w)) (fs : T (s
       (reset-runs w (withMISC w f) misc-ready))))
 
   pub opened-ready : Ready w (opened w f)
-  unfolding opened withToggle SpacesOn sound register
-  opened-ready = record { isSound = s4; on = misc-ready .on; unlocked = misc-ready .unlocked; misc = misc-ready .misc }
+  unfolding opened withToggle SpacesOn register
+  opened-ready = record { isSound = sound-by (opened w f) (registers-sound (withMISC w f) s4) (toggling-sound false (withMISC w f .state) (state-sound (withMISC w f) s4)); on = misc-ready .on; unlocked = misc-ready .unlocked; misc = misc-ready .misc }
 
   pub opened-up : register (opened w f) B0 ≡ openPalette
   unfolding opened withToggle register

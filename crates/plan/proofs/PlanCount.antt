@@ -5,10 +5,9 @@ use mathlib.Core.Path.{_≡_, refl, _∙_}
 use mathlib.Core.List.{List, [], _∷_}
 use native.Mathlib.Omega.{arith}
 use lib.ListN.{length, length-append}
+use Rattle.places.specs.Lookup.{isOneOf}
 use Rattle.file.specs.declared.palette.Colour.{Colour}
 use Rattle.file.specs.declared.registers.File.{File}
-use Rattle.file.specs.Registers.{sequencer, crtc, graphics, attribute, pipeline}
-use Rattle.access.specs.Checks.{isOneOf}
 use Rattle.plan.specs.Roads.{toB0, eachRoad, but, registerRoads, indexRoads, closingRoads}
 use Rattle.plan.specs.Plan.{openBank, opening, pixel, pixels, entries, colours, indices, closing, planRecords}
 use Rattle.plan.specs.RoadRecords.{write, selecting, along}
@@ -26,7 +25,7 @@ colour-records palette bank p b = rw (length-append, pixels-count palette, pixel
 
 -- one or two records for each register
 register-records : (w : List ℕ) → length (along w registerRoads) ≡ 140
-unfolding along selecting registerRoads eachRoad but isOneOf sequencer crtc graphics attribute pipeline
+unfolding along selecting registerRoads
 register-records w = refl
 
 -- the stages one behind the other

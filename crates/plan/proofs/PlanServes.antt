@@ -18,12 +18,12 @@ use Rattle.file.specs.Registers.{storedTable, sequencer, crtc, graphics, attrib
 use Rattle.file.specs.Answers.{codeOf, refused}
 use Rattle.file.specs.Sound.{allWithin, sound}
 use Rattle.file.proofs.Soundness.{registers-sound, pointer-sound, sound-count}
+use Rattle.places.specs.Lookup.{isOneOf}
 use Rattle.access.specs.declared.record.Item.{Item}
 use Rattle.access.specs.declared.record.Item.the-variants.{Whole}
 use Rattle.access.specs.declared.record.Record.{Record}
-use Rattle.access.specs.Checks.{isOneOf}
-use Rattle.access.specs.Records.{items}
-use Rattle.access.specs.Run.{fileAfter, answers}
+use Rattle.trace.specs.Records.{items}
+use Rattle.trace.specs.Run.{fileAfter, answers}
 use Rattle.plan.specs.Roads.{Road, toARX, eachRoad, but, registerRoads, indexRoads, closingRoads}
 use Rattle.plan.specs.Plan.{openPalette, opening, colours, indices, closing, planRecords}
 use Rattle.plan.specs.RoadRecords.{along}
@@ -66,7 +66,7 @@ registers-as-wanted w xs misc s many all same =
 
 -- ---- demand 3
 
-module _ (w f : File) (ws : T (sound w)) (fs : T (sound f)) (wf : IsFile w) (red : w .pointer .next ≡ 0)
+module _ (w f : File) (ws : T (sound w)) (fs : T (sound f)) (wf : IsFile w) (red : w .state .pointer .next ≡ 0)
     (many : length (f .palette) ≡ 256) (few : length (f .bank) ≡ 16) where
   within-bits : T (allWithin storedTable (w .registers))
   within-bits = registers-sound w ws
@@ -82,7 +82,7 @@ module _ (w f : File) (ws : T (sound w)) (fs : T (sound f)) (wf : IsFile w) (red
   afterRegisters = brought (w .registers) registerRoads afterColours
 
   abbrev afterIndices : File
-  afterIndices = indexed (w .registers) (w .toggle) afterRegisters
+  afterIndices = indexed (w .registers) (w .state .toggle) afterRegisters
 
   opening-ready : Ready (w .registers) afterOpening
   opening-ready = opened-ready (w .registers) f within-bits fs
@@ -106,7 +106,7 @@ module _ (w f : File) (ws : T (sound w)) (fs : T (sound f)) (wf : IsFile w) (red
   unfolding coloured opened withToggle withPointer withBank withPalette withRegister withRegisters
   third-brings = registers-bring (w .registers) afterColours within-bits colours-ready refl
 
-  ends-in : closed (w .registers) (w .pointer) afterIndices ≡ w
+  ends-in : closed (w .registers) (w .state .pointer) afterIndices ≡ w
   unfolding closed indexed brought coloured withRegister withRegisters withToggle withPointer planRoads lastRoads closingRoads indexRoads afterRoads afterSelecting register withBank withPalette
   ends-in =
       ap (λ (rs : List ℕ). withRegisters rs w)
@@ -118,20 +118,20 @@ module _ (w f : File) (ws : T (sound w)) (fs : T (sound f)) (wf : IsFile w) (red
   unfolding planRecords brought withRegisters coloured opened withToggle withPointer withBank withPalette withRegister
   plan-restores =
       subst (λ (g : File). RunsInto f (planRecords w) g) ends-in
-      (runs-then (opening (w .registers) ++ colours (w .palette) (w .bank) ++ along (w .registers) registerRoads ++ indices (w .registers) (w .toggle))
-      (closing (w .registers) (w .pointer)) f afterIndices (closed (w .registers) (w .pointer) afterIndices)
-      (runs-then (opening (w .registers) ++ colours (w .palette) (w .bank) ++ along (w .registers) registerRoads) (indices (w .registers) (w .toggle))
+      (runs-then (opening (w .registers) ++ colours (w .palette) (w .bank) ++ along (w .registers) registerRoads ++ indices (w .registers) (w .state .toggle))
+      (closing (w .registers) (w .state .pointer)) f afterIndices (closed (w .registers) (w .state .pointer) afterIndices)
+      (runs-then (opening (w .registers) ++ colours (w .palette) (w .bank) ++ along (w .registers) registerRoads) (indices (w .registers) (w .state .toggle))
       f afterRegisters afterIndices
       (runs-then (opening (w .registers) ++ colours (w .palette) (w .bank)) (along (w .registers) registerRoads) f afterColours afterRegisters
       (runs-then (opening (w .registers)) (colours (w .palette) (w .bank)) f afterOpening afterColours (opening-runs (w .registers) f within-bits fs)
       second-runs)
       (third-brings .runs))
-      (indices-run (w .registers) (w .toggle) afterRegisters within-bits (third-brings .ready) refl))
-      (closing-runs (w .registers) (w .pointer) afterIndices within-bits (pointer-sound w ws) red (wf .address)
-      (indexed-ready (w .registers) (w .toggle) afterRegisters within-bits (third-brings .ready) refl)))
+      (indices-run (w .registers) (w .state .toggle) afterRegisters within-bits (third-brings .ready) refl))
+      (closing-runs (w .registers) (w .state .pointer) afterIndices within-bits (pointer-sound w ws) red (wf .address)
+      (indexed-ready (w .registers) (w .state .toggle) afterRegisters within-bits (third-brings .ready) refl)))
 
 -- demand 3, as a plan's definition says it
-pub plan-serves : (w : File) → IsFile w → T (sound w) → w .pointer .next ≡ 0 → Plans w (planRecords w)
+pub plan-serves : (w : File) → IsFile w → T (sound w) → w .state .pointer .next ≡ 0 → Plans w (planRecords w)
 plan-serves w wf ws red =
     record {
       room = plan-room w wf;
@@ -164,7 +164,7 @@ restore-answers f w room records ff plans =
     let all = is-true (allAccepted (answers f (map Whole records))) (plans .restores f ff (passes (sound f) s) .allDone) in
     rw (s, all)
     (by-test (sound w)
-    (λ t. rw t (by-test (eqb (w .pointer .next) 0) (λ e. rw e (by-test (leb 8192 room) (λ l. rw l) (λ l. rw l))) (λ e. rw e)))
+    (λ t. rw t (by-test (eqb (w .state .pointer .next) 0) (λ e. rw e (by-test (leb 8192 room) (λ l. rw l) (λ l. rw l))) (λ e. rw e)))
     (λ t. rw t)))
     (λ s. rw s)
 
@@ -174,8 +174,8 @@ unfolding restoreAnswer planAnswer codeOf
 never-fourteen f w room e =
     T-not (eqb (codeOf (restoreAnswer f w room)) 14)
     (chosen other (sound f) (planAnswer w room) NotSound
-    (chosen other (sound w) (cond (eqb (w .pointer .next) 0) (cond (leb 8192 room) (Done 0) ShortBuffer) NotBeforeRed) NotSound
-    (chosen other (eqb (w .pointer .next) 0) (cond (leb 8192 room) (Done 0) ShortBuffer) NotBeforeRed
+    (chosen other (sound w) (cond (eqb (w .state .pointer .next) 0) (cond (leb 8192 room) (Done 0) ShortBuffer) NotBeforeRed) NotSound
+    (chosen other (eqb (w .state .pointer .next) 0) (cond (leb 8192 room) (Done 0) ShortBuffer) NotBeforeRed
     (chosen other (leb 8192 room) (Done 0) ShortBuffer tt tt) tt) tt) tt)
     (rw e tt)
   where

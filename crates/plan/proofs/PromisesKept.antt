@@ -14,8 +14,8 @@ use Rattle.file.specs.declared.registers.File.{File}
 use Rattle.file.specs.Answers.{codeOf, refused}
 use Rattle.file.specs.Sound.{sound}
 use Rattle.access.specs.declared.record.Item.the-variants.{Whole}
-use Rattle.access.specs.Records.{itemCount, items}
-use Rattle.access.specs.Run.{fileAfter, runCount, ran, run}
+use Rattle.trace.specs.Records.{itemCount, items}
+use Rattle.trace.specs.Run.{fileAfter, runCount, ran, run}
 use Rattle.plan.specs.declared.planning.Planned.{Planned}
 use Rattle.plan.specs.declared.restoring.Restored.{Restored}
 use Rattle.plan.specs.Appended.{Appended}
@@ -42,22 +42,22 @@ module _ (w : File) (before : List ℕ) where
   unfolding planAnswer refused codeOf
   plan-unsound s = plan-refused NotSound (rw s) refl
 
-  pub plan-not-red : sound w ≡ true → (w .pointer .next ≡ 0 → ⊥) → (r : Planned) → r ≡ record { answer = NotBeforeRed; count = 0 }
+  pub plan-not-red : sound w ≡ true → (w .state .pointer .next ≡ 0 → ⊥) → (r : Planned) → r ≡ record { answer = NotBeforeRed; count = 0 }
       → PlanKept w before before r
   unfolding planAnswer refused codeOf
-  plan-not-red s n = plan-refused NotBeforeRed (rw (s, ne-eqb (w .pointer .next) 0 n)) refl
+  plan-not-red s n = plan-refused NotBeforeRed (rw (s, ne-eqb (w .state .pointer .next) 0 n)) refl
 
-  pub plan-short : sound w ≡ true → w .pointer .next ≡ 0 → length before < 8192 → (r : Planned)
+  pub plan-short : sound w ≡ true → w .state .pointer .next ≡ 0 → length before < 8192 → (r : Planned)
       → r ≡ record { answer = ShortBuffer; count = 0 } → PlanKept w before before r
   unfolding planAnswer refused codeOf
-  plan-short s e l = plan-refused ShortBuffer (rw (s, eq-eqb (w .pointer .next) 0 e, lt-leb 8192 (length before) l)) refl
+  plan-short s e l = plan-refused ShortBuffer (rw (s, eq-eqb (w .state .pointer .next) 0 e, lt-leb 8192 (length before) l)) refl
 
-  pub plan-made : IsFile w → sound w ≡ true → w .pointer .next ≡ 0 → 8192 ≤ length before → {after : List ℕ} {end : ℕ}
+  pub plan-made : IsFile w → sound w ≡ true → w .state .pointer .next ≡ 0 → 8192 ≤ length before → {after : List ℕ} {end : ℕ}
       → Appended before 0 (planRecords w) after end → PlanKept w before after (record { answer = Done 0; count = end / 8 })
   unfolding planAnswer refused codeOf
   plan-made wf s e l {after} {end} wrote =
       record {
-        answered = rw (s, eq-eqb (w .pointer .next) 0 e, le-leb 8192 (length before) l);
+        answered = rw (s, eq-eqb (w .state .pointer .next) 0 e, le-leb 8192 (length before) l);
         made = λ _. record { records = planRecords w; plans = plan-serves w wf (passes (sound w) s) e; counted = counted; filled = filled };
         none = λ t. absurd (true≢false (sym t));
         kept = λ t. absurd (true≢false (sym t));

@@ -15,13 +15,13 @@ use Rattle.file.specs.File.{register, withRegisters, withToggle}
 use Rattle.file.specs.Names.{MISC, SRX, CRX, GRX, ARX}
 use Rattle.file.specs.Registers.{storedBits, storedTable}
 use Rattle.file.specs.Sound.{allWithin}
+use Rattle.places.specs.Lookup.{isOneOf}
 use Rattle.access.specs.declared.record.Record.{Record}
-use Rattle.access.specs.Checks.{isOneOf}
-use Rattle.access.specs.Places.{Index, any, sr, cr, gr, ar, indexDue, dataDue}
+use Rattle.places.specs.Places.{Index, any, sr, cr, gr, ar, indexDue, dataDue}
 use Rattle.plan.specs.Roads.{Road, toSRX, toGRX, toARX}
 use Rattle.plan.specs.RoadRecords.{write, selecting, along}
 use Rattle.plan.specs.Restores.{RunsInto}
-use Rattle.plan.specs.RegisterStage.{withRegister, flipped, flips, everyRoad, Ready, loose, afterSelecting, selectable, selected, afterRoads, brought, passable, moves, endsWanted, leavesAlone, Brings}
+use Rattle.plan.specs.RegisterStage.{withRegister, withFlip, indexFlips, everyRoad, Ready, loose, afterSelecting, selectable, selected, afterRoads, brought, passable, moves, endsWanted, leavesAlone, Brings}
 use Rattle.plan.proofs.LookupBySelectors.{Selectors, selectorsOf}
 use Rattle.plan.proofs.RunsCompose.{runs-none, runs-then}
 use Rattle.plan.proofs.RoadsLead.{withIndex, leads, leading, single-roads-lead}
@@ -30,7 +30,7 @@ use Rattle.plan.proofs.ReadyRuns.{selectors-with, wanted-within, ready-
 -- ---- selecting an index
 
 -- 3C0h, with the toggle at index
-pub arx-leads : (f : File) → f .toggle ≡ false → T (leads (selectorsOf f) toARX)
+pub arx-leads : (f : File) → f .state .toggle ≡ false → T (leads (selectorsOf f) toARX)
 unfolding withIndex selectorsOf
 arx-leads f t = subst (λ (b : Bool). T (leads (shows b) toARX)) (sym t) (single-roads-lead (selectorsOf f) .arx)
   where
@@ -47,15 +47,15 @@ pub record Selected (w : List ℕ) (f : File) (i : Index) : Type 0 where
 -- by the index register's own road
 select-by : (w : List ℕ) (f : File) (to : Road) (n : ℕ) → Ready w f → T (leads (selectorsOf f) to) → T (loose (to .register))
     → T (within (storedBits (to .register)) n)
-    → RunsInto f (write to n ∷ []) (flipped (flips (to .index)) (withRegister (to .register) n f))
-    × Ready w (flipped (flips (to .index)) (withRegister (to .register) n f))
+    → RunsInto f (write to n ∷ []) (withFlip (indexFlips (to .index)) (withRegister (to .register) n f))
+    × Ready w (withFlip (indexFlips (to .index)) (withRegister (to .register) n f))
 select-by w f to n ready l free fit = (
   ready-runs w f to n ready l fit,
-  ready-flipped w (withRegister (to .register) n f) (flips (to .index)) (ready-with w f (to .register) n ready free fit),
+  ready-flipped w (withRegister (to .register) n f) (indexFlips (to .index)) (ready-with w f (to .register) n ready free fit),
 )
 
-select : (w : List ℕ) (f : File) (i : Index) → Ready w f → f .toggle ≡ false → T (selectable i) → Selected w f i
-unfolding selecting selected afterSelecting selectable flips flipped loose isOneOf withRegister withRegisters withToggle register withIndex selectorsOf
+select : (w : List ℕ) (f : File) (i : Index) → Ready w f → f .state .toggle ≡ false → T (selectable i) → Selected w f i
+unfolding selecting selected afterSelecting selectable indexFlips withFlip loose isOneOf withRegister withRegisters withToggle register withIndex selectorsOf
 select w f any ready t s = record { runs = runs-none f; ready = ready; selectors = refl }
 select w f (sr n) ready t s =
     let by = select-by w f toSRX n ready (single-roads-lead (selectorsOf f) .srx) tt s in
@@ -80,9 +80,9 @@ select w f (dataDue n) ready t s =
 -- ---- a road, and a list of roads
 
 -- its index selected, the register stored: the toggle is back where it was
-road-ends : (w : List ℕ) (f : File) (i : Index) (number value : ℕ) → f .toggle ≡ false → T (selectable i)
-    → flipped (flips i) (withRegister number value (selected i f)) ≡ withRegisters (set (afterSelecting i (f .registers)) number value) f
-unfolding withRegisters withToggle flipped flips withRegister afterSelecting selected selectable
+road-ends : (w : List ℕ) (f : File) (i : Index) (number value : ℕ) → f .state .toggle ≡ false → T (selectable i)
+    → withFlip (indexFlips i) (withRegister number value (selected i f)) ≡ withRegisters (set (afterSelecting i (f .registers)) number value) f
+unfolding withRegisters withToggle withFlip indexFlips withRegister afterSelecting selected selectable
 road-ends w f any number value t s = refl
 road-ends w f (sr n) number value t s = refl
 road-ends w f (cr n) number value t s = absurd s
@@ -102,7 +102,7 @@ AllLead w roads = (v : Selectors) → v .misc ≡ getD w MISC 0 → T (leading v
 
 module _ (w : List ℕ) (s : T (allWithin storedTable w)) where
   -- one road
-  road-brings : (f : File) (road : Road) → Ready w f → f .toggle ≡ false → T (passable road) → T (leads (withIndex (road .index) (selectorsOf f)) road)
+  road-brings : (f : File) (road : Road) → Ready w f → f .state .toggle ≡ false → T (passable road) → T (leads (withIndex (road .index) (selectorsOf f)) road)
       → Brings w f (road ∷ [])
   unfolding along brought afterRoads passable
   road-brings f road ready t o l =
@@ -123,22 +123,22 @@ module _ (w : List ℕ) (s : T (allWithin storedTable w)) where
       fit : T (within (storedBits (road .register)) (getD w (road .register) 0))
       fit = wanted-within w (road .register) s
 
-      ends : flipped (flips (road .index)) (withRegister (road .register) (getD w (road .register) 0) (selected (road .index) f)) ≡ brought w (road ∷ []) f
+      ends : withFlip (indexFlips (road .index)) (withRegister (road .register) (getD w (road .register) 0) (selected (road .index) f)) ≡ brought w (road ∷ []) f
       ends = road-ends w f (road .index) (road .register) (getD w (road .register) 0) t chosen
 
       stores : RunsInto (selected (road .index) f) (write road (getD w (road .register) 0) ∷ [])
-          (flipped (flips (road .index)) (withRegister (road .register) (getD w (road .register) 0) (selected (road .index) f)))
+          (withFlip (indexFlips (road .index)) (withRegister (road .register) (getD w (road .register) 0) (selected (road .index) f)))
       stores =
           ready-runs w (selected (road .index) f) road (getD w (road .register) 0) (sel .ready)
           (subst (λ (v : Selectors). T (leads v road)) (sym (sel .selectors)) l) fit
 
-      after : Ready w (flipped (flips (road .index)) (withRegister (road .register) (getD w (road .register) 0) (selected (road .index) f)))
+      after : Ready w (withFlip (indexFlips (road .index)) (withRegister (road .register) (getD w (road .register) 0) (selected (road .index) f)))
       after =
-          ready-flipped w (withRegister (road .register) (getD w (road .register) 0) (selected (road .index) f)) (flips (road .index))
+          ready-flipped w (withRegister (road .register) (getD w (road .register) 0) (selected (road .index) f)) (indexFlips (road .index))
           (ready-with w (selected (road .index) f) (road .register) (getD w (road .register) 0) (sel .ready) (search (left, right)) fit)
 
   -- any list of roads
-  pub roads-bring : (roads : List Road) (f : File) → Ready w f → f .toggle ≡ false → T (everyRoad passable roads) → AllLead w roads → Brings w f roads
+  pub roads-bring : (roads : List Road) (f : File) → Ready w f → f .state .toggle ≡ false → T (everyRoad passable roads) → AllLead w roads → Brings w f roads
   unfolding along brought afterRoads everyRoad leading selectorsOf withRegisters
   roads-bring [] f ready t o lead = record { runs = runs-none f; ready = ready }
   roads-bring (road ∷ roads) f ready t o lead =

@@ -10,8 +10,8 @@ use Rattle.file.specs.declared.registers.File.{File}
 use Rattle.file.specs.Answers.{codeOf}
 use Rattle.access.specs.declared.record.Item.{Item}
 use Rattle.access.specs.Access.{accessItem, replyTo}
-use Rattle.access.specs.Records.{replyBytes}
-use Rattle.access.specs.Run.{answers, replies}
+use Rattle.trace.specs.Records.{replyBytes}
+use Rattle.trace.specs.Run.{answers, replies}
 use Rattle.plan.specs.Restores.{accepted, allAccepted}
 
 -- the first byte of each reply, whatever stands behind the replies

@@ -16,22 +16,20 @@ use Rattle.file.specs.declared.answer.Answer.the-variants.{Done}
 use Rattle.file.specs.declared.registers.File.{File}
 use Rattle.file.specs.Answers.{codeOf}
 use Rattle.file.specs.Effects.{apply, storeIn}
-use Rattle.file.specs.File.{register, withRegisters, withToggle}
-use Rattle.file.specs.Names.{B0}
-use Rattle.file.specs.Registers.{storedBits, storedTable}
+use Rattle.file.specs.File.{register, withRegisters}
+use Rattle.file.specs.Registers.{registerCount, storedBits, storedTable}
 use Rattle.file.specs.Sound.{sound}
 use Rattle.file.proofs.Soundness.{at, registers-sound}
-use Rattle.access.specs.declared.place.Place.{Place}
-use Rattle.access.specs.declared.place.Place.the-variants.{Register, Attribute, Fixed, ToggleState, AttributeIndex, PaletteState, ReadAddress, WriteAddress, PixelData, ToggleReset, NoRegister, NoAttribute}
-use Rattle.access.specs.Access.{lockedOut, reachIn, answerAt, writeAt, effectAt, answer, access}
+use Rattle.places.specs.declared.place.Place.{Place}
+use Rattle.access.specs.Access.{lockedOut, reachIn, writeAnswer, writeEffect, answerAt, effectAt, answer, access}
 use Rattle.access.specs.Checks.{isWrite, isPort, malformed, spaceOff, otherHalf}
-use Rattle.access.specs.Lookup.{fits, rowOf}
-use Rattle.access.specs.Places.{Row}
-use Rattle.access.proofs.Targets.{storesInto, movesToggle}
+use Rattle.places.specs.Lookup.{rowAt}
+use Rattle.places.specs.Places.{Row}
+use Rattle.places.specs.Profile.{Writing, storesTo, readOnly, setsAddress, writesPixel, storesNothing, profile, storesInto, flips}
 use Rattle.plan.specs.Roads.{Road}
 use Rattle.plan.specs.RoadRecords.{write}
 use Rattle.plan.specs.Restores.{accepted}
-use Rattle.plan.specs.RegisterStage.{withRegister, flipped, flips}
+use Rattle.plan.specs.RegisterStage.{withRegister, withFlip, indexFlips}
 use Rattle.plan.proofs.RoadsLead.{same, finds, leads}
 use Rattle.plan.proofs.ChecksPassed.{answered-by-place, does-as-place}
 use Rattle.plan.proofs.LookupBySelectors.{selectorsOf, bareFile, row-by, half-by}
@@ -41,37 +39,28 @@ pub record Free (f : File) (number : ℕ) : Type 0 where
   pub unlocked : lockedOut f number ≡ false
   pub whole : reachIn f number ≡ storedBits number
 
--- what holds of the three places that store into a register holds of each that does
-by-store : (P : Place → Type 0) (number : ℕ) → P (Register number) → P (Attribute number) → (B0 ≡ number → P PaletteState)
-    → (place : Place) → storesInto place ≡ number → number < 100 → P place
-unfolding storesInto
-by-store P number p q r (Register n) e h = subst (λ (m : ℕ). P (Register m)) (sym e) p
-by-store P number p q r (Attribute n) e h = subst (λ (m : ℕ). P (Attribute m)) (sym e) q
-by-store P number p q r (Fixed value) e h = absurd (omega arith)
-by-store P number p q r ToggleState e h = absurd (omega arith)
-by-store P number p q r AttributeIndex e h = absurd (omega arith)
-by-store P number p q r PaletteState e h = r e
-by-store P number p q r ReadAddress e h = absurd (omega arith)
-by-store P number p q r WriteAddress e h = absurd (omega arith)
-by-store P number p q r PixelData e h = absurd (omega arith)
-by-store P number p q r ToggleReset e h = absurd (omega arith)
-by-store P number p q r NoRegister e h = absurd (omega arith)
-by-store P number p q r NoAttribute e h = absurd (omega arith)
+-- a writing that stores into a register of the file is a store
+is-store : (writing : Writing) (number : ℕ) → storesInto writing ≡ number → number < registerCount → writing ≡ storesTo number (flips writing)
+unfolding storesInto flips
+is-store (storesTo n flip) number e h = ap (λ (m : ℕ). storesTo m flip) e
+is-store readOnly number e h = absurd (omega arith)
+is-store (setsAddress reading) number e h = absurd (omega arith)
+is-store writesPixel number e h = absurd (omega arith)
+is-store (storesNothing flip) number e h = absurd (omega arith)
 
 -- a write there is accepted
-place-done : (f : File) (number : ℕ) → Free f number → (place : Place) → storesInto place ≡ number → number < 100
+place-done : (f : File) (number : ℕ) → Free f number → (place : Place) → storesInto (profile place .writing) ≡ number → number < registerCount
     → answerAt true f place ≡ Done 0
 unfolding answerAt
-place-done f number free =
-    by-store (λ (p : Place). answerAt true f p ≡ Done 0) number (rw (free .unlocked)) refl (λ e. refl)
+place-done f number free place e h = ap (writeAnswer f) (is-store (profile place .writing) number e h) ∙ rw (free .unlocked) refl
 
 -- and stores the register by its stored bits
-place-stores : (f : File) (number value : ℕ) → Free f number → (place : Place) → storesInto place ≡ number → number < 100
-    → apply (writeAt f place value) f ≡ flipped (movesToggle place) (storeIn number (storedBits number) value f)
-unfolding writeAt apply flipped movesToggle storeIn withRegisters withToggle
-place-stores f number value free =
-    by-store (λ (p : Place). apply (writeAt f p value) f ≡ flipped (movesToggle p) (storeIn number (storedBits number) value f)) number
-    (rw (free .whole)) (rw (free .whole)) (λ e. rw (e, free .whole))
+place-stores : (f : File) (number value : ℕ) → Free f number → (place : Place) → storesInto (profile place .writing) ≡ number → number < registerCount
+    → apply (effectAt true f place value) f ≡ withFlip (flips (profile place .writing)) (storeIn number (storedBits number) value f)
+unfolding effectAt apply withFlip
+place-stores f number value free place e h =
+    ap (λ (w : Writing). apply (writeEffect (reachIn f) f w value) f) (is-store (profile place .writing) number e h)
+    ∙ ap (λ (bits : ℕ). withFlip (flips (profile place .writing)) (storeIn number bits value f)) (free .whole)
 
 -- a value within them is held exactly
 exactly : (f : File) (number value : ℕ) → T (sound f) → T (within (storedBits number) value)
@@ -92,7 +81,7 @@ same-eq false false t = refl
 -- what a road's record does
 pub record Stores (f : File) (road : Road) (value : ℕ) : Type 0 where
   pub done : T (accepted (answer f (write road value)))
-  pub file : access f (write road value) .file ≡ flipped (flips (road .index)) (withRegister (road .register) value f)
+  pub file : access f (write road value) .file ≡ withFlip (indexFlips (road .index)) (withRegister (road .register) value f)
 
 module _ (f : File) (road : Road) (value : ℕ) (l : T (leads (selectorsOf f) road)) (s : T (sound f)) (on : spaceOff f (write road value) ≡ false)
     (free : Free f (road .register)) (w : T (within (storedBits (road .register)) value)) where
@@ -114,18 +103,17 @@ module _ (f : File) (road : Road) (value : ℕ) (l : T (leads (selectorsOf f) ro
       )
 
   -- it finds what the test found
-  found-as : rowOf f (write road value) ≡ rowOf (bareFile (selectorsOf f)) (write road 0)
-  unfolding rowOf fits
-  found-as = sym (row-by f (write road value))
+  found-as : rowAt f (road .kind) (road .address) ≡ rowAt (bareFile (selectorsOf f)) (road .kind) (road .address)
+  found-as = sym (row-by f (road .kind) (road .address))
 
-  fits-half : otherHalf f (write road value) ≡ false
+  matches-half : otherHalf f (write road value) ≡ false
   unfolding leads otherHalf isPort
-  fits-half =
+  matches-half =
       sym (half-by f (write road value))
       ∙ not-true (otherHalf (bareFile (selectorsOf f)) (write road 0))
       (is-true (not (otherHalf (bareFile (selectorsOf f)) (write road 0))) (search (left, right) depth 8))
 
-  stores-by : (o : Option Row) → rowOf f (write road value) ≡ o → T (finds road o) → Stores f road value
+  stores-by : (o : Option Row) → rowAt f (road .kind) (road .address) ≡ o → T (finds road o) → Stores f road value
   unfolding finds leads accepted codeOf effectAt
   stores-by none e t = absurd t
   stores-by (some row) e t =
@@ -134,17 +122,17 @@ module _ (f : File) (road : Road) (value : ℕ) (l : T (leads (selectorsOf f) ro
         file =
             (rw is-write at (does-as-place f (write road value) row 0 e done))
             ∙ place-stores f (road .register) value free (row .place) into small
-            ∙ ap₂ flipped moves (exactly f (road .register) value s w);
+            ∙ ap₂ withFlip moves (exactly f (road .register) value s w);
       }
     where
-      into : storesInto (row .place) ≡ road .register
-      into = eqb→eq (storesInto (row .place)) (road .register) (search (left, right))
+      into : storesInto (profile (row .place) .writing) ≡ road .register
+      into = eqb→eq (storesInto (profile (row .place) .writing)) (road .register) (search (left, right))
 
-      moves : movesToggle (row .place) ≡ flips (road .index)
-      moves = same-eq (movesToggle (row .place)) (flips (road .index)) (search (left, right))
+      moves : flips (profile (row .place) .writing) ≡ indexFlips (road .index)
+      moves = same-eq (flips (profile (row .place) .writing)) (indexFlips (road .index)) (search (left, right))
 
-      small : road .register < 100
-      small = ltb→lt (road .register) 100 (search (left, right) depth 8)
+      small : road .register < registerCount
+      small = ltb→lt (road .register) registerCount (search (left, right) depth 8)
 
       done : answer f (write road value) ≡ Done 0
       done =
@@ -154,7 +142,7 @@ module _ (f : File) (road : Road) (value : ℕ) (l : T (leads (selectorsOf f) ro
             formed = well-formed;
             on = on;
             found = e;
-            half = fits-half;
+            half = matches-half;
             width = is-true (eqb (row .width) (road .width)) (search (left, right));
           })
           ∙ rw is-write (place-done f (road .register) free (row .place) into small)
@@ -163,5 +151,5 @@ module _ (f : File) (road : Road) (value : ℕ) (l : T (leads (selectorsOf f) ro
   pub road-stores : Stores f road value
   unfolding leads
   road-stores =
-      stores-by (rowOf f (write road value)) refl
+      stores-by (rowAt f (road .kind) (road .address)) refl
       (subst (λ (o : Option Row). T (finds road o)) (sym found-as) (search (left, right) depth 8))

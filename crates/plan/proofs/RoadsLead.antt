@@ -10,14 +10,14 @@ use Rattle.bits.specs.Store.{bits, bit}
 use Rattle.bits.proofs.Bit.{by-bit}
 use Rattle.file.specs.File.{register}
 use Rattle.file.specs.Names.{CRX}
-use Rattle.file.specs.Registers.{storedBits, storedTable, registers, singles, sequencer, crtc, graphics, attribute, pipeline}
-use Rattle.access.specs.Checks.{isPort, isOneOf, otherHalf}
-use Rattle.access.specs.Lookup.{attributeIndex, selects, fits, first, rowOf}
-use Rattle.access.specs.Places.{Index, any, sr, cr, gr, ar, indexDue, dataDue, Row, places, each, attributePorts, generalPorts, crtcPorts, pipelinePlace, mmioPlaces, pciPlaces}
-use Rattle.access.proofs.Targets.{storesInto, movesToggle}
+use Rattle.file.specs.Registers.{registerCount, storedBits, storedTable}
+use Rattle.access.specs.Checks.{isPort, otherHalf}
+use Rattle.places.specs.Lookup.{attributeIndex, selects, matches, first, rowAt, isOneOf}
+use Rattle.places.specs.Places.{Index, any, sr, cr, gr, ar, indexDue, dataDue, Row, places}
+use Rattle.places.specs.Profile.{profile, storesInto, flips}
 use Rattle.plan.specs.Roads.{Road, portRoad, eachRoad, but, toPCI04, toCR11, toB0, toMISC, toSRX, toGRX, toARX, registerRoads}
 use Rattle.plan.specs.RoadRecords.{write}
-use Rattle.plan.specs.RegisterStage.{flips, everyRoad}
+use Rattle.plan.specs.RegisterStage.{indexFlips, everyRoad}
 use Rattle.plan.proofs.LookupBySelectors.{Selectors, bareFile}
 
 -- what a file shows with an index selected
@@ -39,8 +39,8 @@ unfoldable pub finds : Road → Option Row → Bool
 finds road none = false
 finds road (some row) =
     eqb (row .width) (road .width)
-    && eqb (storesInto (row .place)) (road .register)
-    && same (movesToggle (row .place)) (flips (road .index))
+    && eqb (storesInto (profile (row .place) .writing)) (road .register)
+    && same (flips (profile (row .place) .writing)) (indexFlips (road .index))
 
 -- the road's record is a write in good form that fits the register and MISC[0], and finds such a row
 unfoldable pub leads : Selectors → Road → Bool
@@ -49,9 +49,9 @@ leads v road =
     && leb (road .kind) 5
     && (eqb (road .width) 1 || eqb (road .width) 2)
     && ltb (storedBits (road .register)) (256 ^ road .width)
-    && ltb (road .register) 100
+    && ltb (road .register) registerCount
     && not (otherHalf (bareFile v) (write road 0))
-    && finds road (rowOf (bareFile v) (write road 0))
+    && finds road (rowAt (bareFile v) (road .kind) (road .address))
 
 -- in a file that shows this, each road leads to its register with its index selected
 unfoldable pub leading : Selectors → List Road → Bool
@@ -59,7 +59,7 @@ leading v roads = everyRoad (λ (road : Road). leads (withIndex (road .index) v)
 
 -- so does every register's, whatever a file shows
 pub registers-lead : (v : Selectors) → T (leading v registerRoads)
-unfolding leading everyRoad leads withIndex finds same flips storedBits storedTable registers singles sequencer crtc graphics attribute pipeline otherHalf isPort isOneOf rowOf first fits selects attributeIndex bits register bareFile places each attributePorts generalPorts crtcPorts pipelinePlace mmioPlaces pciPlaces storesInto movesToggle registerRoads eachRoad but
+unfolding leading everyRoad leads withIndex finds same indexFlips flips profile storesInto storedBits storedTable otherHalf isPort isOneOf rowAt first matches selects attributeIndex bits register bareFile places registerRoads
 registers-lead v = tt
 
 -- and so do the roads that the stages take one by one
@@ -73,11 +73,11 @@ pub record SingleRoads (v : Selectors) : Type 0 where
   pub arx : T (leads (withIndex indexDue v) toARX)
 
 pub single-roads-lead : (v : Selectors) → SingleRoads v
-unfolding everyRoad leads withIndex finds same flips storedBits storedTable registers singles sequencer crtc graphics attribute pipeline otherHalf isPort isOneOf rowOf first fits selects attributeIndex bits register bareFile places each attributePorts generalPorts crtcPorts pipelinePlace mmioPlaces pciPlaces storesInto movesToggle
+unfolding everyRoad leads withIndex finds same indexFlips flips profile storesInto storedBits storedTable otherHalf isPort isOneOf rowAt first matches selects attributeIndex bits register bareFile places
 single-roads-lead v = record { pci04 = tt; cr11 = tt; b0 = tt; misc = tt; srx = tt; grx = tt; arx = tt }
 
 -- CRX has its port by MISC[0]
 pub crx-leads : (v : Selectors) (x : ℕ) → x < 2 → bit 0 (v .misc) ≡ x → T (leads v (portRoad CRX (cond (eqb x 1) 0x3D4 0x3B4) any))
-unfolding leads withIndex finds same flips storedBits storedTable registers singles sequencer crtc graphics attribute pipeline otherHalf isPort isOneOf rowOf first fits selects attributeIndex bits register bareFile places each attributePorts generalPorts crtcPorts pipelinePlace mmioPlaces pciPlaces storesInto movesToggle
+unfolding leads withIndex finds same indexFlips flips profile storesInto storedBits storedTable otherHalf isPort isOneOf rowAt first matches selects attributeIndex bits register bareFile places
 crx-leads v =
     by-bit (λ (x : ℕ). bit 0 (v .misc) ≡ x → T (leads v (portRoad CRX (cond (eqb x 1) 0x3D4 0x3B4) any))) (λ e. rw e tt) (λ e. rw e tt)

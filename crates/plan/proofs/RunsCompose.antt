@@ -8,7 +8,7 @@ use Rattle.file.specs.declared.registers.File.{File}
 use Rattle.access.specs.declared.record.Item.the-variants.{Whole}
 use Rattle.access.specs.declared.record.Record.{Record}
 use Rattle.access.specs.Access.{answer, access, accessItem}
-use Rattle.access.specs.Run.{fileAfter, answers}
+use Rattle.trace.specs.Run.{fileAfter, answers}
 use Rattle.plan.specs.Restores.{accepted, allAccepted, RunsInto}
 
 pub runs-none : (f : File) → RunsInto f [] f

@@ -15,19 +15,21 @@ use Rattle.file.specs.declared.answer.Answer.the-variants.{Done}
 use Rattle.file.specs.declared.palette.Colour.{Colour}
 use Rattle.file.specs.declared.palette.Pointer.{Pointer}
 use Rattle.file.specs.declared.registers.File.{File}
+use Rattle.file.specs.declared.state.State.{State}
 use Rattle.file.specs.Answers.{codeOf}
 use Rattle.file.specs.Effects.{apply, paintIn}
-use Rattle.file.specs.File.{register, withRegisters, withPalette, withBank, withPointer}
+use Rattle.file.specs.File.{register, withRegisters, withPalette, withBank, withPointer, withState}
+use Rattle.file.specs.State.{pointing, stateSound}
 use Rattle.file.specs.Palette.{addressed, moved, afterWrite, stores, mixed, pointerSound}
 use Rattle.file.specs.Registers.{storedTable, sequencer, crtc, graphics, attribute, pipeline}
 use Rattle.file.specs.Sound.{allWithin, sound}
-use Rattle.file.proofs.Soundness.{paint-keeps}
-use Rattle.access.specs.declared.place.Place.{Place}
-use Rattle.access.specs.declared.place.Place.the-variants.{ReadAddress, WriteAddress, PixelData}
-use Rattle.access.specs.Access.{paletteUp, inBank, entryNumber, answerAt, pixelWrite, writeAt, effectAt, answer}
+use Rattle.file.proofs.Soundness.{paint-keeps, sound-by, registers-sound, state-sound, pointing-sound, paint-keeps-state}
+use Rattle.places.specs.declared.place.Place.{Place}
+use Rattle.places.specs.declared.place.Place.the-variants.{ReadAddress, WriteAddress, PixelData}
+use Rattle.access.specs.Access.{paletteUp, inBank, entryNumber, answerAt, pixelWrite, effectAt, answer}
 use Rattle.access.specs.Checks.{isWrite, isPort, malformed, otherHalf}
-use Rattle.access.specs.Lookup.{selects, fits, first, rowOf}
-use Rattle.access.specs.Places.{Row, any, places, each, attributePorts, generalPorts, crtcPorts, pipelinePlace, mmioPlaces, pciPlaces}
+use Rattle.places.specs.Lookup.{selects, matches, first, rowAt}
+use Rattle.places.specs.Places.{Row, any, places}
 use Rattle.plan.specs.Plan.{mmioWrite, pixel, pixels, entries}
 use Rattle.plan.specs.Restores.{accepted, RunsInto, bytes}
 use Rattle.plan.specs.RegisterStage.{SpacesOn}
@@ -42,11 +44,11 @@ abbrev byteRow : ℕ → Place → Row
 byteRow address place = record { kind = 5; address = address; index = any; width = 1; place = place }
 
 pub byte-runs : (f : File) (address value : ℕ) (place : Place) → T (sound f) → SpacesOn f → value < 256
-    → rowOf f (mmioWrite address value) ≡ some (byteRow address place) → answerAt true f place ≡ Done 0
-    → RunsInto f (mmioWrite address value ∷ []) (apply (writeAt f place value) f)
+    → rowAt f 5 address ≡ some (byteRow address place) → answerAt true f place ≡ Done 0
+    → RunsInto f (mmioWrite address value ∷ []) (apply (effectAt true f place value) f)
 unfolding malformed otherHalf isPort isWrite effectAt accepted codeOf
 byte-runs f address value place s on h e done =
-    runs-one f (mmioWrite address value) (apply (writeAt f place value) f) (rw answers tt)
+    runs-one f (mmioWrite address value) (apply (effectAt true f place value) f) (rw answers tt)
     (does-as-place f (mmioWrite address value) (byteRow address place) 0 e answers)
   where
     answers : answer f (mmioWrite address value) ≡ Done 0
@@ -58,18 +60,18 @@ byte-runs f address value place s on h e done =
 -- 'Writing 3C7h or 3C8h sets the address and the mode'
 pub address-runs : (f : File) (reading : Bool) (value : ℕ) → T (sound f) → SpacesOn f → value < 256
     → RunsInto f (mmioWrite (cond reading 0xA4 0xA8) value ∷ []) (withPointer (addressed reading value) f)
-unfolding rowOf first fits selects places each attributePorts generalPorts crtcPorts pipelinePlace mmioPlaces pciPlaces sequencer crtc graphics attribute pipeline answerAt writeAt apply
+unfolding rowAt first matches selects places answerAt effectAt apply
 address-runs f true value s on h = byte-runs f 0xA4 value ReadAddress s on h refl refl
 address-runs f false value s on h = byte-runs f 0xA8 value WriteAddress s on h refl refl
 
 -- ---- three bytes of an entry
 
 -- that a file lets colours through is said by its registers
-pub up-as : (f g : File) (bank : Bool) → g .registers ≡ f .registers → PaletteReady f bank → PaletteReady g bank
+pub up-as : (f g : File) (bank : Bool) → g .registers ≡ f .registers → T (stateSound (g .state)) → PaletteReady f bank → PaletteReady g bank
 unfolding SpacesOn paletteUp inBank register withRegisters
-up-as f g bank e up =
+up-as f g bank e t up =
     record {
-      registersSound = subst (λ (rs : List ℕ). T (allWithin storedTable rs)) (sym e) (up .registersSound);
+      isSound = sound-by g (subst (λ (rs : List ℕ). T (allWithin storedTable rs)) (sym e) (registers-sound f (up .isSound))) t;
       on = subst (λ (rs : List ℕ). SpacesOn (withRegisters rs f)) (sym e) (up .on);
       up = subst (λ (rs : List ℕ). paletteUp (withRegisters rs f) ≡ true) (sym e) (up .up);
       chosen = subst (λ (rs : List ℕ). inBank (withRegisters rs f) ≡ bank) (sym e) (up .chosen);
@@ -77,9 +79,9 @@ up-as f g bank e up =
 
 pixel-runs : (f : File) (bank : Bool) (p : Pointer) (value : ℕ) → PaletteReady f bank → T (pointerSound p) → value < 256
     → RunsInto (withPointer p f) (mmioWrite 0xAC value ∷ []) (apply (pixelWrite (withPointer p f) value) (withPointer p f))
-unfolding rowOf first fits selects places each attributePorts generalPorts crtcPorts pipelinePlace mmioPlaces pciPlaces sequencer crtc graphics attribute pipeline answerAt writeAt sound withPointer paletteUp register SpacesOn
+unfolding rowAt first matches selects places answerAt effectAt sound withPointer paletteUp register SpacesOn
 pixel-runs f bank p value up t h =
-    byte-runs (withPointer p f) 0xAC value PixelData (both (allWithin storedTable (f .registers)) (pointerSound p) (up .registersSound) t) (up .on) h refl
+    byte-runs (withPointer p f) 0xAC value PixelData (sound-by (withPointer p f) (registers-sound f (up .isSound)) (pointing-sound p (f .state) t (state-sound f (up .isSound)))) (up .on) h refl
     (rw (up .up))
 
 -- where the pointer stands among the three
@@ -93,8 +95,8 @@ entry-at false entry h = omega arith
 
 -- the pointer that stood before the entry was stored does not matter
 repainted : (bank : Bool) (entry : ℕ) (c : Colour) (p q : Pointer) (f : File)
-    → withPointer q (paintIn bank entry c (withPointer p f)) ≡ withPointer q (paintIn bank entry c f)
-unfolding paintIn withBank withPalette withPointer
+    → withState (pointing q (withPointer p f .state)) (paintIn bank entry c (withPointer p f)) ≡ withPointer q (paintIn bank entry c f)
+unfolding paintIn withPointer
 repainted true entry c p q f = refl
 repainted false entry c p q f = refl
 
@@ -104,7 +106,7 @@ third-leaves : (f : File) (bank : Bool) (entry : ℕ) (c : Colour) → PaletteRe
     ≡ withPointer (addressed false (suc entry % 256)) (paintIn bank entry c f)
 unfolding pixelWrite stores afterWrite moved mixed apply withPointer addressed inBank entryNumber register
 third-leaves f bank entry c up h =
-    rw (up .chosen, entry-at bank entry h) (ap (λ (a : ℕ). withPointer (addressed false a) (paintIn bank entry c (withPointer (between (entry % 256) 2 (c .red) (c .green)) f))) next
+    rw (up .chosen, entry-at bank entry h) (ap (λ (a : ℕ). withState (pointing (addressed false a) (f .state)) (paintIn bank entry c (withPointer (between (entry % 256) 2 (c .red) (c .green)) f))) next
     ∙ repainted bank entry c (between (entry % 256) 2 (c .red) (c .green)) (addressed false (suc entry % 256)) f)
   where
     next : (entry % 256 + 1) % 256 ≡ suc entry % 256
@@ -142,6 +144,11 @@ unfolding painted paintIn withBank withPalette
 painted-next true first c cs f = refl
 painted-next false first c cs f = refl
 
+pub painted-state : (bank : Bool) (first : ℕ) (cs : List Colour) (f : File) → painted bank first cs f .state ≡ f .state
+unfolding painted withBank withPalette
+painted-state true first cs f = refl
+painted-state false first cs f = refl
+
 pub painted-registers : (bank : Bool) (first : ℕ) (cs : List Colour) (f : File) → painted bank first cs f .registers ≡ f .registers
 unfolding painted withBank withPalette
 painted-registers true first cs f = refl
@@ -163,7 +170,8 @@ pixels-run (c ∷ cs) f bank first up h t =
     (ltb→lt (c .blue) 256 (search (left, right))))
     (subst (λ (g : File). RunsInto (withPointer (addressed false (suc first % 256)) (paintIn bank first c f)) (pixels cs) g)
     (ap₂ (λ (n : ℕ) (g : File). withPointer (addressed false (n % 256)) g) onward (painted-next bank first c cs f))
-    (pixels-run cs (paintIn bank first c f) bank (suc first) (up-as f (paintIn bank first c f) bank (paint-keeps f bank first c) up)
+    (pixels-run cs (paintIn bank first c f) bank (suc first) (up-as f (paintIn bank first c f) bank (paint-keeps f bank first c)
+    (subst (λ (q : State). T (stateSound q)) (sym (paint-keeps-state f bank first c)) (state-sound f (up .isSound))) up)
     (omega arith) (search (left, right))))
   where
     onward : suc first + length cs ≡ first + suc (length cs)

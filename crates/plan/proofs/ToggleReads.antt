@@ -15,14 +15,13 @@ use Rattle.file.specs.Answers.{codeOf}
 use Rattle.file.specs.Effects.{apply}
 use Rattle.file.specs.File.{register, withToggle}
 use Rattle.file.specs.Names.{MISC, ARX}
-use Rattle.file.specs.Registers.{sequencer, crtc, graphics, attribute, pipeline}
 use Rattle.file.specs.Sound.{sound}
-use Rattle.access.specs.declared.place.Place.{Place}
-use Rattle.access.specs.declared.place.Place.the-variants.{Register, ToggleReset}
-use Rattle.access.specs.Access.{answerAt, readAt, effectAt, answer}
-use Rattle.access.specs.Checks.{isWrite, isPort, isOneOf, malformed, otherHalf}
-use Rattle.access.specs.Lookup.{selects, fits, first, rowOf}
-use Rattle.access.specs.Places.{Row, any, places, each, attributePorts, generalPorts, crtcPorts, pipelinePlace, mmioPlaces, pciPlaces}
+use Rattle.places.specs.declared.place.Place.{Place}
+use Rattle.places.specs.declared.place.Place.the-variants.{Register, ToggleReset}
+use Rattle.access.specs.Access.{answerAt, effectAt, answer}
+use Rattle.access.specs.Checks.{isWrite, isPort, malformed, otherHalf}
+use Rattle.places.specs.Lookup.{selects, matches, first, rowAt, isOneOf}
+use Rattle.places.specs.Places.{Row, any, places}
 use Rattle.plan.specs.Roads.{byHalf}
 use Rattle.plan.specs.Plan.{portRead, toIndex, toggleRead}
 use Rattle.plan.specs.Restores.{accepted, RunsInto}
@@ -34,11 +33,11 @@ use Rattle.plan.proofs.ReadyRuns.{spaces-on}
 abbrev readRow : ℕ → Place → Row
 readRow address place = record { kind = 2; address = address; index = any; width = 1; place = place }
 
-read-runs : (f : File) (address value : ℕ) (place : Place) → T (sound f) → SpacesOn f → rowOf f (portRead address) ≡ some (readRow address place)
-    → otherHalf f (portRead address) ≡ false → answerAt false f place ≡ Done value → RunsInto f (portRead address ∷ []) (apply (readAt f place) f)
+read-runs : (f : File) (address value : ℕ) (place : Place) → T (sound f) → SpacesOn f → rowAt f 2 address ≡ some (readRow address place)
+    → otherHalf f (portRead address) ≡ false → answerAt false f place ≡ Done value → RunsInto f (portRead address ∷ []) (apply (effectAt false f place 0) f)
 unfolding malformed isWrite effectAt accepted codeOf
 read-runs f address value place s on e h done =
-    runs-one f (portRead address) (apply (readAt f place) f) (rw answers tt) (does-as-place f (portRead address) (readRow address place) value e answers)
+    runs-one f (portRead address) (apply (effectAt false f place 0) f) (rw answers tt) (does-as-place f (portRead address) (readRow address place) value e answers)
   where
     answers : answer f (portRead address) ≡ Done value
     answers =
@@ -49,7 +48,7 @@ read-runs f address value place s on e h done =
 -- by the half that MISC[0] has
 reset-by : (f : File) → T (sound f) → SpacesOn f → (x : ℕ) → x < 2 → bit 0 (register f MISC) ≡ x
     → RunsInto f (portRead (cond (eqb x 1) 0x3DA 0x3BA) ∷ []) (withToggle false f)
-unfolding otherHalf isPort isOneOf answerAt readAt apply rowOf first fits selects places each attributePorts generalPorts crtcPorts pipelinePlace mmioPlaces pciPlaces sequencer crtc graphics attribute pipeline
+unfolding otherHalf isPort isOneOf answerAt effectAt apply rowAt first matches selects places
 reset-by f s on =
     by-bit (λ (x : ℕ). bit 0 (register f MISC) ≡ x → RunsInto f (portRead (cond (eqb x 1) 0x3DA 0x3BA) ∷ []) (withToggle false f))
     (λ e. read-runs f 0x3BA 0 ToggleReset s on refl (rw e) refl) (λ e. read-runs f 0x3DA 0 ToggleReset s on refl (rw e) refl)
@@ -61,9 +60,9 @@ reset-runs w f ready =
     reset-by f (ready .isSound) (ready .on) (bit 0 (getD w MISC 0)) (bit-lt 0 (getD w MISC 0)) (ap (bit 0) (ready .misc))
 
 -- from data, to a wanted state
-pub toggle-runs : (w : List ℕ) (f : File) (state : Bool) → Ready w f → f .toggle ≡ true
+pub toggle-runs : (w : List ℕ) (f : File) (state : Bool) → Ready w f → f .state .toggle ≡ true
     → RunsInto f (toggleRead (getD w MISC 0) state ∷ []) (withToggle state f)
-unfolding otherHalf isPort isOneOf answerAt readAt apply rowOf first fits selects places each attributePorts generalPorts crtcPorts pipelinePlace mmioPlaces pciPlaces sequencer crtc graphics attribute pipeline withToggle
+unfolding otherHalf isPort isOneOf answerAt effectAt apply rowAt first matches selects places withToggle
 toggle-runs w f true ready t =
     subst (λ (b : Bool). RunsInto f (portRead 0x3C0 ∷ []) (withToggle b f)) t
     (read-runs f 0x3C0 (register f ARX) (Register ARX) (ready .isSound) (ready .on) refl refl refl)

@@ -11,8 +11,7 @@ use Rattle.file.specs.declared.palette.Colour.{Colour}
 use Rattle.file.specs.declared.registers.File.{File}
 use Rattle.file.specs.File.{withPalette, withBank, withPointer, black}
 use Rattle.file.specs.Palette.{addressed}
-use Rattle.file.specs.Registers.{storedTable}
-use Rattle.file.specs.Sound.{allWithin}
+use Rattle.file.specs.Sound.{sound}
 use Rattle.access.specs.declared.record.Record.{Record}
 use Rattle.access.specs.Access.{paletteUp, inBank}
 use Rattle.plan.specs.Plan.{entries}
@@ -23,7 +22,7 @@ use Rattle.plan.specs.RegisterStage.{SpacesOn}
 
 -- a file that lets colours through: both spaces on, the palette up, the palette or the bank chosen
 pub record PaletteReady (f : File) (bank : Bool) : Type 0 where
-  pub registersSound : T (allWithin storedTable (f .registers))
+  pub isSound : T (sound f)
   pub on : SpacesOn f
   pub up : paletteUp f ≡ true
   pub chosen : inBank f ≡ bank

@@ -91,5 +91,5 @@ planRecords w =
     opening (w .registers)
     ++ colours (w .palette) (w .bank)
     ++ along (w .registers) registerRoads
-    ++ indices (w .registers) (w .toggle)
-    ++ closing (w .registers) (w .pointer)
+    ++ indices (w .registers) (w .state .toggle)
+    ++ closing (w .registers) (w .state .pointer)

@@ -7,8 +7,8 @@ use mathlib.Core.List.{List}
 use lib.ListN.{length}
 use Rattle.file.specs.declared.registers.File.{File}
 use Rattle.file.specs.Answers.{refused}
-use Rattle.access.specs.Records.{items}
-use Rattle.access.specs.Run.{fileAfter}
+use Rattle.trace.specs.Records.{items}
+use Rattle.trace.specs.Run.{fileAfter}
 use Rattle.plan.specs.declared.planning.Planned.{Planned}
 use Rattle.plan.specs.declared.restoring.Restored.{Restored}
 use Rattle.plan.specs.Refusals.{planAnswer, restoreAnswer}

@@ -11,13 +11,13 @@ use Rattle.file.specs.Answers.{refused}
 use Rattle.file.specs.Sound.{sound}
 use Rattle.access.specs.declared.record.Item.the-variants.{Whole}
 use Rattle.access.specs.declared.record.Record.{Record}
-use Rattle.access.specs.Run.{answers}
+use Rattle.trace.specs.Run.{answers}
 use Rattle.plan.specs.Restores.{allAccepted}
 
 -- 'Plan: 12, 13, 11', by the wanted file and the length of the buffer
 unfoldable pub planAnswer : File → ℕ → Answer
 planAnswer w room =
-    cond (sound w) (cond (eqb (w .pointer .next) 0) (cond (leb 8192 room) (Done 0) ShortBuffer) NotBeforeRed) NotSound
+    cond (sound w) (cond (eqb (w .state .pointer .next) 0) (cond (leb 8192 room) (Done 0) ShortBuffer) NotBeforeRed) NotSound
 
 -- 'A restore takes a current file (checked first), a wanted file and a buffer, writes the plan and runs it: 12, 13, 11'
 unfoldable pub restoreAnswer : File → File → ℕ → Answer

@@ -7,13 +7,14 @@ use mathlib.Core.List.{List, [], _∷_}
 use lib.Dec.{T, eqb}
 use lib.ListN.{getD, set}
 use Rattle.bits.specs.Store.{within}
+use Rattle.places.specs.Lookup.{isOneOf}
 use Rattle.file.specs.declared.registers.File.{File}
-use Rattle.file.specs.File.{register, withRegisters, withToggle}
+use Rattle.file.specs.File.{register, withRegisters, withState}
+use Rattle.file.specs.State.{flipped}
 use Rattle.file.specs.Names.{MISC, SRX, GRX, ARX, PCI04, CR11}
-use Rattle.file.specs.Registers.{storedBits}
+use Rattle.file.specs.Registers.{registerCount, storedBits}
 use Rattle.file.specs.Sound.{sound}
-use Rattle.access.specs.Checks.{isOneOf}
-use Rattle.access.specs.Places.{Index, any, sr, cr, gr, ar, indexDue, dataDue}
+use Rattle.places.specs.Places.{Index, any, sr, cr, gr, ar, indexDue, dataDue}
 use Rattle.plan.specs.Roads.{Road}
 use Rattle.plan.specs.RoadRecords.{along}
 use Rattle.plan.specs.Plan.{openSpaces, openLock}
@@ -61,19 +62,20 @@ everyRoad test (r ∷ rs) = test r && everyRoad test rs
 unfoldable pub withRegister : ℕ → ℕ → File → File
 withRegister number value f = withRegisters (set (f .registers) number value) f
 
--- an access with that index flips the toggle
-unfoldable pub flips : Index → Bool
-flips any = false
-flips (sr n) = false
-flips (cr n) = false
-flips (gr n) = false
-flips (ar n) = false
-flips indexDue = true
-flips (dataDue n) = true
+-- an access with that index indexFlips the toggle
+unfoldable pub indexFlips : Index → Bool
+indexFlips any = false
+indexFlips (sr n) = false
+indexFlips (cr n) = false
+indexFlips (gr n) = false
+indexFlips (ar n) = false
+indexFlips indexDue = true
+indexFlips (dataDue n) = true
 
--- and flipped or not
-unfoldable pub flipped : Bool → File → File
-flipped flip f = cond flip (withToggle (not (f .toggle)) f) f
+-- the file with its toggle flipped, where it flips
+unfoldable pub withFlip : Bool → File → File
+unfolding withState flipped
+withFlip flip f = withState (flipped flip (f .state)) f
 
 -- the registers with an index selected
 unfoldable pub afterSelecting : Index → List ℕ → List ℕ
@@ -87,7 +89,7 @@ afterSelecting (dataDue n) registers = set registers ARX n
 
 -- the file with it selected: data is due after a 3C0h write
 unfoldable pub selected : Index → File → File
-selected i f = flipped (flips i) (withRegisters (afterSelecting i (f .registers)) f)
+selected i f = withFlip (indexFlips i) (withRegisters (afterSelecting i (f .registers)) f)
 
 -- the registers after some roads
 unfoldable pub afterRoads : List ℕ → List Road → List ℕ → List ℕ
@@ -106,14 +108,14 @@ pub record Brings (w : List ℕ) (f : File) (roads : List Road) : Type 0 where
 
 -- ---- in each register
 
--- the index register that selecting moves; 100, which none has, where there is none
+-- the index register that selecting moves; the number that none has where there is none
 unfoldable pub moves : Index → ℕ
-moves any = 100
+moves any = registerCount
 moves (sr n) = SRX
-moves (cr n) = 100
+moves (cr n) = registerCount
 moves (gr n) = GRX
-moves (ar n) = 100
-moves indexDue = 100
+moves (ar n) = registerCount
+moves indexDue = registerCount
 moves (dataDue n) = ARX
 
 -- whether a register holds its wanted value after some roads, if it did or did not before

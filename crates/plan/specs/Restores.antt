@@ -13,8 +13,8 @@ use Rattle.file.specs.Answers.{codeOf}
 use Rattle.file.specs.Sound.{sound}
 use Rattle.access.specs.declared.record.Item.the-variants.{Whole}
 use Rattle.access.specs.declared.record.Record.{Record}
-use Rattle.access.specs.Records.{bytesOf}
-use Rattle.access.specs.Run.{fileAfter, answers}
+use Rattle.trace.specs.Records.{bytesOf}
+use Rattle.trace.specs.Run.{fileAfter, answers}
 
 -- 'accepted means code 0'
 unfoldable pub accepted : Answer → Bool
@@ -53,7 +53,7 @@ pub record IsFile (f : File) : Type 0 where
   pub bank : length (f .bank) ≡ 16
   pub paletteBytes : T (bytes (f .palette))
   pub bankBytes : T (bytes (f .bank))
-  pub address : f .pointer .address < 256
+  pub address : f .state .pointer .address < 256
 
 -- demand 3: records that are a plan of a wanted file. Several are; `planRecords` is one
 pub record Plans (w : File) (records : List Record) : Type 0 where

@@ -4,7 +4,7 @@ use Prim.Native.Nat.{ℕ}
 use mathlib.Core.List.{List, [], _∷_, _++_}
 use lib.ListN.{getD}
 use Rattle.access.specs.declared.record.Record.{Record}
-use Rattle.access.specs.Places.{Index, any, sr, cr, gr, ar, indexDue, dataDue}
+use Rattle.places.specs.Places.{Index, any, sr, cr, gr, ar, indexDue, dataDue}
 use Rattle.plan.specs.Roads.{Road, toSRX, toGRX, toARX}
 
 -- the record that writes a value by a road

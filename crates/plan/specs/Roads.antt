@@ -5,10 +5,10 @@ use mathlib.Core.Bool.{cond}
 use mathlib.Core.List.{List, [], _∷_, _++_}
 use lib.Dec.{eqb}
 use Rattle.bits.specs.Store.{bit}
+use Rattle.places.specs.Lookup.{isOneOf}
 use Rattle.file.specs.Names.{MISC, SRX, CRX, GRX, ARX, pixelMask, PCI04, SR0, CR0, CR11, GR0, AR0, B0}
 use Rattle.file.specs.Registers.{Register as Stored, sequencer, crtc, graphics, attribute, pipeline}
-use Rattle.access.specs.Checks.{isOneOf}
-use Rattle.access.specs.Places.{Index, any, sr, gr, indexDue, dataDue}
+use Rattle.places.specs.Places.{Index, any, sr, gr, indexDue, dataDue}
 
 -- a road: the register's number; the kind, width and address of the record that writes it; the index that has to be selected first
 pub record Road : Type 0 where
@@ -63,6 +63,7 @@ closingRoads = toB0 ∷ toCR11 ∷ toPCI04 ∷ []
 
 -- 'pixel mask A0h', 'CRn at 4n', 'the 15 pipeline registers stored below, at their offsets'; '3C4h/3C5h', '3CEh/3CFh', '3C0h .. index or data by the toggle'
 unfoldable pub registerRoads : List Road
+unfolding eachRoad but isOneOf crtc pipeline sequencer graphics attribute
 registerRoads =
     but (CR11 ∷ B0 ∷ [])
     (mmioRoad pixelMask 1 0xA0

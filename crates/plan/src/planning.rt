@@ -33,8 +33,8 @@ fn put_plan(wanted: File, buffer: &mut [u8], at: usize) -> usize
     let at = put_opening(registers, buffer, at);
     let at = put_colours(palette, bank, buffer, at);
     let at = put_registers(&rows, registers, buffer, at);
-    let at = put_indices(registers, wanted.toggle, buffer, at);
-    put_closing(registers, wanted.pointer, buffer, at)
+    let at = put_indices(registers, wanted.state.toggle, buffer, at);
+    put_closing(registers, wanted.state.pointer, buffer, at)
 }
 
 // A plan of the wanted file, whatever file it is run from: 12, 13, 11, or 0 with the buffer's first 8 bytes times the
@@ -45,7 +45,7 @@ pub fn plan(wanted: File, buffer: &mut [u8]) -> Planned
     if !is_sound(wanted) {
         return no_plan(Answer::NotSound);
     }
-    if wanted.pointer.next != 0 {
+    if wanted.state.pointer.next != 0 {
         return no_plan(Answer::NotBeforeRed);
     }
     if buffer.len() < 8192 {

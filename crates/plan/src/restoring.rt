@@ -4,10 +4,10 @@ ghost use Prim.Native.Nat.{ℕ, _*_, _≤_, _<_};
 ghost use lib.ListN.{length, getD};
 ghost use Rattle.plan.specs.Promises.{RestoreKept};
 use crate::planning::plan;
-use access::run;
 use file::Answer;
 use file::File;
 use file::is_sound;
+use trace::run;
 
 // What a restore answers: also how many records its plan has, 0 if it is refused, and the file that the run ends in.
 pub struct Restored {
