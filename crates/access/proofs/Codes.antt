@@ -1,25 +1,21 @@
 -- An access answers a code of the fixed list; where no check refuses, the place answers. Assumes nothing.
 use Prim.Native.Nat.{ℕ}
 use mathlib.Core.Path.{_≡_, refl, sym, _∙_}
-use mathlib.Core.Bool.{Bool, true, false, cond, true≢false, _&&_, _||_}
+use mathlib.Core.Bool.{Bool, true, false, cond, true≢false, _&&_}
 use mathlib.Core.List.{List, [], _∷_}
-use lib.Dec.{T, eqb, leb}
+use lib.Dec.{T}
 use Rattle.bits.proofs.Test.{left, right, chosen, is-true, by-test}
 use Rattle.file.specs.declared.answer.Answer.{Answer}
 use Rattle.file.specs.declared.answer.Answer.the-variants.{Done, Locked, PaletteDown}
 use Rattle.file.specs.declared.registers.File.{File}
-use Rattle.file.specs.Answers.{codeOf, refused}
+use Rattle.file.specs.Answers.{refused}
 use Rattle.places.specs.declared.place.Place.{Place}
 use Rattle.places.specs.Profile.{Reading, givesHeld, givesFixed, givesToggle, givesPaletteState, givesDacState, givesAddress, givesPixel, resetsToggle, namesNothing, Writing, storesTo, readOnly, setsAddress, writesPixel, storesNothing, profile}
 use Rattle.access.specs.declared.record.Record.{Record}
 use Rattle.access.specs.Access.{placeOf, lockedOut, paletteUp, shownIn, readAnswer, writeAnswer, answerAt, answer}
 use Rattle.access.specs.Checks.{Check, isWrite, checks, firstRefusal}
+use Rattle.access.specs.Promises.{accessCode}
 use Rattle.access.proofs.SeenDecisions.{allRefuse, checks-refuse}
-
--- the codes 0 to 9 and 12
-unfoldable pub accessCode : Answer → Bool
-unfolding codeOf
-accessCode a = leb (codeOf a) 9 || eqb (codeOf a) 12
 
 -- a test of answers that every check of a list passes
 passed-on : (Answer → Bool) → List Check → Bool

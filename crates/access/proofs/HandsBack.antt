@@ -9,7 +9,8 @@ use Rattle.file.specs.Sound.{sound}
 use Rattle.access.specs.declared.access.Accessed.{Accessed}
 use Rattle.access.specs.declared.record.Record.{Record}
 use Rattle.access.specs.Access.{access}
-use Rattle.access.proofs.Codes.{accessCode, access-code}
+use Rattle.access.specs.Promises.{accessCode}
+use Rattle.access.proofs.Codes.{access-code}
 use Rattle.access.proofs.Refusals.{refusal-leaves, unsound-answer}
 use Rattle.access.proofs.Soundness.{access-sound}
 

@@ -11,8 +11,9 @@ use Rattle.file.specs.declared.registers.File.{File}
 use Rattle.file.specs.Effects.{reachOf}
 use Rattle.file.specs.File.{register}
 use Rattle.file.specs.Names.{SRX, ARX}
+use Rattle.places.specs.Lookup.{ofToggle}
 use Rattle.places.specs.Profile.{Reading, Writing, storesTo, profile, storesInto, flips, resets}
-use Rattle.places.proofs.RulesOfPlaces.{mmioRule, mmio-rule, ofToggle, toggleRule, toggle-rule}
+use Rattle.places.proofs.RulesOfPlaces.{mmioRule, mmio-rule, toggleRule, toggle-rule}
 use Rattle.access.specs.declared.record.Record.{Record}
 use Rattle.access.specs.Access.{placeOf, reachIn, access, reach}
 use Rattle.access.specs.Checks.{isMmio}

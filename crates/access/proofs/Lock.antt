@@ -22,6 +22,7 @@ use Rattle.places.specs.Profile.{Writing, storesTo, profile}
 use Rattle.access.specs.declared.record.Record.{Record}
 use Rattle.access.specs.Access.{placeOf, lockedOut, lockedReach, reachIn, writeAnswer, answerAt, effectAt, answer, effect, reach, access}
 use Rattle.access.specs.Checks.{isWrite, isPort, isMmio, checks, firstRefusal, notSound, malformed, spaceOff, notHeld, noRow, otherHalf, wrongWidth, otherWidth}
+use Rattle.access.specs.Promises.{seventh}
 use Rattle.access.proofs.Codes.{place-answers}
 use Rattle.access.proofs.Reach.{Spares, outside-reach, nothing-spares, read-spares, write-spares}
 use Rattle.access.proofs.Refusals.{by-effect}
@@ -80,10 +81,6 @@ module _ (f : File) (lock : crtcLocked f ≡ true) (number i : ℕ) (low : CR0 �
       (store-spares (profile (placeOf f r) .writing)
       (subst (λ (b : Bool). refused (answerAt b f (placeOf f r)) ≡ false) w (sym (ap refused (place-answers f r n)) ∙ n))))
       (read-spares number i f (profile (placeOf f r) .reading)))
-
--- a write of CR7 at MMIO 1Ch
-abbrev pub seventh : ℕ → Record
-seventh value = record { kind = 5; width = 1; address = 0x1C; value = value }
 
 module _ (f : File) (value : ℕ) (s : T (sound f)) (on : bit 1 (register f PCI04) ≡ 1) (byte : value < 256) (lock : crtcLocked f ≡ true) where
   -- the lock does not refuse it

@@ -11,8 +11,8 @@ use Rattle.file.specs.declared.registers.File.{File}
 use Rattle.file.specs.File.{crtcLocked}
 use Rattle.file.specs.Names.{CR7}
 use Rattle.file.specs.Registers.{storedBits}
-use Rattle.file.specs.Sound.{sound}
-use Rattle.file.proofs.Soundness.{keeps, apply-sound, addressed-sound, afterWrite-sound, afterRead-sound, pointer-sound}
+use Rattle.file.specs.Sound.{sound, keeps}
+use Rattle.file.proofs.Soundness.{apply-sound, addressed-sound, afterWrite-sound, afterRead-sound, pointer-sound}
 use Rattle.places.specs.Profile.{Reading, Writing, profile}
 use Rattle.access.specs.declared.record.Record.{Record}
 use Rattle.access.specs.Access.{placeOf, lockedReach, reachIn, writeEffect, readEffect, effect, access}

@@ -1,3 +1,4 @@
 pub mod Checks
 pub mod Access
 pub mod Engine
+pub mod Promises

@@ -22,7 +22,7 @@ use Rattle.file.specs.Effects.{apply, storeIn, paintIn}
 use Rattle.file.specs.File.{register, powerOn}
 use Rattle.file.specs.Palette.{byColour, addressed, moved, afterWrite, afterRead, pointerSound}
 use Rattle.file.specs.Registers.{registerCount, storedBits, storedTable}
-use Rattle.file.specs.Sound.{allWithin, sound}
+use Rattle.file.specs.Sound.{allWithin, sound, keeps}
 use Rattle.file.specs.State.{pointing, toggling, stateSound}
 
 -- a register of a sound file is within its row
@@ -158,14 +158,6 @@ pointer-sound f s = state-sound f s
 pub sound-count : (f : File) → T (sound f) → length (f .registers) ≡ registerCount
 unfolding storedTable
 sound-count f s = within-count storedTable (f .registers) (registers-sound f s)
-
--- an effect that stores within the stored bits, and moves to a sound pointer
-unfoldable pub keeps : Effect → Bool
-keeps Nothing = true
-keeps (Store number reach value flips) = within (storedBits number) reach
-keeps (Toggle toggle) = true
-keeps (Move pointer) = pointerSound pointer
-keeps (Paint bank entry colour pointer) = pointerSound pointer
 
 store-sound : (f : File) (number reach value : ℕ)
     → T (within (storedBits number) reach) → T (sound f) → T (allWithin storedTable (storeIn number reach value f .registers))

@@ -1,6 +1,7 @@
 pub mod Answers
 pub mod Registers
 pub mod Names
+pub mod Named
 pub mod Palette
 pub mod State
 pub mod File

@@ -13,7 +13,7 @@ fn mix(sum: u64, more: u64) -> u64 {
     (sum % 0x1_0000_0000) * 31 + more % 0x1_0000_0000
 }
 
-fn wide(x: u8) -> u64 {
+fn to_u64(x: u8) -> u64 {
     x as u64
 }
 
@@ -32,7 +32,7 @@ fn run_some(before: Course, trace: &mut [u8; 8192], replies: &mut [u8; 8192]) ->
     let file = ran.file;
     Course {
         file,
-        sum: mix(before.sum, wide(replies[at])),
+        sum: mix(before.sum, to_u64(replies[at])),
         more: size == 8192,
     }
 }
@@ -83,7 +83,7 @@ fn look_many(what: u8, file: File, times: u64) -> u64 {
         left -= 1;
     }
     let at = (sum % 8192) as usize;
-    mix(sum, wide(buffer[at]))
+    mix(sum, to_u64(buffer[at]))
 }
 
 fn write_many(file: File, timing: Timing, times: u64) -> u64 {
@@ -95,7 +95,7 @@ fn write_many(file: File, timing: Timing, times: u64) -> u64 {
         let answer = written.answer;
         let after = written.file;
         current = after;
-        sum = mix(sum, wide(answer.code()));
+        sum = mix(sum, to_u64(answer.code()));
         left -= 1;
     }
     sum
@@ -112,7 +112,7 @@ fn main() {
     let course = run_input();
     let file = course.file;
     let what = letter(1);
-    let times = wide(letter(2)) % 16 * 100;
+    let times = to_u64(letter(2)) % 16 * 100;
     let done = if what == b'w' {
         write_many(file, read_timing(file).timing, times)
     } else {

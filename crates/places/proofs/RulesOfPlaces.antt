@@ -10,7 +10,7 @@ use Rattle.file.specs.declared.registers.File.{File}
 use Rattle.file.specs.Names.{SRX, ARX}
 use Rattle.places.specs.declared.place.Place.{Place}
 use Rattle.places.specs.EngineCells.{nothingHeld, cellAt, inFile, takesBytes}
-use Rattle.places.specs.Lookup.{isOneOf, matches, rowAt, placeAt}
+use Rattle.places.specs.Lookup.{isOneOf, ofToggle, matches, rowAt, placeAt}
 use Rattle.places.specs.Places.{Row, places}
 use Rattle.places.specs.Profile.{profile, storesInto, flips, resets}
 use Rattle.places.proofs.CellsOfRows.{Outcome, nothing, held, outcome}
@@ -26,10 +26,7 @@ pub mmio-rule : (f : File) (kind address : ℕ) → T (mmioRule kind address (pl
 unfolding every places mmioRule
 mmio-rule f kind address = place-passes f kind address mmioRule tt (second (not (eqb (kind / 2) 2)) true tt)
 
--- 'Only 3C0h writes and 3?Ah reads move the toggle'
-unfoldable pub ofToggle : ℕ → ℕ → Bool
-ofToggle kind address = eqb kind 3 && eqb address 0x3C0 || eqb kind 2 && isOneOf (0x3BA ∷ 0x3DA ∷ []) address
-
+-- no other place moves the toggle
 unfoldable pub toggleRule : ℕ → ℕ → Place → Bool
 unfolding profile flips resets
 toggleRule kind address place = ofToggle kind address || not (flips (profile place .writing) || resets (profile place .reading))

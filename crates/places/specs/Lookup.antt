@@ -51,3 +51,7 @@ placeOfRow (some row) = row .place
 
 unfoldable pub placeAt : File → ℕ → ℕ → Place
 placeAt f kind address = placeOfRow (rowAt f kind address)
+
+-- 'Only 3C0h writes and 3?Ah reads move the toggle': the kinds and addresses of these
+unfoldable pub ofToggle : ℕ → ℕ → Bool
+ofToggle kind address = eqb kind 3 && eqb address 0x3C0 || eqb kind 2 && isOneOf (0x3BA ∷ 0x3DA ∷ []) address

@@ -15,8 +15,8 @@ use Rattle.file.specs.declared.registers.File.{File}
 use Rattle.file.specs.Effects.{apply, storeIn}
 use Rattle.file.specs.File.{register, withRegisters}
 use Rattle.file.specs.Registers.{storedBits}
-use Rattle.file.specs.Sound.{sound}
-use Rattle.file.proofs.Soundness.{apply-sound, keeps}
+use Rattle.file.specs.Sound.{sound, keeps}
+use Rattle.file.proofs.Soundness.{apply-sound}
 use Rattle.timing.specs.Promises.{storable}
 
 storable-left : (ps qs : List Piece) → T (storable (ps ++ qs)) → T (storable ps)
