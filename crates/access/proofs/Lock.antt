@@ -89,6 +89,6 @@ module _ (f : File) (value : ℕ) (s : T (sound f)) (on : bit 1 (register f PCI0
   seventh-accepted = simp (is-true (sound f) s, lt-leb 256 value byte, on, lock)
 
   -- and it stores bit 4 alone
-  pub seventh-stores : effect f (seventh value) ≡ Store CR7 0x10 value false
+  pub seventh-stores : effect f (seventh value) ≡ Store false CR7 0x10 value
   unfolding effect effectAt refused codeOf isWrite reachIn lockedReach placeOf placeAt rowAt placeOfRow first matches selects places
   seventh-stores = simp (seventh-accepted, lock)

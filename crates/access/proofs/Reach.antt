@@ -81,7 +81,7 @@ module _ (f : File) (value i : ℕ) where
   none e z h = absurd (let no : ⊥ = omega (arith, sym h ∙ ap (bit i) z ∙ bit-of-zero i) in no)
 
   module _ (count : length (f .registers) ≡ registerCount) where
-    stored : (number reached : ℕ) (flips : Bool) → number < registerCount → Lands (Store number reached value flips)
+    stored : (number reached : ℕ) (flips : Bool) → number < registerCount → Lands (Store flips number reached value)
     unfolding apply reachOf register
     stored number reached flips l h = stored-inside f number reached value i (subst (λ (n : ℕ). number < n) (sym count) l) h
 

@@ -53,9 +53,9 @@ by-read P f namesNothing none move toggle = none
 
 -- what a write does is nothing, a store, an address, a pixel's byte held or stored, or the toggle flipped
 pub by-write : (P : Effect → Type 0) (reach : ℕ → ℕ) (f : File) (writing : Writing) (value : ℕ)
-    → P Nothing → ((number : ℕ) (flips : Bool) → writing ≡ storesTo number flips → P (Store number (reach number) value flips))
+    → P Nothing → ((number : ℕ) (flips : Bool) → writing ≡ storesTo number flips → P (Store flips number (reach number) value))
     → ((reading : Bool) → P (Move (addressed reading value))) → P (Move (afterWrite (f .state .pointer) value))
-    → P (Paint (inBank f) (entryNumber f) (mixed (f .state .pointer) value) (afterWrite (f .state .pointer) value))
+    → P (Paint (inBank f) (entryNumber f) (afterWrite (f .state .pointer) value) (mixed (f .state .pointer) value))
     → (writing ≡ storesNothing true → P (Toggle (not (f .state .toggle)))) → P (writeEffect reach f writing value)
 unfolding writeEffect pixelWrite
 by-write P reach f (storesTo number flips) value none store addresses held paint toggle = store number flips refl

@@ -96,12 +96,12 @@ answerAt write f place = cond write (writeAnswer f (profile place .writing)) (re
 unfoldable pub pixelWrite : File → ℕ → Effect
 pixelWrite f byte =
     cond (stores (f .state .pointer))
-    (Paint (inBank f) (entryNumber f) (mixed (f .state .pointer) byte) (afterWrite (f .state .pointer) byte))
+    (Paint (inBank f) (entryNumber f) (afterWrite (f .state .pointer) byte) (mixed (f .state .pointer) byte))
     (Move (afterWrite (f .state .pointer) byte))
 
 -- what a write does, given the bits of each register that it may change
 unfoldable pub writeEffect : (ℕ → ℕ) → File → Writing → ℕ → Effect
-writeEffect reach f (storesTo number flips) value = Store number (reach number) value flips
+writeEffect reach f (storesTo number flips) value = Store flips number (reach number) value
 writeEffect reach f readOnly value = Nothing
 writeEffect reach f (setsAddress reading) value = Move (addressed reading value)
 writeEffect reach f writesPixel value = pixelWrite f value

@@ -92,15 +92,14 @@ fn is_other_row(registers: &[u16; REGISTERS], asked: Record) -> bool
 {
     let space = asked.kind / 2;
     let row = asked.address / 16;
-    let half = registers[MISC] % 2;
     if space != 1 {
         return false;
     }
     if row == 0x3B {
-        return half == 1;
+        return registers[MISC] % 2 == 1;
     }
     if row == 0x3D {
-        return half == 0;
+        return registers[MISC] % 2 == 0;
     }
     false
 }

@@ -28,7 +28,7 @@ pub same-outside : (e : Effect) (f : File) → SameOutside (reachOf e) f (apply 
 unfolding reachOf apply register
 same-outside Nothing f =
     record { registers = λ n i h. refl; palette = λ n h. refl; bank = λ n h. refl; pointer = λ h. refl; toggle = λ h. refl }
-same-outside (Store number reach value flips) f =
+same-outside (Store flips number reach value) f =
     record {
       registers = stored-outside (f .registers) number reach value;
       palette = λ n h. refl;
@@ -40,7 +40,7 @@ same-outside (Toggle toggle) f =
     record { registers = λ n i h. refl; palette = λ n h. refl; bank = λ n h. refl; pointer = λ h. refl; toggle = λ h. absurd (true≢false h) }
 same-outside (Move pointer) f =
     record { registers = λ n i h. refl; palette = λ n h. refl; bank = λ n h. refl; pointer = λ h. absurd (true≢false h); toggle = λ h. refl }
-same-outside (Paint true entry colour pointer) f =
+same-outside (Paint true entry pointer colour) f =
     record {
       registers = λ n i h. refl;
       palette = λ n h. refl;
@@ -48,7 +48,7 @@ same-outside (Paint true entry colour pointer) f =
       pointer = λ h. absurd (true≢false h);
       toggle = λ h. refl;
     }
-same-outside (Paint false entry colour pointer) f =
+same-outside (Paint false entry pointer colour) f =
     record {
       registers = λ n i h. refl;
       palette = λ n h. getD-set-other (f .palette) entry n colour black (h refl);

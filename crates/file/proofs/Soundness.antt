@@ -182,13 +182,13 @@ paint-keeps-state f false entry colour = refl
 pub apply-sound : (e : Effect) (f : File) → T (keeps e) → T (sound f) → T (sound (apply e f))
 unfolding keeps apply
 apply-sound Nothing f k s = s
-apply-sound (Store number reach value flips) f k s =
-    sound-by (apply (Store number reach value flips) f) (store-sound f number reach value k s)
+apply-sound (Store flips number reach value) f k s =
+    sound-by (apply (Store flips number reach value) f) (store-sound f number reach value k s)
     (toggling-sound (cond flips (not (f .state .toggle)) (f .state .toggle)) (f .state) (state-sound f s))
 apply-sound (Toggle toggle) f k s = sound-by (apply (Toggle toggle) f) (registers-sound f s) (toggling-sound toggle (f .state) (state-sound f s))
 apply-sound (Move pointer) f k s = sound-by (apply (Move pointer) f) (registers-sound f s) (pointing-sound pointer (f .state) k (state-sound f s))
-apply-sound (Paint bank entry colour pointer) f k s =
-    sound-by (apply (Paint bank entry colour pointer) f)
+apply-sound (Paint bank entry pointer colour) f k s =
+    sound-by (apply (Paint bank entry pointer colour) f)
     (subst (λ (l : List ℕ). T (allWithin storedTable l)) (sym (paint-keeps f bank entry colour)) (registers-sound f s))
     (pointing-sound pointer (f .state) k (state-sound f s))
 

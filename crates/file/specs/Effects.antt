@@ -26,19 +26,19 @@ paintIn bank entry colour f =
 unfoldable pub apply : Effect → File → File
 unfolding storeIn paintIn withState withPointer withToggle flipped pointing
 apply Nothing f = f
-apply (Store number reach value flips) f = withState (flipped flips (f .state)) (storeIn number reach value f)
+apply (Store flips number reach value) f = withState (flipped flips (f .state)) (storeIn number reach value f)
 apply (Toggle toggle) f = withToggle toggle f
 apply (Move pointer) f = withPointer pointer f
-apply (Paint bank entry colour pointer) f = withState (pointing pointer (f .state)) (paintIn bank entry colour f)
+apply (Paint bank entry pointer colour) f = withState (pointing pointer (f .state)) (paintIn bank entry colour f)
 
 -- what an effect may change
 unfoldable pub reachOf : Effect → Reach
 reachOf Nothing = record { register = 0; bits = 0; toggle = false; pointer = false; palette = false; bank = false; entry = 0 }
-reachOf (Store number reach value flips) =
+reachOf (Store flips number reach value) =
     record { register = number; bits = reach; toggle = flips; pointer = false; palette = false; bank = false; entry = 0 }
 reachOf (Toggle toggle) =
     record { register = 0; bits = 0; toggle = true; pointer = false; palette = false; bank = false; entry = 0 }
 reachOf (Move pointer) =
     record { register = 0; bits = 0; toggle = false; pointer = true; palette = false; bank = false; entry = 0 }
-reachOf (Paint bank entry colour pointer) =
+reachOf (Paint bank entry pointer colour) =
     record { register = 0; bits = 0; toggle = false; pointer = true; palette = not bank; bank = bank; entry = entry }

@@ -25,7 +25,7 @@ sound f = allWithin storedTable (f .registers) && stateSound (f .state)
 -- an effect that stores within the stored bits, and moves to a sound pointer
 unfoldable pub keeps : Effect → Bool
 keeps Nothing = true
-keeps (Store number reach value flips) = within (storedBits number) reach
+keeps (Store flips number reach value) = within (storedBits number) reach
 keeps (Toggle toggle) = true
 keeps (Move pointer) = pointerSound pointer
-keeps (Paint bank entry colour pointer) = pointerSound pointer
+keeps (Paint bank entry pointer colour) = pointerSound pointer

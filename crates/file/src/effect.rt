@@ -16,10 +16,10 @@ pub enum Effect {
     Nothing,
     // the register takes the value inside the reach; a write of 3C0h flips the toggle too
     Store {
+        flips: bool,
         register: usize,
         reach: u16,
         value: u16,
-        flips: bool,
     },
     // the toggle's new state
     Toggle(bool),
@@ -29,8 +29,8 @@ pub enum Effect {
     Paint {
         bank: bool,
         entry: usize,
-        colour: Colour,
         pointer: Pointer,
+        colour: Colour,
     },
 }
 

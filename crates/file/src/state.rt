@@ -39,10 +39,6 @@ impl State {
     pub fn flipped(self, flips: bool) -> State
         ensures { λ r. ⌜ r ≡ flippedState flips self ⌝ }
     {
-        if flips {
-            self.toggling(!self.toggle)
-        } else {
-            self
-        }
+        self.toggling(self.toggle != flips)
     }
 }

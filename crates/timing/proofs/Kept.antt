@@ -34,7 +34,7 @@ storable-right (p ∷ ps) qs t = storable-right ps qs (right (within (storedBits
 
 -- a piece that is put is a store by its reach
 stored : Piece → ℕ → Effect
-stored p n = Store (p .register) (pieceReach p) (n % 2 ^ p .width * 2 ^ p .low) false
+stored p n = Store false (p .register) (pieceReach p) (n % 2 ^ p .width * 2 ^ p .low)
 
 scatter-sound : (ps : List Piece) (n : ℕ) (f : File)
     → T (storable ps) → T (sound f) → T (sound (withRegisters (scatter ps n (f .registers)) f))

@@ -32,7 +32,7 @@ use Rattle.trace.specs.EngineServed.{paints, paintsBank, paintsColour, l
 
 -- a file without colours has none to store
 painted-none : (registers : List ℕ) (bank : Bool) (entry : ℕ) (colour : Colour) (pointer : Pointer) (state : State)
-    → apply (Paint bank entry colour pointer) (seen registers state) ≡ seen registers (pointing pointer state)
+    → apply (Paint bank entry pointer colour) (seen registers state) ≡ seen registers (pointing pointer state)
 unfolding apply seen
 painted-none registers true entry colour pointer state = refl
 painted-none registers false entry colour pointer state = refl
@@ -49,7 +49,7 @@ module _ (registers : List ℕ) (before : Served) where
 
   pub store-put : (number reach value : ℕ) (flips : Bool) (after : List ℕ) (state : State)
       → (number < registerCount → after ≡ set registers number (store reach (getD registers number 0) value)) → state ≡ flipped flips (before .state)
-      → Puts registers before (Store number reach value flips) after (withState state before)
+      → Puts registers before (Store flips number reach value) after (withState state before)
   unfolding apply seen register paints paintsBank paintsColour lands
   store-put number reach value flips after state stored flip =
       record {
@@ -73,7 +73,7 @@ module _ (registers : List ℕ) (before : Served) where
       record { code = refl; value = refl; pixel = refl; left = λ t. ap (seen registers) (sym e); painting = λ e. e; bank = refl; colour = refl }
 
   pub paint-put : (bank : Bool) (entry : ℕ) (colour : Colour) (pointer : Pointer) (state : State) → state ≡ pointing pointer (before .state)
-      → Puts registers before (Paint bank entry colour pointer) registers
+      → Puts registers before (Paint bank entry pointer colour) registers
       (record { code = before .code; value = before .value; state = state; pixel = before .pixel; paints = true; bank = bank; colour = colour })
   unfolding paints paintsBank paintsColour
   paint-put bank entry colour pointer state e =
@@ -125,13 +125,13 @@ pub parts-after : (e : Effect) (f : File) → T (lands (f .state) e)
     }
 unfolding apply seen register paints paintsBank paintsColour lands
 parts-after Nothing f t = refl
-parts-after (Store number reach value flips) f t = refl
+parts-after (Store flips number reach value) f t = refl
 parts-after (Toggle toggle) f t = refl
 parts-after (Move pointer) f t = refl
-parts-after (Paint true entry colour pointer) f t =
+parts-after (Paint true entry pointer colour) f t =
     ap (λ (n : ℕ). record { registers = f .registers; palette = f .palette; bank = set (f .bank) n colour; state = pointing pointer (f .state) })
     (eqb→eq entry (f .state .pointer .address % bankCount) t)
-parts-after (Paint false entry colour pointer) f t =
+parts-after (Paint false entry pointer colour) f t =
     ap (λ (n : ℕ). record { registers = f .registers; palette = set (f .palette) n colour; bank = f .bank; state = pointing pointer (f .state) })
     (eqb→eq entry (f .state .pointer .address) t)
 

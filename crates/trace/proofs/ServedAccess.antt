@@ -23,18 +23,18 @@ use Rattle.trace.proofs.EffectsInParts.{effect-lands}
 bank-told : (e : Effect) (b : Bool) → paints e ≡ true → paintsBank b e ≡ paintsBank false e
 unfolding paints paintsBank
 bank-told Nothing b p = absurd (true≢false (sym p))
-bank-told (Store number reach value flips) b p = absurd (true≢false (sym p))
+bank-told (Store flips number reach value) b p = absurd (true≢false (sym p))
 bank-told (Toggle toggle) b p = absurd (true≢false (sym p))
 bank-told (Move pointer) b p = absurd (true≢false (sym p))
-bank-told (Paint bank entry colour pointer) b p = refl
+bank-told (Paint bank entry pointer colour) b p = refl
 
 pub colour-told : (e : Effect) (c d : Colour) → paints e ≡ true → paintsColour c e ≡ paintsColour d e
 unfolding paints paintsColour
 colour-told Nothing c d p = absurd (true≢false (sym p))
-colour-told (Store number reach value flips) c d p = absurd (true≢false (sym p))
+colour-told (Store flips number reach value) c d p = absurd (true≢false (sym p))
 colour-told (Toggle toggle) c d p = absurd (true≢false (sym p))
 colour-told (Move pointer) c d p = absurd (true≢false (sym p))
-colour-told (Paint bank entry colour pointer) c d p = refl
+colour-told (Paint bank entry pointer colour) c d p = refl
 
 module _ (registers : List ℕ) (state : State) (asked : Record) (d : Decision) (decided : d ≡ decision (seen registers state) asked)
     (before : Served) (a : Answered (d .answer) (d .pixel) state before) (after : List ℕ) (s : Served) (p : Puts registers before (d .effect) after s) where

@@ -31,32 +31,32 @@ pub record Answered (a : Answer) (asks : Bool) (held : State) (s : Served) : Typ
 -- what an effect paints: whether, where, and the colour
 unfoldable pub paints : Effect → Bool
 paints Nothing = false
-paints (Store number reach value flips) = false
+paints (Store flips number reach value) = false
 paints (Toggle toggle) = false
 paints (Move pointer) = false
-paints (Paint bank entry colour pointer) = true
+paints (Paint bank entry pointer colour) = true
 
 unfoldable pub paintsBank : Bool → Effect → Bool
 paintsBank otherwise Nothing = otherwise
-paintsBank otherwise (Store number reach value flips) = otherwise
+paintsBank otherwise (Store flips number reach value) = otherwise
 paintsBank otherwise (Toggle toggle) = otherwise
 paintsBank otherwise (Move pointer) = otherwise
-paintsBank otherwise (Paint bank entry colour pointer) = bank
+paintsBank otherwise (Paint bank entry pointer colour) = bank
 
 unfoldable pub paintsColour : Colour → Effect → Colour
 paintsColour otherwise Nothing = otherwise
-paintsColour otherwise (Store number reach value flips) = otherwise
+paintsColour otherwise (Store flips number reach value) = otherwise
 paintsColour otherwise (Toggle toggle) = otherwise
 paintsColour otherwise (Move pointer) = otherwise
-paintsColour otherwise (Paint bank entry colour pointer) = colour
+paintsColour otherwise (Paint bank entry pointer colour) = colour
 
 -- an effect lands if its register is one of the file's and its entry the one that the pointer names
 unfoldable pub lands : State → Effect → Bool
 lands s Nothing = true
-lands s (Store number reach value flips) = ltb number registerCount
+lands s (Store flips number reach value) = ltb number registerCount
 lands s (Toggle toggle) = true
 lands s (Move pointer) = true
-lands s (Paint bank entry colour pointer) = eqb entry (cond bank (s .pointer .address % bankCount) (s .pointer .address))
+lands s (Paint bank entry pointer colour) = eqb entry (cond bank (s .pointer .address % bankCount) (s .pointer .address))
 
 -- an effect put on registers and state: what was answered stays, and what it paints is told
 pub record Puts (registers : List ℕ) (before : Served) (e : Effect) (after : List ℕ) (s : Served) : Type 0 where

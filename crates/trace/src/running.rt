@@ -173,20 +173,23 @@ fn run_whole(whole: File, trace: &[u8], replies: &mut [u8], count: usize) -> Fil
     let stored = File::stored();
     for n in 0..count {
         let asked = record_at(trace, 8 * n);
-        let at = palette_entry(state);
-        let within = bank_entry(state);
         let served = serve(&cells, &stored, &mut registers, state, asked);
         let mut value = served.value;
         if served.pixel {
-            value = component(is_in_bank(&registers), bank[within], palette[at], state);
+            value = component(
+                is_in_bank(&registers),
+                bank[bank_entry(state)],
+                palette[palette_entry(state)],
+                state,
+            );
         }
         put_reply(replies, 8 * n, asked, served.code, value);
         let colour = served.colour;
         if served.paints {
             if served.bank {
-                bank[within] = colour;
+                bank[bank_entry(state)] = colour;
             } else {
-                palette[at] = colour;
+                palette[palette_entry(state)] = colour;
             }
         }
         state = served.state;

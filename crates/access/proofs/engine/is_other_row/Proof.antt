@@ -15,11 +15,11 @@ returns c = rw (ne-eqb _ _ (c .if1 .taken))
 
 returns-2 : tie.Need-returns-2
 unfolding otherRow isPort seen register
-returns-2 c = rw (c .before .if1 .left, c .if2 .taken, bit-zero, or-false)
+returns-2 c = rw (c .before .before .if1 .left, c .before .if2 .taken, bit-zero, or-false)
 
 returns-3 : tie.Need-returns-3
 unfolding otherRow isPort seen register
-returns-3 c = rw (c .before .before .if1 .left, c .if3 .taken, bit-zero)
+returns-3 c = rw (c .before .before .before .if1 .left, c .before .if3 .taken, bit-zero)
 
 returns-4 : tie.Need-returns-4
 unfolding otherRow isPort seen register
@@ -27,4 +27,4 @@ returns-4 c = rw (c .before .before .if1 .left, ne-eqb _ _ (c .before .if2 .left
 
 pub is-other-row-spec : {M : Type 1} → statement M
 is-other-row-spec =
-    tie.close (tie.spec (λ c. search needs) returns returns-2 returns-3 returns-4)
+    tie.close (tie.spec returns (λ c. search needs) returns-2 (λ c. search needs) returns-3 returns-4)

@@ -33,72 +33,70 @@ loop-holds c = record { reached = omega arith; file = refl; said = refl }
 
 serve-requires : tie.Need-serve-requires Inv-loop μ-loop
 unfolding sound seen
-serve-requires c κs = (c .before .before .before .before .before .before .before .before .before .cells .ensures, c .before .before .before .before .before .before .before .before .stored .ensures, subst (λ (f : File). T (sound f)) (sym (c .before .before .before .before .before .before .before .loop .inv .file)) (run-sound (c .before .before .before .before .before .before .before .before .before .before .before .before .before .before .before .before .args .whole) _ (c .before .before .before .before .before .before .before .before .before .before .before .before .before .before .before .before .pre .0)))
+serve-requires c κs = (c .before .before .before .before .before .before .before .cells .ensures, c .before .before .before .before .before .before .stored .ensures, subst (λ (f : File). T (sound f)) (sym (c .before .before .before .before .before .loop .inv .file)) (run-sound (c .before .before .before .before .before .before .before .before .before .before .before .before .before .before .args .whole) _ (c .before .before .before .before .before .before .before .before .before .before .before .before .before .before .pre .0)))
 
 mul-component : tie.Need-mul-component Inv-loop μ-loop
-mul-component c = record { fits = omega (arith, c .before .before .before .before .before .before .before .bank-entry .ensures .1) }
+mul-component c = record { fits = omega (arith, c .bank-entry .ensures .1) }
 
 array-copy-out-component : tie.Need-array-copy-out-component Inv-loop μ-loop
-array-copy-out-component c = omega (arith, c .before .before .before .before .before .before .before .bank-entry .ensures .1)
+array-copy-out-component c = omega (arith, c .bank-entry .ensures .1)
 
 mul-component-2 : tie.Need-mul-component-2 Inv-loop μ-loop
-mul-component-2 c = record { fits = omega (arith, c .before .before .before .before .before .before .before .before .before .palette-entry .ensures .1) }
+mul-component-2 c = record { fits = omega (arith, c .palette-entry .ensures .1) }
 
 array-copy-out-component-2 : tie.Need-array-copy-out-component-2 Inv-loop μ-loop
-array-copy-out-component-2 c = omega (arith, c .before .before .before .before .before .before .before .before .before .palette-entry .ensures .1)
+array-copy-out-component-2 c = omega (arith, c .palette-entry .ensures .1)
 
 mul-record-at : tie.Need-mul-record-at Inv-loop μ-loop
 mul-record-at c = search needs
 
 mul-put-reply : tie.Need-mul-put-reply Inv-loop μ-loop
-mul-put-reply c = record { fits = mul-record-at (c .before .before .before .before .before .before .before .before .before) .fits }
+mul-put-reply c = record { fits = mul-record-at (c .before .before .before .before .before .before .before) .fits }
 
 put-reply-requires : tie.Need-put-reply-requires Inv-loop μ-loop
-put-reply-requires c κs = omega (arith, buffer-long _ _ _ (c .before .before .before .before .before .before .before .before .before .before .loop .inv) (c .before .before .before .before .before .before .before .before .before .before .before .before .before .before .before .before .before .before .before .pre .2), c .before .before .before .before .before .before .before .before .before .loop-test .taken, c .before .before .before .before .before .before .before .before .before .before .before .before .before .before .before .before .before .before .before .pre .2)
+put-reply-requires c κs = omega (arith, buffer-long _ _ _ (c .before .before .before .before .before .before .before .before .loop .inv) (c .before .before .before .before .before .before .before .before .before .before .before .before .before .before .before .before .before .pre .2), c .before .before .before .before .before .before .before .loop-test .taken, c .before .before .before .before .before .before .before .before .before .before .before .before .before .before .before .before .before .pre .2)
 
 mul-bank : tie.Need-mul-bank Inv-loop μ-loop
-mul-bank c = record { fits = omega (arith, c .before .before .before .before .before .before .before .before .before .before .before .before .bank-entry .ensures .1) }
+mul-bank c = record { fits = omega (arith, c .bank-entry2 .ensures .1) }
 
 array-set-from-bank : tie.Need-array-set-from-bank Inv-loop μ-loop
-array-set-from-bank c = omega (arith, c .before .before .before .before .before .before .before .before .before .before .before .before .bank-entry .ensures .1)
+array-set-from-bank c = omega (arith, c .bank-entry2 .ensures .1)
 
 mul-palette : tie.Need-mul-palette Inv-loop μ-loop
-mul-palette c = record { fits = omega (arith, c .before .before .before .before .before .before .before .before .before .before .before .before .before .palette-entry .ensures .1) }
+mul-palette c = record { fits = omega (arith, c .palette-entry2 .ensures .1) }
 
 array-set-from-palette : tie.Need-array-set-from-palette Inv-loop μ-loop
-array-set-from-palette c = omega (arith, c .before .before .before .before .before .before .before .before .before .before .before .before .before .palette-entry .ensures .1)
+array-set-from-palette c = omega (arith, c .palette-entry2 .ensures .1)
 
 add-n : tie.Need-add-n Inv-loop μ-loop
-add-n c = record { fits = omega (arith, mul-record-at (c .before .before .before .before .before .before .before .before .before .before .before .before .before .before .before) .fits) }
+add-n c = record { fits = omega (arith, mul-record-at (c .before .before .before .before .before .before .before .before .before .before .before .before .before) .fits) }
 
 loop-less : tie.Need-loop-less Inv-loop μ-loop
-loop-less c = omega (arith, c .before .before .before .before .before .before .before .before .before .before .before .before .before .before .before .loop-test .taken)
+loop-less c = omega (arith, c .before .before .before .before .before .before .before .before .before .before .before .before .before .loop-test .taken)
 
 loop-again : tie.Need-loop-again Inv-loop μ-loop
 unfolding black inBank register seen
 loop-again c =
-    let start = c .before .before .before .before .before .before .before .before .before .before .before .before .before .before .before .before .before .before .before .before .before .before .before .before .before in
-    let turn = c .before .before .before .before .before .before .before .before .before .before .before .before .before .before .before .before .loop in
+    let start = c .before .before .before .before .before .before .before .before .before .before .before .before .before .before .before .before .before .before .before .before .before .before .before in
+    let turn = c .before .before .before .before .before .before .before .before .before .before .before .before .before .before .loop in
     let inv = turn .inv in
-    let more = c .before .before .before .before .before .before .before .before .before .before .before .before .before .before .before .loop-test .taken in
-    let asked = c .before .before .before .before .before .before .before .before .before .before .before .before .before .before .record-at in
-    let at = c .before .before .before .before .before .before .before .before .before .before .before .before .before .palette-entry in
-    let within = c .before .before .before .before .before .before .before .before .before .before .before .before .bank-entry in
+    let more = c .before .before .before .before .before .before .before .before .before .before .before .before .before .loop-test .taken in
+    let asked = c .before .before .before .before .before .before .before .before .before .before .before .before .record-at in
     let after = c .before .before .before .before .before .before .before .before .serve in
     let painted = c .before .if2 in
     let value : c .before .before .before .before .before .before .before .if1 .value ≡ cond (after .result .pixel) (shownIn (together (turn .registers) (turn .palette) (turn .bank) (turn .state))) (after .result .value) =
     came-by (c .before .before .before .before .before .before .before .if1 .came)
-    (λ x. rw (x .0 .taken) (x .6 ∙ x .5 .ensures
-    ∙ component-served (turn .registers) (turn .palette) (turn .bank) (turn .state) (asked .result) _ (after .result) (after .ensures) _ _ _ (x .0 .taken) (x .2 .ensures) (at .ensures .0) (within .ensures .0)))
+    (λ x. rw (x .0 .taken) (x .8 ∙ x .7 .ensures
+    ∙ component-served (turn .registers) (turn .palette) (turn .bank) (turn .state) (asked .result) _ (after .result) (after .ensures) _ _ _ (x .0 .taken) (x .2 .ensures) (x .5 .ensures .0) (x .3 .ensures .0)))
     (λ x. rw (x .0 .left) (x .1)) in
     held-step _ _ _ inv more (omega (arith, more, start .pre .1)) (asked .result) (asked .ensures) _ (after .result) (after .ensures) _ value
     _ _
-    (came-by (painted .came) (λ x. rw (x .0 .taken, x .1 .taken) (x .2))
+    (came-by (painted .came) (λ x. rw (x .0 .taken, x .1 .taken) (x .3))
     (λ y. came-by y
-    (λ x. rw (x .0 .taken, x .1 .left) (x .2 ∙ ap (λ (i : ℕ). set (turn .palette) i (after .result .colour)) (at .ensures .0)))
+    (λ x. rw (x .0 .taken, x .1 .left) (x .3 ∙ ap (λ (i : ℕ). set (turn .palette) i (after .result .colour)) (x .2 .ensures .0)))
     (λ x. rw (x .0 .left) (x .1))))
-    (came-by (painted .came) (λ x. rw (x .0 .taken, x .1 .taken) (x .3 ∙ ap (λ (i : ℕ). set (turn .bank) i (after .result .colour)) (within .ensures .0)))
-    (λ y. came-by y (λ x. rw (x .0 .taken, x .1 .left) (x .3)) (λ x. rw (x .0 .left) (x .2))))
+    (came-by (painted .came) (λ x. rw (x .0 .taken, x .1 .taken) (x .4 ∙ ap (λ (i : ℕ). set (turn .bank) i (after .result .colour)) (x .2 .ensures .0)))
+    (λ y. came-by y (λ x. rw (x .0 .taken, x .1 .left) (x .4)) (λ x. rw (x .0 .left) (x .2))))
     _ (c .before .before .before .before .before .put-reply .ensures)
 
 same-length : tie.Need-same-length Inv-loop μ-loop
@@ -116,7 +114,7 @@ returns c =
 pub run-whole-spec : {M : Type 1} → statement M
 run-whole-spec =
     tie.close
-    (tie.spec Inv-loop μ-loop (λ c κs. search needs) (λ c κs. search needs) loop-holds (λ c. search needs) (λ c κs. search needs) (λ c κs. search needs)
-    (λ c κs. search needs) serve-requires (λ c κs. search needs) mul-component array-copy-out-component mul-component-2
-    array-copy-out-component-2 (λ c κs. search needs) mul-put-reply put-reply-requires mul-bank array-set-from-bank mul-palette
-    array-set-from-palette add-n loop-less loop-again same-length returns)
+    (tie.spec Inv-loop μ-loop (λ c κs. search needs) (λ c κs. search needs) loop-holds (λ c. search needs) (λ c κs. search needs)
+    serve-requires (λ c κs. search needs) (λ c κs. search needs) mul-component array-copy-out-component (λ c κs. search needs) mul-component-2
+    array-copy-out-component-2 (λ c κs. search needs) mul-put-reply put-reply-requires (λ c κs. search needs) mul-bank array-set-from-bank
+    (λ c κs. search needs) mul-palette array-set-from-palette add-n loop-less loop-again same-length returns)
