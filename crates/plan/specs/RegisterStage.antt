@@ -62,7 +62,7 @@ everyRoad test (r ∷ rs) = test r && everyRoad test rs
 unfoldable pub withRegister : ℕ → ℕ → File → File
 withRegister number value f = withRegisters (set (f .registers) number value) f
 
--- an access with that index indexFlips the toggle
+-- an access with that index flips the toggle
 unfoldable pub indexFlips : Index → Bool
 indexFlips any = false
 indexFlips (sr n) = false

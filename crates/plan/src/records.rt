@@ -9,20 +9,22 @@ ghost use Rattle.bits.specs.Store.{bit};
 ghost use Rattle.plan.specs.Appended.{Appended};
 ghost use Rattle.plan.specs.Plan.{configWrite, portWrite, portRead, mmioWrite};
 use access::Record;
+use trace::record_bytes;
 
-// A record: 8 bytes, little-endian.
+// A record's 8 bytes.
 pub fn put(written: Record, buffer: &mut [u8], at: usize) -> usize
     requires { ⌜ at + 8 ≤ length (now buffer) ⌝ }
     ensures { λ r. ⌜ Appended (now (buffer .entry)) at (written ∷ []) (now (buffer .exit)) r ⌝ }
 {
-    buffer[at] = written.kind;
-    buffer[at + 1] = written.width;
-    buffer[at + 2] = (written.address % 256) as u8;
-    buffer[at + 3] = (written.address / 256) as u8;
-    buffer[at + 4] = (written.value % 256) as u8;
-    buffer[at + 5] = (written.value / 256 % 256) as u8;
-    buffer[at + 6] = (written.value / 65536 % 256) as u8;
-    buffer[at + 7] = (written.value / 16777216) as u8;
+    let bytes = record_bytes(written);
+    buffer[at] = bytes[0];
+    buffer[at + 1] = bytes[1];
+    buffer[at + 2] = bytes[2];
+    buffer[at + 3] = bytes[3];
+    buffer[at + 4] = bytes[4];
+    buffer[at + 5] = bytes[5];
+    buffer[at + 6] = bytes[6];
+    buffer[at + 7] = bytes[7];
     at + 8
 }
 
