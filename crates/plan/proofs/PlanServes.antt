@@ -14,7 +14,7 @@ use Rattle.file.specs.declared.answer.Answer.the-variants.{Done, ShortBuffer, N
 use Rattle.file.specs.declared.registers.File.{File}
 use Rattle.file.specs.File.{register, withRegisters, withPointer, withToggle, withPalette, withBank}
 use Rattle.file.specs.Names.{MISC, B0}
-use Rattle.file.specs.Registers.{storedTable, sequencer, crtc, graphics, attribute, pipeline}
+use Rattle.file.specs.Registers.{registerCount, storedTable, sequencer, crtc, graphics, attribute, pipeline}
 use Rattle.file.specs.Answers.{codeOf, refused}
 use Rattle.file.specs.Sound.{allWithin, sound}
 use Rattle.file.proofs.Soundness.{registers-sound, pointer-sound, sound-count}
@@ -49,20 +49,20 @@ unfoldable pub planRoads : ℕ → List Road
 planRoads misc = registerRoads ++ lastRoads misc
 
 -- after them every register holds its wanted value, if MISC did before
-all-end-wanted : (misc : ℕ) → T (everyBelow (λ (n : ℕ). endsWanted (planRoads misc) n (eqb n MISC)) 100)
+all-end-wanted : (misc : ℕ) → T (everyBelow (λ (n : ℕ). endsWanted (planRoads misc) n (eqb n MISC)) registerCount)
 unfolding everyBelow endsWanted planRoads lastRoads closingRoads moves registerRoads indexRoads eachRoad but isOneOf sequencer crtc graphics attribute pipeline
 all-end-wanted misc = tt
 
 -- the registers that the stages after the colours leave are the wanted ones
-registers-as-wanted : (w xs : List ℕ) (misc : ℕ) → T (allWithin storedTable w) → length xs ≡ length w → length w ≡ 100 → getD xs MISC 0 ≡ getD w MISC 0
+registers-as-wanted : (w xs : List ℕ) (misc : ℕ) → T (allWithin storedTable w) → length xs ≡ length w → length w ≡ registerCount → getD xs MISC 0 ≡ getD w MISC 0
     → afterRoads w (planRoads misc) xs ≡ w
 registers-as-wanted w xs misc s many all same =
     ext-getD 0 (afterRoads w (planRoads misc) xs) w (after-length w (planRoads misc) xs ∙ many)
     (λ n h.
-    let small : n < 100 = omega (arith, after-length w (planRoads misc) xs) in
+    let small : n < registerCount = omega (arith, after-length w (planRoads misc) xs) in
     ends-wanted w (planRoads misc) xs n (eqb n MISC) (omega arith)
     (λ t. subst (λ (m : ℕ). getD xs m 0 ≡ getD w m 0) (sym (eqb→eq n MISC t)) same)
-    (below (λ (m : ℕ). endsWanted (planRoads misc) m (eqb m MISC)) 100 (all-end-wanted misc) n small))
+    (below (λ (m : ℕ). endsWanted (planRoads misc) m (eqb m MISC)) registerCount (all-end-wanted misc) n small))
 
 -- ---- demand 3
 

@@ -2,6 +2,7 @@
 use file::Colour;
 use file::File;
 use file::Pointer;
+use file::REGISTERS;
 use file::State;
 use libc::STDOUT_FILENO;
 use paper::set_register;
@@ -34,7 +35,7 @@ fn is_filled(buffer: &[u8], from: usize) -> bool {
 }
 
 fn same_registers(a: File, b: File) -> bool {
-    for i in 0..100 {
+    for i in 0..REGISTERS {
         if a.registers[i] != b.registers[i] {
             return false;
         }
@@ -86,9 +87,9 @@ fn colour_at(i: usize) -> Colour {
     }
 }
 
-fn varied_registers() -> [u16; 100] {
-    let mut registers = [0u16; 100];
-    for i in 0..100 {
+fn varied_registers() -> [u16; REGISTERS] {
+    let mut registers = [0u16; REGISTERS];
+    for i in 0..REGISTERS {
         registers[i] = bits::store(File::stored_bits(i), 0, word_at(i + 1));
     }
     registers

@@ -15,12 +15,12 @@ use Rattle.bits.specs.Store.{store, within}
 use Rattle.bits.specs.Words.{most, bounded, readWords}
 use Rattle.bits.proofs.Bounded.{words-numbers, read-below, read-first}
 use Rattle.file.specs.Names.{CR1A, CR1B}
-use Rattle.file.specs.Registers.{storedBits, storedTable, registers, singles, sequencer, crtc, graphics, attribute, pipeline}
+use Rattle.file.specs.Registers.{registerCount, storedBits, storedTable, registers, singles, sequencer, crtc, graphics, attribute, pipeline}
 use Rattle.timing.specs.Promises.{storable, free, unused}
 use Rattle.timing.specs.Table.{table}
 
 -- the pieces lie in the file's registers and are disjoint
-pub table-fits : (w : Bool) → T (fitting 100 (table w))
+pub table-fits : (w : Bool) → T (fitting registerCount (table w))
 unfolding fitting disjoint present piecesOf piecesReach pieceReach table
 table-fits true = tt
 table-fits false = tt
