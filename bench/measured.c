@@ -1,10 +1,11 @@
 /*
  * The C side of crates/measured: runs the trace on standard input from power-on and prints nothing
  * of it; then does one thing some hundred times with the file that it ends in. Words: `run`, or
- * `read`, `write` (the timing) or `plan` and a digit for the hundreds.
+ * `read`, `write` (the timing), `plan` or `restore` (from power-on) and a digit for the hundreds.
  */
 #include <inttypes.h>
 #include <stdio.h>
+#include <string.h>
 
 #include "../reference/sedgecoil.h"
 
@@ -66,18 +67,49 @@ static uint64_t plan_many(const struct sc_file *f, unsigned times)
     return mix(sum, buffer[sum % SC_PLAN_BYTES]);
 }
 
+/* A plan made and run, each record accepted; the reference has no such function. */
+static size_t restore(struct sc_file *current, const struct sc_file *wanted, uint8_t *buffer)
+{
+    static uint8_t replies[SC_PLAN_BYTES];
+    size_t count, k;
+
+    if (!sc_sound(current) || sc_plan(wanted, buffer, SC_PLAN_BYTES, &count) != SC_DONE)
+        return 0;
+    sc_run(current, buffer, SC_RECORD_BYTES * count, replies, sizeof replies);
+    for (k = 0; k < count; k++)
+        if (replies[SC_REPLY_BYTES * k] != SC_DONE)
+            return 0;
+    return count;
+}
+
+static uint64_t restore_many(const struct sc_file *f, unsigned times)
+{
+    static uint8_t buffer[SC_PLAN_BYTES];
+    struct sc_file current;
+    uint64_t sum = 0;
+
+    for (; times > 0; times--) {
+        sc_power_on(&current);
+        sum = mix(sum, restore(&current, f, buffer));
+    }
+    return mix(sum, buffer[sum % SC_PLAN_BYTES]);
+}
+
 int main(int words, char **word)
 {
     struct sc_file f;
     uint64_t sum = run_input(&f), done;
-    char what = words > 1 ? word[1][0] : 0;
+    const char *what = words > 1 ? word[1] : "";
     unsigned times = words > 2 ? word[2][0] % 16 * 100u : 0;
 
-    switch (what) {
-    case 'w': done = write_many(&f, times); break;
-    case 'p': done = plan_many(&f, times); break;
-    default: done = read_many(&f, times);
-    }
+    if (!strcmp(what, "write"))
+        done = write_many(&f, times);
+    else if (!strcmp(what, "plan"))
+        done = plan_many(&f, times);
+    else if (!strcmp(what, "restore"))
+        done = restore_many(&f, times);
+    else
+        done = read_many(&f, times);
     printf("%" PRIu64 "\n", mix(sum, done));
     return 0;
 }

@@ -1,33 +1,37 @@
--- One access: its answer and its effect, computed from the file; the effect applied.
+-- One access: its answer and its effect, computed from the file by what its place is; the effect applied.
 -- Assumes nothing.
-use Prim.Native.Nat.{ℕ, _+_, _%_}
+use Prim.Native.Nat.{ℕ, _%_}
 use mathlib.Core.Bool.{Bool, true, false, cond, not, _&&_}
 use lib.Dec.{eqb, leb}
 use lib.ListN.{getD}
-use Rattle.bits.specs.Store.{bit}
+use Rattle.bits.specs.Store.{bit, store}
 use Rattle.file.specs.declared.answer.Answer.{Answer}
 use Rattle.file.specs.declared.answer.Answer.the-variants.{Done, NoRegister, Malformed, ReadOnly, Locked, PaletteDown, NotSound}
 use Rattle.file.specs.declared.effect.Effect.{Effect}
-use Rattle.file.specs.declared.effect.Effect.the-variants.{Nothing, Store, StoreAndFlip, Toggle, Move, Paint}
+use Rattle.file.specs.declared.effect.Effect.the-variants.{Nothing, Store, Toggle, Move, Paint}
 use Rattle.file.specs.declared.effect.Reach.{Reach}
 use Rattle.file.specs.declared.palette.Colour.{Colour}
 use Rattle.file.specs.declared.registers.File.{File}
 use Rattle.file.specs.Answers.{codeOf, valueOf, refused}
 use Rattle.file.specs.Effects.{apply, reachOf}
-use Rattle.file.specs.File.{register, black, crtcLocked}
-use Rattle.file.specs.Names.{ARX, CR0, CR6, CR7, B0}
+use Rattle.file.specs.File.{register, black, bankCount, crtcLocked}
+use Rattle.file.specs.Names.{CR0, CR6, CR7, B0}
 use Rattle.file.specs.Palette.{component, addressed, afterWrite, afterRead, stores, mixed, dacState, paletteState}
 use Rattle.file.specs.Registers.{storedBits}
 use Rattle.file.specs.Sound.{sound}
+use Rattle.places.specs.declared.place.Place.{Place}
+use Rattle.places.specs.Lookup.{placeAt}
+use Rattle.places.specs.Profile.{Reading, givesHeld, givesFixed, givesToggle, givesPaletteState, givesDacState, givesAddress, givesPixel, resetsToggle, namesNothing, Writing, storesTo, readOnly, setsAddress, writesPixel, storesNothing, profile}
 use Rattle.access.specs.declared.access.Accessed.{Accessed}
-use Rattle.access.specs.declared.place.Place.{Place}
-use Rattle.access.specs.declared.place.Place.the-variants.{Register, Attribute, Fixed, ToggleState, AttributeIndex, PaletteState, ReadAddress, WriteAddress, PixelData, ToggleReset, NoRegister as NoRegisterThere, NoAttribute}
 use Rattle.access.specs.declared.record.Item.{Item}
 use Rattle.access.specs.declared.record.Item.the-variants.{Whole, Fragment}
 use Rattle.access.specs.declared.record.Record.{Record}
 use Rattle.access.specs.declared.record.Reply.{Reply}
 use Rattle.access.specs.Checks.{isWrite, checks, firstRefusal}
-use Rattle.access.specs.Lookup.{placeOf}
+
+-- the place that a record finds in a file
+unfoldable pub placeOf : File → Record → Place
+placeOf f r = placeAt f (r .kind) (r .address)
 
 -- code 8: 'write to CR0 to CR6 while CR11[7]=1'
 unfoldable pub lockedOut : File → ℕ → Bool
@@ -50,71 +54,80 @@ unfoldable pub inBank : File → Bool
 inBank f = eqb (bit 3 (register f B0)) 1
 
 unfoldable pub entryNumber : File → ℕ
-entryNumber f = cond (inBank f) (f .pointer .address % 16) (f .pointer .address)
+entryNumber f = cond (inBank f) (f .state .pointer .address % bankCount) (f .state .pointer .address)
 
 unfoldable pub entry : File → Colour
 entry f = cond (inBank f) (getD (f .bank) (entryNumber f) black) (getD (f .palette) (entryNumber f) black)
 
--- what a place answers to a write (true) or a read: 'then 1 or 7 or 8 or 9', or done with what was read
+-- 'A 3C9h read gives the stored component of the next colour.'
+unfoldable pub shownIn : File → ℕ
+shownIn f = component (entry f) (f .state .pointer .next)
+
+-- 'B0[2] reads ..; B0[1:0] reads ..': the bits of B0 that the pointer's state is read in
+unfoldable pub shownState : ℕ
+shownState = 0x07
+
+-- what a read answers: 'then 1 or .. 9', or done with what was read
+unfoldable pub readAnswer : File → Reading → Answer
+readAnswer f (givesHeld number) = Done (register f number)
+readAnswer f (givesFixed value) = Done value
+readAnswer f givesToggle = Done (cond (f .state .toggle) 0x80 0x00)
+readAnswer f givesPaletteState = Done (store shownState (register f B0) (paletteState (f .state .pointer)))
+readAnswer f givesDacState = Done (dacState (f .state .pointer))
+readAnswer f givesAddress = Done (f .state .pointer .address)
+readAnswer f givesPixel = cond (paletteUp f) (Done (shownIn f)) PaletteDown
+readAnswer f resetsToggle = Done 0
+readAnswer f namesNothing = NoRegister
+
+-- what a write answers: 'then 1 or 7 or 8 or 9', or done
+unfoldable pub writeAnswer : File → Writing → Answer
+writeAnswer f (storesTo number flips) = cond (lockedOut f number) Locked (Done 0)
+writeAnswer f readOnly = ReadOnly
+writeAnswer f (setsAddress reading) = Done 0
+writeAnswer f writesPixel = cond (paletteUp f) (Done 0) PaletteDown
+writeAnswer f (storesNothing flips) = NoRegister
+
+-- what a place answers to a write (true) or a read
 unfoldable pub answerAt : Bool → File → Place → Answer
-answerAt write f (Register number) = cond write (cond (lockedOut f number) Locked (Done 0)) (Done (register f number))
-answerAt write f (Attribute number) = Done 0
-answerAt write f (Fixed value) = cond write ReadOnly (Done value)
-answerAt write f ToggleState = cond write ReadOnly (Done (cond (f .toggle) 0x80 0x00))
-answerAt write f AttributeIndex = cond write ReadOnly (Done (register f ARX))
-answerAt write f PaletteState = cond write (Done 0) (Done (register f B0 + paletteState (f .pointer)))
-answerAt write f ReadAddress = cond write (Done 0) (Done (dacState (f .pointer)))
-answerAt write f WriteAddress = cond write (Done 0) (Done (f .pointer .address))
-answerAt write f PixelData =
-    cond (paletteUp f) (cond write (Done 0) (Done (component (entry f) (f .pointer .next)))) PaletteDown
-answerAt write f ToggleReset = Done 0
-answerAt write f NoRegisterThere = NoRegister
-answerAt write f NoAttribute = NoRegister
+unfolding profile writeAnswer readAnswer
+answerAt write f place = cond write (writeAnswer f (profile place .writing)) (readAnswer f (profile place .reading))
 
 -- a 3C9h write: 'at blue it stores held red, held green and this byte'
 unfoldable pub pixelWrite : File → ℕ → Effect
 pixelWrite f byte =
-    cond (stores (f .pointer))
-    (Paint (inBank f) (entryNumber f) (mixed (f .pointer) byte) (afterWrite (f .pointer) byte))
-    (Move (afterWrite (f .pointer) byte))
+    cond (stores (f .state .pointer))
+    (Paint (inBank f) (entryNumber f) (afterWrite (f .state .pointer) byte) (mixed (f .state .pointer) byte))
+    (Move (afterWrite (f .state .pointer) byte))
 
--- what a write does at a place
-unfoldable pub writeAt : File → Place → ℕ → Effect
-writeAt f (Register number) value = Store number (reachIn f number) value
-writeAt f (Attribute number) value = StoreAndFlip number (reachIn f number) value
-writeAt f (Fixed fixed) value = Nothing
-writeAt f ToggleState value = Nothing
-writeAt f AttributeIndex value = Nothing
-writeAt f PaletteState value = Store B0 (reachIn f B0) value
-writeAt f ReadAddress value = Move (addressed true value)
-writeAt f WriteAddress value = Move (addressed false value)
-writeAt f PixelData value = pixelWrite f value
-writeAt f ToggleReset value = Nothing
-writeAt f NoRegisterThere value = Nothing
-writeAt f NoAttribute value = Toggle (not (f .toggle))
+-- what a write does, given the bits of each register that it may change
+unfoldable pub writeEffect : (ℕ → ℕ) → File → Writing → ℕ → Effect
+writeEffect reach f (storesTo number flips) value = Store flips number (reach number) value
+writeEffect reach f readOnly value = Nothing
+writeEffect reach f (setsAddress reading) value = Move (addressed reading value)
+writeEffect reach f writesPixel value = pixelWrite f value
+writeEffect reach f (storesNothing flips) value = cond flips (Toggle (not (f .state .toggle))) Nothing
 
--- what a read does at a place: '3?Ah read (.. sets the toggle to index)', and a 3C9h read moves the pointer
-unfoldable pub readAt : File → Place → Effect
-readAt f (Register number) = Nothing
-readAt f (Attribute number) = Nothing
-readAt f (Fixed value) = Nothing
-readAt f ToggleState = Nothing
-readAt f AttributeIndex = Nothing
-readAt f PaletteState = Nothing
-readAt f ReadAddress = Nothing
-readAt f WriteAddress = Nothing
-readAt f PixelData = Move (afterRead (f .pointer))
-readAt f ToggleReset = Toggle false
-readAt f NoRegisterThere = Nothing
-readAt f NoAttribute = Nothing
+-- what a read does: '3?Ah read (.. sets the toggle to index)', and a 3C9h read moves the pointer
+unfoldable pub readEffect : File → Reading → Effect
+readEffect f (givesHeld number) = Nothing
+readEffect f (givesFixed value) = Nothing
+readEffect f givesToggle = Nothing
+readEffect f givesPaletteState = Nothing
+readEffect f givesDacState = Nothing
+readEffect f givesAddress = Nothing
+readEffect f givesPixel = Move (afterRead (f .state .pointer))
+readEffect f resetsToggle = Toggle false
+readEffect f namesNothing = Nothing
+
+-- what an access to a place does
+unfoldable pub effectAt : Bool → File → Place → ℕ → Effect
+unfolding profile writeEffect readEffect
+effectAt write f place value =
+    cond write (writeEffect (reachIn f) f (profile place .writing) value) (readEffect f (profile place .reading))
 
 -- the answer to a record
 unfoldable pub answer : File → Record → Answer
 answer f r = firstRefusal checks f r (answerAt (isWrite r) f (placeOf f r))
-
--- what an access to a place does
-unfoldable pub effectAt : Bool → File → Place → ℕ → Effect
-effectAt write f place value = cond write (writeAt f place value) (readAt f place)
 
 -- 'Codes from 2 up leave the file as given'
 unfoldable pub effect : File → Record → Effect

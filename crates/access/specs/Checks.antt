@@ -13,8 +13,8 @@ use Rattle.file.specs.File.{register}
 use Rattle.file.specs.Names.{MISC, PCI04}
 use Rattle.file.specs.Sound.{sound}
 use Rattle.access.specs.declared.record.Record.{Record}
-use Rattle.access.specs.Lookup.{rowOf}
-use Rattle.access.specs.Places.{Row}
+use Rattle.places.specs.Lookup.{isOneOf, rowAt}
+use Rattle.places.specs.Places.{Row}
 
 -- 'byte 0 kind (0 config read, 1 config write, 2 port read, 3 port write, 4 MMIO read, 5 MMIO write)'
 unfoldable pub isWrite : Record → Bool
@@ -48,11 +48,7 @@ noRow none = true
 noRow (some row) = false
 
 unfoldable pub notHeld : File → Record → Bool
-notHeld f r = noRow (rowOf f r)
-
-unfoldable pub isOneOf : List ℕ → ℕ → Bool
-isOneOf [] n = false
-isOneOf (m ∷ ms) n = eqb m n || isOneOf ms n
+notHeld f r = noRow (rowAt f (r .kind) (r .address))
 
 -- code 5: '3B4h/3B5h/3BAh while MISC[0]=1, or 3D4h/3D5h/3DAh while it is 0'
 unfoldable pub otherHalf : File → Record → Bool
@@ -67,7 +63,7 @@ otherWidth width none = false
 otherWidth width (some row) = not (eqb (row .width) width)
 
 unfoldable pub wrongWidth : File → Record → Bool
-wrongWidth f r = otherWidth (r .width) (rowOf f r)
+wrongWidth f r = otherWidth (r .width) (rowAt f (r .kind) (r .address))
 
 -- one check: the answer, and when it is given
 pub record Check : Type 0 where

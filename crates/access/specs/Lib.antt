@@ -1,10 +1,4 @@
-pub mod Records
-pub mod Places
-pub mod Lookup
-pub mod Cells
 pub mod Checks
 pub mod Access
-pub mod Looked
-pub mod Run
-pub mod Reader
-pub mod Served
+pub mod Engine
+pub mod Promises

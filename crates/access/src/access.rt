@@ -1,9 +1,9 @@
 ghost use mathlib.Core.Path.{_≡_};
 ghost use lib.Dec.{T};
 ghost use Rattle.file.specs.Sound.{sound};
-ghost use Rattle.access.specs.Looked.{shownIn, decision};
+ghost use Rattle.access.specs.Access.{shownIn};
+ghost use Rattle.access.specs.Engine.{decision};
 ghost use Rattle.access.specs.Access.{access as accessOf, reach as reachOfAccess};
-use crate::decode;
 use crate::engine;
 use crate::record::Record;
 use file::Answer;
@@ -22,7 +22,7 @@ fn shown_in(whole: File) -> u8
     ensures { λ r. ⌜ r ≡ shownIn whole ⌝ }
 {
     let registers = whole.registers;
-    let pointer = whole.pointer;
+    let pointer = whole.state.pointer;
     let bank = engine::is_in_bank(&registers);
     let number = engine::entry_number(bank, pointer.address);
     if bank {
@@ -34,23 +34,25 @@ fn shown_in(whole: File) -> u8
     }
 }
 
-// What a record's access answers, and what it does to the file.
-fn decide(asked: Record, whole: File) -> engine::Decision
+// What a record's access to a sound file answers, and what it does to the file.
+fn decide_in(asked: Record, whole: File) -> engine::Decision
     requires { ⌜ T (sound whole) ⌝ }
     ensures { λ r. ⌜ r ≡ decision whole asked ⌝ }
 {
     let registers = whole.registers;
-    let cells = decode::cells();
-    let stored = engine::stored();
-    engine::decide(
-        &cells,
-        &stored,
-        &registers,
-        whole.toggle,
-        whole.pointer,
-        shown_in(whole),
-        asked,
-    )
+    let cells = places::cells();
+    let stored = File::stored();
+    let decision = engine::decide(&cells, &stored, &registers, whole.state, asked);
+    if decision.pixel {
+        let answer = Answer::Done(shown_in(whole) as u16);
+        let effect = decision.effect;
+        return engine::Decision {
+            answer,
+            effect,
+            pixel: true,
+        };
+    }
+    decision
 }
 
 impl Record {
@@ -64,7 +66,7 @@ impl Record {
                 answer: Answer::NotSound,
             };
         }
-        let decision = decide(self, whole);
+        let decision = decide_in(self, whole);
         let effect = decision.effect;
         let answer = decision.answer;
         Accessed {
@@ -80,7 +82,7 @@ impl Record {
         if !is_sound(whole) {
             return Reach::none();
         }
-        let decision = decide(self, whole);
+        let decision = decide_in(self, whole);
         let effect = decision.effect;
         effect.reach()
     }

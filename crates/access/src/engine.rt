@@ -1,35 +1,41 @@
-// One access in parts: the common checks, then answer and effect by place. Nothing here changes a file.
+// One access in parts: the common checks, then answer and effect by place. Nothing here changes a file; whatever tables are lent, each function answers.
 ghost use mathlib.Core.Path.{_≡_};
 ghost use Prim.Native.Nat.{_%_, _<_};
-ghost use mathlib.Core.Bool.{true, false, cond};
+ghost use mathlib.Core.Bool.{false, cond};
 ghost use lib.Dec.{T};
-ghost use Rattle.file.specs.declared.registers.File.{File as FileOf};
-ghost use Rattle.file.specs.File.{crtcLocked, withPointer, powerOn};
-ghost use Rattle.file.specs.Registers.{storedBits, storedTable};
-ghost use Rattle.file.specs.Sound.{allWithin, sound};
-ghost use Rattle.access.specs.Access.{reachIn, lockedOut, paletteUp, inBank, answerAt, pixelWrite, writeAt, readAt};
-ghost use Rattle.access.specs.Cells.{cellAt, cellTable, seen};
-ghost use Rattle.access.specs.Checks.{malformed, spaceOff, otherHalf};
-ghost use Rattle.access.specs.Looked.{lookedAt, inFile, holds, Shows, shownIn, atPixels, Decides, decision};
-ghost use Rattle.access.specs.declared.place.Place.the-variants.{PixelData as PixelDataPlace, Register as RegisterPlace};
-ghost use Rattle.file.specs.declared.answer.Answer.the-variants.{Done as DoneAnswer, PaletteDown as PaletteDownAnswer};
-ghost use Rattle.file.specs.Palette.{afterRead};
-ghost use Rattle.file.specs.declared.effect.Effect.the-variants.{Nothing, Store as StoreEffect, Move as MoveEffect};
-use crate::decode;
-use crate::place::Place;
+ghost use lib.ListN.{getD};
+ghost use mathlib.Core.List.{[]};
+ghost use Rattle.file.specs.File.{seen, crtcLocked, powerOn, bankCount};
+ghost use Rattle.file.specs.Registers.{registerCount};
+ghost use Rattle.file.specs.State.{initial};
+ghost use Rattle.file.specs.declared.answer.Answer.the-variants.{Done as DoneAnswer};
+ghost use Rattle.file.specs.declared.effect.Effect.the-variants.{Nothing};
+ghost use Rattle.places.specs.EngineCells.{inFile};
+ghost use Rattle.places.specs.Profile.{profile, storesTo, writesPixel, givesPixel};
+ghost use Rattle.access.specs.Access.{lockedOut, paletteUp, inBank, pixelWrite, shownState};
+ghost use Rattle.bits.specs.Store.{store as storeBits};
+ghost use Rattle.file.specs.Names.{B0 as B0Number};
+ghost use Rattle.file.specs.Palette.{paletteState};
+ghost use Rattle.access.specs.Checks.{malformed, spaceOff};
+ghost use Rattle.access.specs.Engine.{otherRow, lookedBy, reachBy, decidedWrite, decidedRead, decidedBy};
 use crate::record::Record;
 use file::ARX;
 use file::Answer;
 use file::B0;
+use file::BANK;
 use file::CR0;
 use file::CR6;
 use file::CR7;
 use file::CR11;
 use file::Effect;
-use file::File;
 use file::MISC;
 use file::PCI04;
 use file::Pointer;
+use file::REGISTERS;
+use file::State;
+use places::CELLS;
+use places::NOTHING;
+use places::Place;
 
 // What the common checks say: a refusal, or the cell of the place to be asked.
 pub enum Looked {
@@ -66,8 +72,8 @@ fn is_malformed(asked: Record) -> bool
 }
 
 // Code 3.
-fn is_space_off(registers: &[u16; 100], asked: Record) -> bool
-    ensures { λ r. ⌜ r ≡ spaceOff (seen (now (registers .entry)) false) asked ⌝ }
+fn is_space_off(registers: &[u16; REGISTERS], asked: Record) -> bool
+    ensures { λ r. ⌜ r ≡ spaceOff (seen (now (registers .entry)) initial) asked ⌝ }
 {
     let space = asked.kind / 2;
     let enables = registers[PCI04];
@@ -81,30 +87,26 @@ fn is_space_off(registers: &[u16; 100], asked: Record) -> bool
 }
 
 // Code 5, of an address that is held: of the ports, 3B?h and 3D?h are the CRTC's.
-fn is_other_half(registers: &[u16; 100], asked: Record) -> bool
-    requires { ⌜ asked .kind < 6 ⌝ }
-    requires { ⌜ (cellAt (asked .kind) (asked .address) ≡ 127 → ⊥) ⌝ }
-    ensures { λ r. ⌜ r ≡ otherHalf (seen (now (registers .entry)) false) asked ⌝ }
+fn is_other_row(registers: &[u16; REGISTERS], asked: Record) -> bool
+    ensures { λ r. ⌜ r ≡ otherRow (seen (now (registers .entry)) initial) asked ⌝ }
 {
     let space = asked.kind / 2;
     let row = asked.address / 16;
-    let half = registers[MISC] % 2;
     if space != 1 {
         return false;
     }
     if row == 0x3B {
-        return half == 1;
+        return registers[MISC] % 2 == 1;
     }
     if row == 0x3D {
-        return half == 0;
+        return registers[MISC] % 2 == 0;
     }
     false
 }
 
 // The checks that every record passes before its place is asked, in 01's order.
-pub fn look(cells: &[u8; 534], registers: &[u16; 100], asked: Record) -> Looked
-    requires { ⌜ now cells ≡ cellTable ⌝ }
-    ensures { λ r. ⌜ r ≡ lookedAt (seen (now (registers .entry)) false) asked ⌝ }
+fn look(cells: &[u8; CELLS], registers: &[u16; REGISTERS], asked: Record) -> Looked
+    ensures { λ r. ⌜ r ≡ lookedBy (now (cells .entry)) (seen (now (registers .entry)) initial) asked ⌝ }
 {
     if is_malformed(asked) {
         return Looked::Refused(Answer::Malformed);
@@ -112,22 +114,22 @@ pub fn look(cells: &[u8; 534], registers: &[u16; 100], asked: Record) -> Looked
     if is_space_off(registers, asked) {
         return Looked::Refused(Answer::SpaceOff);
     }
-    let cell = decode::cell_at(cells, asked.kind, asked.address);
-    if cell == decode::NOTHING {
+    let cell = places::cell_at(cells, asked.kind, asked.address);
+    if cell == NOTHING {
         return Looked::Refused(Answer::NotHeld);
     }
-    if is_other_half(registers, asked) {
+    if is_other_row(registers, asked) {
         return Looked::Refused(Answer::OtherHalf);
     }
-    if decode::width_of(cell) != asked.width {
+    if places::width_of(cell) != asked.width {
         return Looked::Refused(Answer::WrongWidth);
     }
-    Looked::At(cell % 128)
+    Looked::At(cell)
 }
 
 // CR11[7] locks CR0 to CR6.
-fn is_locked_out(registers: &[u16; 100], number: usize) -> bool
-    ensures { λ r. ⌜ r ≡ lockedOut (seen (now (registers .entry)) false) number ⌝ }
+fn is_locked_out(registers: &[u16; REGISTERS], number: usize) -> bool
+    ensures { λ r. ⌜ r ≡ lockedOut (seen (now (registers .entry)) initial) number ⌝ }
 {
     if is_locked(registers) {
         if CR0 <= number {
@@ -137,140 +139,114 @@ fn is_locked_out(registers: &[u16; 100], number: usize) -> bool
     false
 }
 
-fn is_locked(registers: &[u16; 100]) -> bool
-    ensures { λ r. ⌜ r ≡ crtcLocked (seen (now (registers .entry)) false) ⌝ }
+fn is_locked(registers: &[u16; REGISTERS]) -> bool
+    ensures { λ r. ⌜ r ≡ crtcLocked (seen (now (registers .entry)) initial) ⌝ }
 {
     registers[CR11] / 128 % 2 == 1
 }
 
-// The stored bits of every register. They are made once and lent, as the cells are.
-pub fn stored() -> [u16; 100]
-    ensures { λ r. ⌜ r ≡ storedTable ⌝ }
-{
-    File::STORED
-}
-
-fn stored_bits(stored: &[u16; 100], number: usize) -> u16
-    requires { ⌜ now stored ≡ storedTable ⌝ }
-    ensures { λ r. ⌜ r ≡ storedBits number ⌝ }
-{
-    if number < 100 { stored[number] } else { 0 }
-}
-
 // The bits of a register that a write may change.
-fn reach_in(stored: &[u16; 100], registers: &[u16; 100], number: usize) -> u16
-    requires { ⌜ now stored ≡ storedTable ⌝ }
-    ensures { λ r. ⌜ r ≡ reachIn (seen (now (registers .entry)) false) number ⌝ }
+fn reach_in(stored: &[u16; REGISTERS], registers: &[u16; REGISTERS], number: usize) -> u16
+    requires { ⌜ number < registerCount ⌝ }
+    ensures { λ r. ⌜ r ≡ reachBy (now (stored .entry)) (seen (now (registers .entry)) initial) number ⌝ }
 {
     if number != CR7 {
-        return stored_bits(stored, number);
+        return stored[number];
     }
     if is_locked(registers) {
         0x10
     } else {
-        stored_bits(stored, number)
+        stored[number]
     }
 }
 
-fn is_palette_up(registers: &[u16; 100]) -> bool
-    ensures { λ r. ⌜ r ≡ paletteUp (seen (now (registers .entry)) false) ⌝ }
+fn is_palette_up(registers: &[u16; REGISTERS]) -> bool
+    ensures { λ r. ⌜ r ≡ paletteUp (seen (now (registers .entry)) initial) ⌝ }
 {
     registers[B0] / 128 % 2 == 0
 }
 
 // The pointer's entry is one of the bank's.
-pub fn is_in_bank(registers: &[u16; 100]) -> bool
-    ensures { λ r. ⌜ r ≡ inBank (seen (now (registers .entry)) false) ⌝ }
+pub fn is_in_bank(registers: &[u16; REGISTERS]) -> bool
+    ensures { λ r. ⌜ r ≡ inBank (seen (now (registers .entry)) initial) ⌝ }
 {
     registers[B0] / 8 % 2 == 1
 }
 
+// A value's low byte.
 fn low(value: u16) -> u8
-    requires { ⌜ value < 256 ⌝ }
-    ensures { λ r. ⌜ r ≡ value ⌝ }
+    ensures { λ r. ⌜ r ≡ value % 256 ⌝ }
 {
-    value as u8
-}
-
-// An address of pixel data.
-pub fn is_at_pixels(address: u16) -> bool
-    ensures { λ r. ⌜ r ≡ atPixels address ⌝ }
-{
-    if address == 0x3C9 {
-        return true;
-    }
-    address == 0xAC
+    (value % 256) as u8
 }
 
 // The number of the entry that an address names.
 pub fn entry_number(bank: bool, address: u8) -> usize
-    ensures { λ r. ⌜ r ≡ cond bank (address % 16) address ⌝ }
+    ensures { λ r. ⌜ r ≡ cond bank (address % bankCount) address ⌝ }
 {
     if bank {
-        (address % 16) as usize
+        address as usize % BANK
     } else {
         address as usize
     }
 }
 
-// What an access answers and what it does, both computed from the parts of a file that it looks at.
+// What an access answers and what it does, and whether what was read is the pixel that the pointer names: the answer then has 0 for it.
 pub struct Decision {
     pub answer: Answer,
     pub effect: Effect,
+    pub pixel: bool,
 }
 
 // An answer that does nothing, as every refusal.
 fn only(answer: Answer) -> Decision
-    ensures { λ r. ⌜ (r .answer ≡ answer) × (r .effect ≡ Nothing) ⌝ }
+    ensures { λ r. ⌜ r ≡ record { answer = answer; effect = Nothing; pixel = false } ⌝ }
 {
     Decision {
         answer,
         effect: Effect::Nothing,
+        pixel: false,
     }
 }
 
 // An access that is done and gives no value.
 fn done(effect: Effect) -> Decision
-    ensures { λ r. ⌜ (r .answer ≡ DoneAnswer 0) × (r .effect ≡ effect) ⌝ }
+    ensures { λ r. ⌜ r ≡ record { answer = DoneAnswer 0; effect = effect; pixel = false } ⌝ }
 {
     Decision {
         answer: Answer::Done(0),
         effect,
-    }
-}
-
-// What a write does to a register.
-fn store(stored: &[u16; 100], registers: &[u16; 100], number: usize, value: u16) -> Effect
-    requires { ⌜ now stored ≡ storedTable ⌝ }
-    ensures { λ r. ⌜ r ≡ StoreEffect number (reachIn (seen (now (registers .entry)) false) number) value ⌝ }
-{
-    Effect::Store {
-        register: number,
-        reach: reach_in(stored, registers, number),
-        value,
+        pixel: false,
     }
 }
 
 // A write to a register: the lock refuses CR0 to CR6.
 fn write_register(
-    stored: &[u16; 100],
-    registers: &[u16; 100],
+    stored: &[u16; REGISTERS],
+    registers: &[u16; REGISTERS],
     number: usize,
+    flips: bool,
     value: u16,
 ) -> Decision
-    requires { ⌜ now stored ≡ storedTable ⌝ }
-    ensures { λ r. ⌜ Decides (answerAt true (seen (now (registers .entry)) false) (RegisterPlace number)) (writeAt (seen (now (registers .entry)) false) (RegisterPlace number) value) r ⌝ }
+    requires { ⌜ number < registerCount ⌝ }
+    ensures { λ r. ⌜ r ≡ decidedWrite (now (stored .entry)) (seen (now (registers .entry)) initial) (storesTo number flips) value ⌝ }
 {
     if is_locked_out(registers, number) {
         return only(Answer::Locked);
     }
-    done(store(stored, registers, number, value))
+    done(Effect::Store {
+        register: number,
+        reach: reach_in(stored, registers, number),
+        value,
+        flips,
+    })
 }
 
 // What a pixel data write does: at blue it stores an entry.
-fn pixel_write(registers: &[u16; 100], pointer: Pointer, byte: u8) -> Effect
-    ensures { λ r. ⌜ r ≡ pixelWrite (withPointer pointer (seen (now (registers .entry)) false)) byte ⌝ }
+fn pixel_write(registers: &[u16; REGISTERS], state: State, byte: u8) -> Effect
+    ensures { λ r. ⌜ r ≡ pixelWrite (seen (now (registers .entry)) state) byte ⌝ }
 {
+    let pointer = state.pointer;
     let after = pointer.after_write(byte);
     if !pointer.stores() {
         return Effect::Move(after);
@@ -285,86 +261,90 @@ fn pixel_write(registers: &[u16; 100], pointer: Pointer, byte: u8) -> Effect
     }
 }
 
-// A write at a place.
-fn write_at(
-    stored: &[u16; 100],
-    registers: &[u16; 100],
-    toggle: bool,
-    pointer: Pointer,
-    place: Place,
-    value: u16,
-) -> Decision
-    requires { ⌜ now stored ≡ storedTable ⌝ }
-    requires { ⌜ T (holds place value) ⌝ }
-    ensures { λ r. ⌜ Decides (answerAt true (seen (now (registers .entry)) false) place) (writeAt (withPointer pointer (seen (now (registers .entry)) toggle)) place value) r ⌝ }
+// A pixel data write.
+fn write_pixel(registers: &[u16; REGISTERS], state: State, value: u16) -> Decision
+    ensures { λ r. ⌜ r ≡ decidedWrite [] (seen (now (registers .entry)) state) writesPixel value ⌝ }
 {
-    match place {
-        Place::Register(number) => write_register(stored, registers, number, value),
-        Place::Attribute(number) => done(Effect::StoreAndFlip {
-            register: number,
-            reach: reach_in(stored, registers, number),
-            value,
-        }),
-        Place::PaletteState => done(store(stored, registers, B0, value)),
-        Place::ReadAddress => done(Effect::Move(Pointer::addressed(true, low(value)))),
-        Place::WriteAddress => done(Effect::Move(Pointer::addressed(false, low(value)))),
-        Place::PixelData => {
-            if is_palette_up(registers) {
-                done(pixel_write(registers, pointer, low(value)))
-            } else {
-                only(Answer::PaletteDown)
-            }
-        }
-        Place::NoAttribute => Decision {
-            answer: Answer::NoRegister,
-            effect: Effect::Toggle(!toggle),
-        },
-        Place::Fixed(_) => only(Answer::ReadOnly),
-        Place::ToggleState => only(Answer::ReadOnly),
-        Place::AttributeIndex => only(Answer::ReadOnly),
-        Place::ToggleReset => done(Effect::Nothing),
-        Place::NoRegister => only(Answer::NoRegister),
+    if is_palette_up(registers) {
+        done(pixel_write(registers, state, low(value)))
+    } else {
+        only(Answer::PaletteDown)
     }
 }
 
-// A pixel data read, which moves the pointer; `shown` is the component that it shows.
-fn read_pixel(registers: &[u16; 100], pointer: Pointer, shown: u8) -> Decision
-    ensures { λ r. ⌜ Decides (cond (paletteUp (seen (now (registers .entry)) false)) (DoneAnswer shown) PaletteDownAnswer) (MoveEffect (afterRead pointer)) r ⌝ }
+// A write at a place.
+fn write_at(
+    stored: &[u16; REGISTERS],
+    registers: &[u16; REGISTERS],
+    state: State,
+    place: Place,
+    value: u16,
+) -> Decision
+    requires { ⌜ T (inFile place) ⌝ }
+    ensures { λ r. ⌜ r ≡ decidedWrite (now (stored .entry)) (seen (now (registers .entry)) state) (profile place .writing) value ⌝ }
 {
+    match place {
+        Place::Register(number) => write_register(stored, registers, number, false, value),
+        Place::Attribute(number) => write_register(stored, registers, number, true, value),
+        Place::PaletteState => write_register(stored, registers, B0, false, value),
+        Place::ReadAddress => done(Effect::Move(Pointer::addressed(true, low(value)))),
+        Place::WriteAddress => done(Effect::Move(Pointer::addressed(false, low(value)))),
+        Place::PixelData => write_pixel(registers, state, value),
+        Place::UnnamedAttribute => Decision {
+            answer: Answer::NoRegister,
+            effect: Effect::Toggle(!state.toggle),
+            pixel: false,
+        },
+        Place::Unnamed => only(Answer::NoRegister),
+        Place::Fixed(_) => only(Answer::ReadOnly),
+        Place::ToggleState => only(Answer::ReadOnly),
+        Place::AttributeIndex => only(Answer::ReadOnly),
+        Place::ToggleReset => only(Answer::ReadOnly),
+    }
+}
+
+// A pixel data read, which moves the pointer.
+fn read_pixel(registers: &[u16; REGISTERS], state: State) -> Decision
+    ensures { λ r. ⌜ r ≡ decidedRead (seen (now (registers .entry)) state) givesPixel ⌝ }
+{
+    let pointer = state.pointer;
     if is_palette_up(registers) {
         return Decision {
-            answer: Answer::Done(shown as u16),
+            answer: Answer::Done(0),
             effect: Effect::Move(pointer.after_read()),
+            pixel: true,
         };
     }
     only(Answer::PaletteDown)
 }
 
-// A read at a place; `shown` is the component that pixel data shows, and anything where the place is another.
-fn read_at(
-    registers: &[u16; 100],
-    toggle: bool,
-    pointer: Pointer,
-    shown: u8,
-    place: Place,
-) -> Decision
-    requires { ⌜ T (inFile place) ⌝ }
-    requires { ⌜ T (allWithin storedTable (now registers)) ⌝ }
-    ensures { λ r. ⌜ ((f : FileOf) → Shows f (now (registers .entry)) toggle pointer → (place ≡ PixelDataPlace → shown ≡ shownIn f) → Decides (answerAt false f place) (readAt (withPointer pointer powerOn) place) r) ⌝ }
+// What B0 reads: the pointer's state in its low bits.
+fn palette_state(registers: &[u16; REGISTERS], state: State) -> u16
+    ensures { λ r. ⌜ r ≡ storeBits shownState (getD (now (registers .entry)) B0Number 0) (paletteState (state .pointer)) ⌝ }
 {
+    let pointer = state.pointer;
+    bits::store(0x07, registers[B0], pointer.palette_state())
+}
+
+// A read at a place.
+fn read_at(registers: &[u16; REGISTERS], state: State, place: Place) -> Decision
+    requires { ⌜ T (inFile place) ⌝ }
+    ensures { λ r. ⌜ r ≡ decidedRead (seen (now (registers .entry)) state) (profile place .reading) ⌝ }
+{
+    let pointer = state.pointer;
     match place {
         Place::Register(number) => only(Answer::Done(registers[number])),
-        Place::Attribute(_) => only(Answer::Done(0)),
+        Place::Attribute(number) => only(Answer::Done(registers[number])),
         Place::Fixed(value) => only(Answer::Done(value)),
-        Place::ToggleState => only(Answer::Done(if toggle { 0x80 } else { 0 })),
+        Place::ToggleState => only(Answer::Done(if state.toggle { 0x80 } else { 0 })),
         Place::AttributeIndex => only(Answer::Done(registers[ARX])),
-        Place::PaletteState => only(Answer::Done(registers[B0] + pointer.palette_state())),
+        Place::PaletteState => only(Answer::Done(palette_state(registers, state))),
         Place::ReadAddress => only(Answer::Done(pointer.dac_state())),
         Place::WriteAddress => only(Answer::Done(pointer.address as u16)),
-        Place::PixelData => read_pixel(registers, pointer, shown),
+        Place::PixelData => read_pixel(registers, state),
         Place::ToggleReset => done(Effect::Toggle(false)),
-        Place::NoRegister => only(Answer::NoRegister),
-        Place::NoAttribute => only(Answer::NoRegister),
+        Place::Unnamed => only(Answer::NoRegister),
+        Place::UnnamedAttribute => only(Answer::NoRegister),
     }
 }
 
@@ -375,33 +355,24 @@ fn word(value: u32) -> u16
     value as u16
 }
 
-// Answer and effect of a record in a file of these registers, toggle and pointer. `shown` is the component that pixel data shows, and anything at other addresses.
+// Answer and effect of a record in a file of these registers and this state.
 pub fn decide(
-    cells: &[u8; 534],
-    stored: &[u16; 100],
-    registers: &[u16; 100],
-    toggle: bool,
-    pointer: Pointer,
-    shown: u8,
+    cells: &[u8; CELLS],
+    stored: &[u16; REGISTERS],
+    registers: &[u16; REGISTERS],
+    state: State,
     asked: Record,
 ) -> Decision
-    requires { ⌜ now cells ≡ cellTable ⌝ }
-    requires { ⌜ now stored ≡ storedTable ⌝ }
-    requires { ⌜ T (allWithin storedTable (now registers)) ⌝ }
-    ensures { λ r. ⌜ ((f : FileOf) → T (sound f) → Shows f (now (registers .entry)) toggle pointer → (T (atPixels (asked .address)) → shown ≡ shownIn f) → r ≡ decision f asked) ⌝ }
+    ensures { λ r. ⌜ r ≡ decidedBy (now (cells .entry)) (now (stored .entry)) (seen (now (registers .entry)) state) asked ⌝ }
 {
     match look(cells, registers, asked) {
-        Looked::Refused(answer) => Decision {
-            answer,
-            effect: Effect::Nothing,
-        },
+        Looked::Refused(answer) => only(answer),
         Looked::At(cell) => {
-            let place = decode::place_in(cells, registers, toggle, cell);
+            let place = places::place_of(cells, registers, state, cell);
             if asked.kind % 2 == 1 {
-                let value = word(asked.value);
-                write_at(stored, registers, toggle, pointer, place, value)
+                write_at(stored, registers, state, place, word(asked.value))
             } else {
-                read_at(registers, toggle, pointer, shown, place)
+                read_at(registers, state, place)
             }
         }
     }

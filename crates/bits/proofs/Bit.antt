@@ -1,11 +1,11 @@
--- The bits of a number: what `bitAnd` and `bitXor` do to each, and that a number is known by its bits.
+-- The bits of a number: what `bitAnd`, `bitOr` and `bitXor` do to each, and that a number is known by its bits.
 -- Assumes nothing.
 use mathlib.Core.Path.{_≡_, refl, sym, ap, ap₂, _∙_}
-use Prim.Native.Nat.{ℕ, zero, suc, _+_, _*_, _/_, _%_, _^_, _<_, min}
-use native.Mathlib.Nat.{mod-lt, div-one, div-add-mod', min-le-left, lt-of-le-of-lt, le-of-suc-le-suc, not-suc-le-zero, zero-div}
+use Prim.Native.Nat.{ℕ, zero, suc, _+_, _*_, _/_, _%_, _^_, _<_, min, max}
+use native.Mathlib.Nat.{mod-lt, div-one, div-add-mod', le-of-suc-le-suc, not-suc-le-zero, zero-div}
 use native.Mathlib.Numerals.{one-add}
 use lib.Arith.{digits-mod, bin-ind}
-use lib.Bits.{bitAnd, bitXor, differ, and-step, xor-step, and-shr, xor-shr}
+use lib.Bits.{bitAnd, bitOr, bitXor, differ, and-step, or-step, xor-step, and-shr, or-shr, xor-shr}
 use lib.Dec.{lit<}
 use lib.Pow.{shr-shr}
 use Rattle.bits.specs.Store.{bit}
@@ -33,30 +33,29 @@ pub bit-of-zero : (i : ℕ) → bit i 0 ≡ 0
 unfolding bit
 bit-of-zero i = ap (λ (x : ℕ). x % 2) (zero-div (2 ^ i))
 
-min-lt : (x y : ℕ) → x < 2 → min x y < 2
-min-lt x y h = lt-of-le-of-lt (min-le-left x y) h
+-- an operation that goes bit by bit does to each bit what it does to the lowest
+module _ (op pick : ℕ → ℕ → ℕ) (step : (a b : ℕ) → op a b ≡ op (a / 2) (b / 2) * 2 + pick (a % 2) (b % 2))
+    (shr : (a b k : ℕ) → op a b / 2 ^ k ≡ op (a / 2 ^ k) (b / 2 ^ k)) (lt : (x y : ℕ) → x < 2 → y < 2 → pick x y < 2) where
+  bit-by : (i a b : ℕ) → bit i (op a b) ≡ pick (bit i a) (bit i b)
+  unfolding bit
+  bit-by i a b =
+      ap (λ (x : ℕ). x % 2) (shr a b i ∙ step (a / 2 ^ i) (b / 2 ^ i))
+      ∙ digits-mod (op (a / 2 ^ i / 2) (b / 2 ^ i / 2))
+      (lt (a / 2 ^ i % 2) (b / 2 ^ i % 2) (mod-lt (a / 2 ^ i) (lit< tt)) (mod-lt (b / 2 ^ i) (lit< tt)))
 
-differ-lt : (x y : ℕ) → x < 2 → y < 2 → differ x y < 2
-differ-lt x y hx hy =
-    by-bit (λ (x : ℕ). differ x y < 2) hy (by-bit (λ (y : ℕ). differ 1 y < 2) (lit< tt) (lit< tt) y hy) x hx
-
-low-and : (a b : ℕ) → bitAnd a b % 2 ≡ min (a % 2) (b % 2)
-low-and a b =
-    ap (λ (x : ℕ). x % 2) (and-step a b)
-    ∙ digits-mod (bitAnd (a / 2) (b / 2)) (min-lt (a % 2) (b % 2) (mod-lt a (lit< tt)))
-
-low-xor : (a b : ℕ) → bitXor a b % 2 ≡ differ (a % 2) (b % 2)
-low-xor a b =
-    ap (λ (x : ℕ). x % 2) (xor-step a b)
-    ∙ digits-mod (bitXor (a / 2) (b / 2)) (differ-lt (a % 2) (b % 2) (mod-lt a (lit< tt)) (mod-lt b (lit< tt)))
+-- and what it makes of two bits is a bit, if it makes one of each of the four
+two-bits : (pick : ℕ → ℕ → ℕ) → pick 0 0 < 2 → pick 0 1 < 2 → pick 1 0 < 2 → pick 1 1 < 2 → (x y : ℕ) → x < 2 → y < 2 → pick x y < 2
+two-bits pick p q r s x y hx hy =
+    by-bit (λ (x : ℕ). pick x y < 2) (by-bit (λ (y : ℕ). pick 0 y < 2) p q y hy) (by-bit (λ (y : ℕ). pick 1 y < 2) r s y hy) x hx
 
 pub bit-and : (i a b : ℕ) → bit i (bitAnd a b) ≡ min (bit i a) (bit i b)
-unfolding bit
-bit-and i a b = ap (λ (x : ℕ). x % 2) (and-shr a b i) ∙ low-and (a / 2 ^ i) (b / 2 ^ i)
+bit-and = bit-by bitAnd min and-step and-shr (two-bits min (lit< tt) (lit< tt) (lit< tt) (lit< tt))
+
+pub bit-or : (i a b : ℕ) → bit i (bitOr a b) ≡ max (bit i a) (bit i b)
+bit-or = bit-by bitOr max or-step or-shr (two-bits max (lit< tt) (lit< tt) (lit< tt) (lit< tt))
 
 pub bit-xor : (i a b : ℕ) → bit i (bitXor a b) ≡ differ (bit i a) (bit i b)
-unfolding bit
-bit-xor i a b = ap (λ (x : ℕ). x % 2) (xor-shr a b i) ∙ low-xor (a / 2 ^ i) (b / 2 ^ i)
+bit-xor = bit-by bitXor differ xor-step xor-shr (two-bits differ (lit< tt) (lit< tt) (lit< tt) (lit< tt))
 
 -- a number with no bit set is 0
 no-bits : (n : ℕ) → ((i : ℕ) → bit i n ≡ 0) → n ≡ 0

@@ -1,19 +1,17 @@
--- A table whose numbers stay below 2^31: what code needs to count in 32 bits. Assumes nothing.
+-- A table whose numbers stay below a bound: those that are read do, and below 2^32 their words are the numbers. Assumes nothing.
 use Prim.Native.Nat.{ℕ, zero, suc, _+_, _^_, _≤_, _<_}
-use mathlib.Core.Path.{_≡_, refl, ap}
+use mathlib.Core.Path.{_≡_, refl, ap, _∙_}
 use mathlib.Core.List.{List, [], _∷_}
-use native.Mathlib.Nat.{le-refl, lt-of-le-of-lt, le-of-lt, le-of-suc-le-suc, not-suc-le-zero}
+use native.Mathlib.Nat.{le-refl, lt-of-le-of-lt, lt-of-lt-of-le, le-of-suc-le-suc, not-suc-le-zero, mod-eq-of-lt}
 use native.Mathlib.Omega.{arith}
-use borrow.Author.Tests.{ltb-true, ltb-false}
-use lib.Dec.{T, leb, ltb, ltb→lt, lt→ltb, leb→le}
+use lib.Dec.{T, ltb, ltb→lt, lt→ltb}
 use lib.ListN.{length, getD, take}
-use lib.Pow.{pow-mono}
-use Rattle.bits.specs.Encoded.{most, bounded}
-use Rattle.bits.specs.Numbers.{Meaning, plus, endOfLast, Number, meant, inRange, readFrom}
+use Rattle.bits.specs.Numbers.{Meaning, plus, endOfLast, Number, meant, readFrom, readNumbers}
 use Rattle.bits.specs.Pieces.{width, gather}
+use Rattle.bits.specs.Words.{word, readWords, most, bounded}
 use Rattle.bits.proofs.Ends.{end-most}
 use Rattle.bits.proofs.Split.{gather-lt}
-use Rattle.bits.proofs.Test.{left, right, both, by-test}
+use Rattle.bits.proofs.Test.{left, right, both}
 
 most-up : (m : Meaning) (n small large : ℕ) → small ≤ large → most m n small ≤ most m n large
 unfolding most
@@ -57,38 +55,44 @@ unfolding meant most
 meant-most (plus k) n last stored h = omega arith
 meant-most endOfLast n last stored h = end-most last n stored
 
--- nor is what is in range
-pub ranged-most : (m : Meaning) (n last number : ℕ) → T (inRange m n last number) → number ≤ most m n last
-unfolding inRange most
-ranged-most (plus k) n last number t =
-    le-of-lt (ltb→lt number (k + 2 ^ n) (right (leb k number) (ltb number (k + 2 ^ n)) t))
-ranged-most endOfLast n last number t = leb→le number (last + 2 ^ n) (right (ltb last number) (leb number (last + 2 ^ n)) t)
+-- the first number is below the bound, and the others are bounded after it
+module _ (bound last : ℕ) (n : Number) (ns : List Number) (registers : List ℕ) (t : T (bounded bound last (n ∷ ns))) where
+  number-most : meant (n .meaning) (width (n .pieces)) last (gather registers (n .pieces)) ≤ most (n .meaning) (width (n .pieces)) last
+  number-most = meant-most (n .meaning) (width (n .pieces)) last (gather registers (n .pieces)) (gather-lt (n .pieces) registers)
 
-power-most : (m : Meaning) (n last : ℕ) → 2 ^ n ≤ most m n last
-unfolding most
-power-most (plus k) n last = omega arith
-power-most endOfLast n last = omega arith
+  number-below : meant (n .meaning) (width (n .pieces)) last (gather registers (n .pieces)) < bound
+  number-below = lt-of-le-of-lt number-most (bounded-first bound last n ns t)
 
--- so a number has fewer than 31 bits
-pub width-below : (m : Meaning) (n last : ℕ) → most m n last < 2 ^ 31 → n < 31
-width-below m n last h =
-    by-test (ltb n 31) (λ t. ltb-true n 31 t)
-    (λ t. absurd (omega (arith, h, power-most m n last, pow-mono {i = 31} {j = n} (ltb-false n 31 t))))
+  bounded-after : T (bounded bound (meant (n .meaning) (width (n .pieces)) last (gather registers (n .pieces))) ns)
+  bounded-after = bounded-rest bound last (meant (n .meaning) (width (n .pieces)) last (gather registers (n .pieces))) n ns number-most t
 
 -- every number that is read is below the bound
 pub read-below : (bound last : ℕ) (table : List Number) (registers : List ℕ) → T (bounded bound last table)
     → (k : ℕ) → k < length table → getD (readFrom last table registers) k 0 < bound
 unfolding readFrom
 read-below bound last [] registers t k h = absurd (not-suc-le-zero h)
-read-below bound last (n ∷ ns) registers t zero h =
-    lt-of-le-of-lt
-    (meant-most (n .meaning) (width (n .pieces)) last (gather registers (n .pieces)) (gather-lt (n .pieces) registers))
-    (bounded-first bound last n ns t)
+read-below bound last (n ∷ ns) registers t zero h = number-below bound last n ns registers t
 read-below bound last (n ∷ ns) registers t (suc k) h =
     read-below bound (meant (n .meaning) (width (n .pieces)) last (gather registers (n .pieces))) ns registers
-    (bounded-rest bound last (meant (n .meaning) (width (n .pieces)) last (gather registers (n .pieces))) n ns
-    (meant-most (n .meaning) (width (n .pieces)) last (gather registers (n .pieces)) (gather-lt (n .pieces) registers)) t)
-    k (le-of-suc-le-suc h)
+    (bounded-after bound last n ns registers t) k (le-of-suc-le-suc h)
+
+-- a bound of 2^32 or less: the words of the table, in as many places, are its numbers
+words-from : (bound last : ℕ) (table : List Number) (registers places : List ℕ) → bound ≤ 2 ^ 32 → T (bounded bound last table)
+    → length places ≡ length table → readWords last table registers places ≡ readFrom last table registers
+unfolding readWords readFrom word
+words-from bound last [] registers [] fits t e = refl
+words-from bound last [] registers (x ∷ xs) fits t e = absurd (omega arith)
+words-from bound last (n ∷ ns) registers [] fits t e = absurd (omega arith)
+words-from bound last (n ∷ ns) registers (x ∷ xs) fits t e =
+    ap (λ (w : ℕ). w ∷ readWords w ns registers xs) (mod-eq-of-lt (lt-of-lt-of-le (number-below bound last n ns registers t) fits))
+    ∙ ap (λ (l : List ℕ). meant (n .meaning) (width (n .pieces)) last (gather registers (n .pieces)) ∷ l)
+    (words-from bound (meant (n .meaning) (width (n .pieces)) last (gather registers (n .pieces))) ns registers xs fits
+    (bounded-after bound last n ns registers t) (omega arith))
+
+pub words-numbers : (bound : ℕ) (table : List Number) (registers places : List ℕ) → bound ≤ 2 ^ 32 → T (bounded bound 0 table)
+    → length places ≡ length table → readWords 0 table registers places ≡ readNumbers table registers
+unfolding readNumbers
+words-numbers bound table registers places fits t e = words-from bound 0 table registers places fits t e
 
 -- the first rows read the first numbers
 pub read-first : (last : ℕ) (table : List Number) (registers : List ℕ) (j : ℕ)

@@ -1,14 +1,14 @@
--- A piece as one number lies in the 16 bits of its register. Assumes nothing.
+-- Pieces and rows as plain numbers: a piece lies in the 16 bits of its register, and what a turn of a loop over the pieces does. Assumes nothing.
 use mathlib.Core.List.{List, [], _∷_, map}
 use Prim.Native.Nat.{ℕ, _+_, _-_, _*_, _/_, _%_, _^_, _≤_, _<_, min}
 use mathlib.Core.Path.{_≡_, sym, ap, ap₂, _∙_}
 use mathlib.Core.Bool.{Bool, cond}
-use native.Mathlib.Nat.{lt-of-lt-of-le, mod-lt, one-mul, mul-assoc, mul-comm, add-mul, mod-add-mod, add-mul-mod-self-right, div-add-mod', zero-div, zero-mod, zero-mul, mod-eq-of-lt, div-eq-of-lt}
+use native.Mathlib.Nat.{lt-of-lt-of-le, mod-lt, one-mul, mul-assoc, mul-comm, add-mul, mod-add-mod, add-mul-mod-self-right, div-add-mod', zero-div, zero-mod, zero-mul, mod-eq-of-lt}
 use native.Mathlib.Numerals.{add-one}
 use native.Mathlib.Omega.{arith}
-use borrow.Author.Tests.{leb-true, leb-false, eq-eqb, ne-eqb}
+use borrow.Author.Tests.{eq-eqb, ne-eqb}
 use lib.Bits.{bitAnd, and-mask}
-use lib.Dec.{leb, lit<}
+use lib.Dec.{lit<}
 use lib.ListN.{getD, set, drop, length, List·getD-eq-default, drop-of-length-le}
 use lib.Pow.{pow-pos, ones-lt, pow-mono, pow-add, shl-lt, shl-exact}
 use lib.Seq.{drop-cons, set-out}
@@ -16,7 +16,7 @@ use Rattle.bits.specs.Encoded.{pieceOf, meaningOf, rowOf, tableOf}
 use Rattle.bits.specs.Numbers.{plus, endOfLast}
 use Rattle.bits.specs.Pieces.{Piece, width, held, gather, pieceReach, put, scatter}
 use Rattle.bits.specs.Store.{store}
-use Rattle.bits.proofs.Test.{by-test}
+use Rattle.bits.proofs.Enough.{shift-enough}
 
 pub in-register : (n : ℕ) → pieceOf n .width + pieceOf n .low ≤ 16
 unfolding pieceOf
@@ -137,20 +137,6 @@ width-next pieces k h = ap width (next-piece pieces k h)
 pub width-last : (pieces : List ℕ) (k : ℕ) → length pieces ≤ k → width (map pieceOf (drop k pieces)) ≡ 0
 unfolding width
 width-last pieces k h = ap width (none-left pieces k h)
-
-pub shifted-out : (number below : ℕ) → number < 2 ^ 32 → 32 ≤ below → number / 2 ^ below ≡ 0
-shifted-out number below h l = div-eq-of-lt (lt-of-lt-of-le h (pow-mono l))
-
--- above its 32 bits a number has nothing, so 32 of the bits below a piece are enough to count
-pub shift-enough : (number below : ℕ) → number < 2 ^ 32 → number / 2 ^ min 32 below ≡ number / 2 ^ below
-shift-enough number below h =
-    by-test (leb 32 below) (λ t. far (leb-true 32 below t)) (λ t. near (leb-false 32 below t))
-  where
-    far : 32 ≤ below → number / 2 ^ min 32 below ≡ number / 2 ^ below
-    far l = shifted-out number (min 32 below) h (omega arith) ∙ sym (shifted-out number below h l)
-
-    near : below < 32 → number / 2 ^ min 32 below ≡ number / 2 ^ below
-    near l = let e : min 32 below ≡ below = omega arith in ap (λ (k : ℕ). number / 2 ^ k) e
 
 -- the pieces from k on set to a number, one piece at a time
 pub scatter-next : (pieces registers : List ℕ) (number k below part : ℕ) (next : List ℕ) → number < 2 ^ 32 → k < length pieces

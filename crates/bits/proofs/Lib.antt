@@ -4,9 +4,12 @@ pub mod Stored
 pub mod Test
 pub mod Ends
 pub mod Lists
+pub mod Part
 pub mod Piece
 pub mod Split
 pub mod Tables
+pub mod Enough
 pub mod Encoded
 pub mod Bounded
+pub mod Rows
 pub mod Walk

@@ -1,16 +1,14 @@
 -- The bits of a number that is shifted, cut off or all ones, and a number of k bits known by them.
 -- Assumes nothing.
 use mathlib.Core.Path.{_≡_, sym, ap, _∙_}
-use Prim.Native.Nat.{ℕ, _+_, _-_, _*_, _/_, _%_, _^_, _<_, _≤_, max}
-use native.Mathlib.Nat.{mod-lt, div-eq-of-lt, lt-of-lt-of-le, mul-mod-left}
+use Prim.Native.Nat.{ℕ, _+_, _-_, _*_, _/_, _%_, _^_, _<_, _≤_}
+use native.Mathlib.Nat.{div-eq-of-lt, lt-of-lt-of-le, mul-mod-left}
 use native.Mathlib.Omega.{arith}
 use borrow.Author.Tests.{ltb-true, ltb-false}
-use lib.Arith.{digits-mod}
-use lib.Bits.{bitOr, or-step, or-shr}
 use lib.Dec.{ltb, lit<}
 use lib.Pow.{shr-shr, shl-shr, field, mod-mod-pow, pow-mono, high, low, ones-split, ones-lt}
 use Rattle.bits.specs.Store.{bit}
-use Rattle.bits.proofs.Bit.{by-bit, by-bits, bit-of-zero}
+use Rattle.bits.proofs.Bit.{by-bits, bit-of-zero}
 use Rattle.bits.proofs.Test.{by-test}
 
 pub bit-shr : (i k n : ℕ) → bit i (n / 2 ^ k) ≡ bit (k + i) n
@@ -59,18 +57,3 @@ by-low-bits k a b ha hb h =
     by-bits a b
     (λ i. by-test (ltb i k) (λ e. h i (ltb-true i k e))
     (λ e. bit-above i k a ha (ltb-false i k e) ∙ sym (bit-above i k b hb (ltb-false i k e))))
-
-max-lt : (x y : ℕ) → x < 2 → y < 2 → max x y < 2
-max-lt x y hx hy =
-    by-bit (λ (x : ℕ). max x y < 2)
-    (by-bit (λ (y : ℕ). max 0 y < 2) (lit< tt) (lit< tt) y hy)
-    (by-bit (λ (y : ℕ). max 1 y < 2) (lit< tt) (lit< tt) y hy) x hx
-
-low-or : (a b : ℕ) → bitOr a b % 2 ≡ max (a % 2) (b % 2)
-low-or a b =
-    ap (λ (x : ℕ). x % 2) (or-step a b)
-    ∙ digits-mod (bitOr (a / 2) (b / 2)) (max-lt (a % 2) (b % 2) (mod-lt a (lit< tt)) (mod-lt b (lit< tt)))
-
-pub bit-or : (i a b : ℕ) → bit i (bitOr a b) ≡ max (bit i a) (bit i b)
-unfolding bit
-bit-or i a b = ap (λ (x : ℕ). x % 2) (or-shr a b i) ∙ low-or (a / 2 ^ i) (b / 2 ^ i)

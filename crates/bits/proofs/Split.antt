@@ -2,7 +2,7 @@
 -- Assumes nothing.
 use mathlib.Core.Path.{_≡_, refl, sym, ap, ap₂, _∙_, subst}
 use Prim.Native.Nat.{ℕ, _+_, _*_, _/_, _%_, _^_, _<_, min, max}
-use mathlib.Core.Bool.{Bool, true, false, cond, _&&_}
+use mathlib.Core.Bool.{Bool, true, false, cond}
 use mathlib.Core.List.{List, [], _∷_, _++_}
 use native.Mathlib.Nat.{mod-lt, mod-one}
 use native.Mathlib.Omega.{arith}
@@ -13,26 +13,11 @@ use lib.Dec.{T, eqb, ltb, eqb→eq, ltb→lt, lit<}
 use lib.ListN.{getD, length}
 use lib.Pow.{pow-pos, pow-add, mod-pow-add, mod-mod-pow, field, high, low}
 use Rattle.bits.specs.Pieces.{Piece, width, held, gather, pieceReach, put, scatter}
+use Rattle.bits.specs.Reach.{piecesReach, disjoint, present}
 use Rattle.bits.specs.Store.{bit}
-use Rattle.bits.proofs.Bit.{by-bit, by-bits, bit-lt, bit-and, bit-of-zero}
+use Rattle.bits.proofs.Bit.{by-bit, by-bits, bit-lt, bit-and, bit-or, bit-of-zero}
 use Rattle.bits.proofs.Piece.{put-length, put-low, put-outside, held-put, held-same, put-held}
-use Rattle.bits.proofs.Shift.{bit-or}
 use Rattle.bits.proofs.Test.{left, right, both, by-test}
-
--- the bits of a register that pieces may change
-unfoldable pub reachIn : List Piece → ℕ → ℕ
-reachIn [] r = 0
-reachIn (p ∷ ps) r = cond (eqb r (p .register)) (bitOr (pieceReach p) (reachIn ps r)) (reachIn ps r)
-
--- no two pieces share a bit
-unfoldable pub disjoint : List Piece → Bool
-disjoint [] = true
-disjoint (p ∷ ps) = eqb (bitAnd (pieceReach p) (reachIn ps (p .register))) 0 && disjoint ps
-
--- each piece lies in one of so many registers
-unfoldable pub placed : ℕ → List Piece → Bool
-placed count [] = true
-placed count (p ∷ ps) = ltb (p .register) count && placed count ps
 
 -- a bit that a piece reaches, of any register
 unfoldable own : Piece → ℕ → ℕ → ℕ
@@ -57,21 +42,21 @@ own-register p r i e = by-test (eqb r (p .register)) (λ t. eqb-true r (p .regis
     never : _≡_ {A = ℕ} 0 1 → r ≡ p .register
     never z = absurd (omega arith)
 
-reach-none : (r i : ℕ) → bit i (reachIn [] r) ≡ 0
-unfolding reachIn
+reach-none : (r i : ℕ) → bit i (piecesReach [] r) ≡ 0
+unfolding piecesReach
 reach-none r i = bit-of-zero i
 
 -- what pieces reach is what the first reaches and what the others do
-reach-bit : (p : Piece) (ps : List Piece) (r i : ℕ) → bit i (reachIn (p ∷ ps) r) ≡ max (own p r i) (bit i (reachIn ps r))
-unfolding reachIn own
+reach-bit : (p : Piece) (ps : List Piece) (r i : ℕ) → bit i (piecesReach (p ∷ ps) r) ≡ max (own p r i) (bit i (piecesReach ps r))
+unfolding piecesReach own
 reach-bit p ps r i = by-choice (eqb r (p .register))
   where
     by-choice : (b : Bool)
-        → bit i (cond b (bitOr (pieceReach p) (reachIn ps r)) (reachIn ps r)) ≡ max (cond b (bit i (pieceReach p)) 0) (bit i (reachIn ps r))
-    by-choice true = bit-or i (pieceReach p) (reachIn ps r)
+        → bit i (cond b (bitOr (pieceReach p) (piecesReach ps r)) (piecesReach ps r)) ≡ max (cond b (bit i (pieceReach p)) 0) (bit i (piecesReach ps r))
+    by-choice true = bit-or i (pieceReach p) (piecesReach ps r)
     by-choice false = omega arith
 
-pub reach-append : (ps qs : List Piece) (r i : ℕ) → bit i (reachIn (ps ++ qs) r) ≡ max (bit i (reachIn ps r)) (bit i (reachIn qs r))
+pub reach-append : (ps qs : List Piece) (r i : ℕ) → bit i (piecesReach (ps ++ qs) r) ≡ max (bit i (piecesReach ps r)) (bit i (piecesReach qs r))
 reach-append [] qs r i = omega (arith, reach-none r i)
 reach-append (p ∷ ps) qs r i = omega (arith, reach-bit p (ps ++ qs) r i, reach-bit p ps r i, reach-append ps qs r i)
 
@@ -99,7 +84,7 @@ scatter-length (p ∷ ps) n registers =
     scatter-length ps n (put p (n / 2 ^ width ps) registers) ∙ put-length p (n / 2 ^ width ps) registers
 
 -- it moves no bit outside the pieces
-pub scatter-outside : (ps : List Piece) (n : ℕ) (registers : List ℕ) (r i : ℕ) → bit i (reachIn ps r) ≡ 0
+pub scatter-outside : (ps : List Piece) (n : ℕ) (registers : List ℕ) (r i : ℕ) → bit i (piecesReach ps r) ≡ 0
     → bit i (getD (scatter ps n registers) r 0) ≡ bit i (getD registers r 0)
 unfolding scatter
 scatter-outside [] n registers r i e = refl
@@ -117,88 +102,88 @@ gather-lt (p ∷ ps) registers =
 
 -- a gather gives the same where what the pieces reach is the same
 pub gather-same : (ps : List Piece) (a b : List ℕ)
-    → ((r i : ℕ) → bit i (reachIn ps r) ≡ 1 → bit i (getD a r 0) ≡ bit i (getD b r 0)) → gather a ps ≡ gather b ps
+    → ((r i : ℕ) → bit i (piecesReach ps r) ≡ 1 → bit i (getD a r 0) ≡ bit i (getD b r 0)) → gather a ps ≡ gather b ps
 unfolding gather
 gather-same [] a b h = refl
 gather-same (p ∷ ps) a b h =
     ap₂ (λ (x y : ℕ). x * 2 ^ width ps + y)
-    (held-same p a b (λ i e. h (p .register) i (omega (arith, reach-bit p ps (p .register) i, own-here p (p .register) i refl, bit-lt i (reachIn ps (p .register)), e))))
+    (held-same p a b (λ i e. h (p .register) i (omega (arith, reach-bit p ps (p .register) i, own-here p (p .register) i refl, bit-lt i (piecesReach ps (p .register)), e))))
     (gather-same ps a b (λ r i e. h r i (omega (arith, reach-bit p ps r i, own-lt p r i, e))))
 
 -- of disjoint pieces, what the first ones reach the others don't
-pub across : (ps qs : List Piece) → T (disjoint (ps ++ qs)) → (r i : ℕ) → bit i (reachIn ps r) ≡ 1 → bit i (reachIn qs r) ≡ 0
+pub across : (ps qs : List Piece) → T (disjoint (ps ++ qs)) → (r i : ℕ) → bit i (piecesReach ps r) ≡ 1 → bit i (piecesReach qs r) ≡ 0
 unfolding disjoint
 across [] qs t r i e = absurd (omega (arith, reach-none r i))
 across (p ∷ ps) qs t r i e =
     by-test (eqb (own p r i) 1)
     (λ o. first (eqb-true (own p r i) 1 o))
-    (λ o. across ps qs (right (eqb (bitAnd (pieceReach p) (reachIn (ps ++ qs) (p .register))) 0) (disjoint (ps ++ qs)) t) r i
+    (λ o. across ps qs (right (eqb (bitAnd (pieceReach p) (piecesReach (ps ++ qs) (p .register))) 0) (disjoint (ps ++ qs)) t) r i
     (omega (arith, reach-bit p ps r i, own-lt p r i, eqb-false (own p r i) 1 o)))
   where
-    clear : own p r i ≡ 1 → bit i (reachIn (ps ++ qs) (p .register)) ≡ 0
+    clear : own p r i ≡ 1 → bit i (piecesReach (ps ++ qs) (p .register)) ≡ 0
     clear o =
-        apart (pieceReach p) (reachIn (ps ++ qs) (p .register)) i
-        (left (eqb (bitAnd (pieceReach p) (reachIn (ps ++ qs) (p .register))) 0) (disjoint (ps ++ qs)) t)
+        apart (pieceReach p) (piecesReach (ps ++ qs) (p .register)) i
+        (left (eqb (bitAnd (pieceReach p) (piecesReach (ps ++ qs) (p .register))) 0) (disjoint (ps ++ qs)) t)
         (sym (own-here p r i (own-register p r i o)) ∙ o)
 
-    first : own p r i ≡ 1 → bit i (reachIn qs r) ≡ 0
+    first : own p r i ≡ 1 → bit i (piecesReach qs r) ≡ 0
     first o =
-        omega (arith, reach-append ps qs r i, ap (λ (k : ℕ). bit i (reachIn (ps ++ qs) k)) (own-register p r i o) ∙ clear o)
+        omega (arith, reach-append ps qs r i, ap (λ (k : ℕ). bit i (piecesReach (ps ++ qs) k)) (own-register p r i o) ∙ clear o)
 
 -- parts of disjoint pieces are disjoint
 pub disjoint-left : (ps qs : List Piece) → T (disjoint (ps ++ qs)) → T (disjoint ps)
 unfolding disjoint
 disjoint-left [] qs t = tt
 disjoint-left (p ∷ ps) qs t =
-    both (eqb (bitAnd (pieceReach p) (reachIn ps (p .register))) 0) (disjoint ps)
-    (no-meeting (pieceReach p) (reachIn ps (p .register)) (λ i e. omega (arith, reach-append ps qs (p .register) i, meets i e)))
-    (disjoint-left ps qs (right (eqb (bitAnd (pieceReach p) (reachIn (ps ++ qs) (p .register))) 0) (disjoint (ps ++ qs)) t))
+    both (eqb (bitAnd (pieceReach p) (piecesReach ps (p .register))) 0) (disjoint ps)
+    (no-meeting (pieceReach p) (piecesReach ps (p .register)) (λ i e. omega (arith, reach-append ps qs (p .register) i, meets i e)))
+    (disjoint-left ps qs (right (eqb (bitAnd (pieceReach p) (piecesReach (ps ++ qs) (p .register))) 0) (disjoint (ps ++ qs)) t))
   where
-    meets : (i : ℕ) → bit i (pieceReach p) ≡ 1 → bit i (reachIn (ps ++ qs) (p .register)) ≡ 0
+    meets : (i : ℕ) → bit i (pieceReach p) ≡ 1 → bit i (piecesReach (ps ++ qs) (p .register)) ≡ 0
     meets i e =
-        apart (pieceReach p) (reachIn (ps ++ qs) (p .register)) i
-        (left (eqb (bitAnd (pieceReach p) (reachIn (ps ++ qs) (p .register))) 0) (disjoint (ps ++ qs)) t) e
+        apart (pieceReach p) (piecesReach (ps ++ qs) (p .register)) i
+        (left (eqb (bitAnd (pieceReach p) (piecesReach (ps ++ qs) (p .register))) 0) (disjoint (ps ++ qs)) t) e
 
 pub disjoint-right : (ps qs : List Piece) → T (disjoint (ps ++ qs)) → T (disjoint qs)
 unfolding disjoint
 disjoint-right [] qs t = t
 disjoint-right (p ∷ ps) qs t =
-    disjoint-right ps qs (right (eqb (bitAnd (pieceReach p) (reachIn (ps ++ qs) (p .register))) 0) (disjoint (ps ++ qs)) t)
+    disjoint-right ps qs (right (eqb (bitAnd (pieceReach p) (piecesReach (ps ++ qs) (p .register))) 0) (disjoint (ps ++ qs)) t)
 
-pub placed-left : (count : ℕ) (ps qs : List Piece) → T (placed count (ps ++ qs)) → T (placed count ps)
-unfolding placed
-placed-left count [] qs t = tt
-placed-left count (p ∷ ps) qs t =
-    both (ltb (p .register) count) (placed count ps)
-    (left (ltb (p .register) count) (placed count (ps ++ qs)) t)
-    (placed-left count ps qs (right (ltb (p .register) count) (placed count (ps ++ qs)) t))
+pub present-left : (count : ℕ) (ps qs : List Piece) → T (present count (ps ++ qs)) → T (present count ps)
+unfolding present
+present-left count [] qs t = tt
+present-left count (p ∷ ps) qs t =
+    both (ltb (p .register) count) (present count ps)
+    (left (ltb (p .register) count) (present count (ps ++ qs)) t)
+    (present-left count ps qs (right (ltb (p .register) count) (present count (ps ++ qs)) t))
 
-pub placed-right : (count : ℕ) (ps qs : List Piece) → T (placed count (ps ++ qs)) → T (placed count qs)
-unfolding placed
-placed-right count [] qs t = t
-placed-right count (p ∷ ps) qs t = placed-right count ps qs (right (ltb (p .register) count) (placed count (ps ++ qs)) t)
+pub present-right : (count : ℕ) (ps qs : List Piece) → T (present count (ps ++ qs)) → T (present count qs)
+unfolding present
+present-right count [] qs t = t
+present-right count (p ∷ ps) qs t = present-right count ps qs (right (ltb (p .register) count) (present count (ps ++ qs)) t)
 
 -- a scatter does not disturb pieces that are disjoint from its own
 pub undisturbed : (ps qs : List Piece) (n : ℕ) (registers : List ℕ)
-    → ((r i : ℕ) → bit i (reachIn qs r) ≡ 1 → bit i (reachIn ps r) ≡ 0) → gather (scatter ps n registers) qs ≡ gather registers qs
+    → ((r i : ℕ) → bit i (piecesReach qs r) ≡ 1 → bit i (piecesReach ps r) ≡ 0) → gather (scatter ps n registers) qs ≡ gather registers qs
 undisturbed ps qs n registers h =
     gather-same qs (scatter ps n registers) registers (λ r i e. scatter-outside ps n registers r i (h r i e))
 
 -- gathering what was scattered gives the number's low bits
-pub gather-scatter : (ps : List Piece) (n : ℕ) (registers : List ℕ) → T (disjoint ps) → T (placed (length registers) ps)
+pub gather-scatter : (ps : List Piece) (n : ℕ) (registers : List ℕ) → T (disjoint ps) → T (present (length registers) ps)
     → gather (scatter ps n registers) ps ≡ n % 2 ^ width ps
-unfolding gather scatter width disjoint placed
+unfolding gather scatter width disjoint present
 gather-scatter [] n registers d l = sym (mod-one n)
 gather-scatter (p ∷ ps) n registers d l =
     ap₂ (λ (x y : ℕ). x * 2 ^ width ps + y)
     (held-same p (scatter ps n next) next
     (λ i e. scatter-outside ps n next (p .register) i
-    (apart (pieceReach p) (reachIn ps (p .register)) i (left (eqb (bitAnd (pieceReach p) (reachIn ps (p .register))) 0) (disjoint ps) d) e))
+    (apart (pieceReach p) (piecesReach ps (p .register)) i (left (eqb (bitAnd (pieceReach p) (piecesReach ps (p .register))) 0) (disjoint ps) d) e))
     ∙ held-put p (n / 2 ^ width ps) registers
-    (ltb→lt (p .register) (length registers) (left (ltb (p .register) (length registers)) (placed (length registers) ps) l)))
-    (gather-scatter ps n next (right (eqb (bitAnd (pieceReach p) (reachIn ps (p .register))) 0) (disjoint ps) d)
-    (subst (λ (k : ℕ). T (placed k ps)) (sym (put-length p (n / 2 ^ width ps) registers))
-    (right (ltb (p .register) (length registers)) (placed (length registers) ps) l)))
+    (ltb→lt (p .register) (length registers) (left (ltb (p .register) (length registers)) (present (length registers) ps) l)))
+    (gather-scatter ps n next (right (eqb (bitAnd (pieceReach p) (piecesReach ps (p .register))) 0) (disjoint ps) d)
+    (subst (λ (k : ℕ). T (present k ps)) (sym (put-length p (n / 2 ^ width ps) registers))
+    (right (ltb (p .register) (length registers)) (present (length registers) ps) l)))
     ∙ sym (mod-pow-add n (p .width) (width ps))
   where
     next : List ℕ

@@ -3,31 +3,18 @@
 -- Assumes nothing.
 use mathlib.Core.Path.{_≡_, refl, sym, ap, _∙_, subst}
 use Prim.Native.Nat.{ℕ, _+_, _%_, _^_, _≤_, _<_}
-use mathlib.Core.Bool.{Bool, _&&_}
-use mathlib.Core.List.{List, [], _∷_, _++_}
+use mathlib.Core.List.{List, [], _∷_}
 use native.Mathlib.Nat.{mod-eq-of-lt, add-sub-cancel, sub-add-cancel}
 use native.Mathlib.Omega.{arith}
 use lib.Dec.{T, leb, ltb, leb→le, ltb→lt, le→leb, lt→ltb}
 use lib.ListN.{getD, length}
 use Rattle.bits.specs.Numbers.{Meaning, plus, endOfLast, Number, endAfter, meant, storedFor, inRange, readFrom, readNumbers, rangesFrom, allInRange, writeNumbers}
-use Rattle.bits.specs.Pieces.{Piece, width, gather, scatter}
+use Rattle.bits.specs.Pieces.{width, gather, scatter}
+use Rattle.bits.specs.Reach.{disjoint, present, piecesOf, tableReach, fitting}
 use Rattle.bits.specs.Store.{bit}
 use Rattle.bits.proofs.Ends.{end-above, end-most, end-low, end-of}
-use Rattle.bits.proofs.Split.{reachIn, disjoint, placed, reach-append, scatter-length, scatter-outside, gather-lt, gather-same, across, disjoint-left, disjoint-right, placed-left, placed-right, gather-scatter, scatter-low, scatter-gather}
+use Rattle.bits.proofs.Split.{reach-append, scatter-length, scatter-outside, gather-lt, gather-same, across, disjoint-left, disjoint-right, present-left, present-right, gather-scatter, scatter-low, scatter-gather}
 use Rattle.bits.proofs.Test.{left, right, both}
-
--- every piece of a table
-unfoldable pub piecesOf : List Number → List Piece
-piecesOf [] = []
-piecesOf (n ∷ ns) = n .pieces ++ piecesOf ns
-
--- the bits of a register that a table's numbers may change
-unfoldable pub tableReach : List Number → ℕ → ℕ
-tableReach table r = reachIn (piecesOf table) r
-
--- a table for so many registers, its pieces disjoint
-unfoldable pub fitting : ℕ → List Number → Bool
-fitting count table = disjoint (piecesOf table) && placed count (piecesOf table)
 
 -- a number in its range is told by the bits that are stored of it
 meant-stored : (m : Meaning) (n last number : ℕ) → T (inRange m n last number) → meant m n last (storedFor m number % 2 ^ n) ≡ number
@@ -82,7 +69,7 @@ written-outside (n ∷ ns) (v ∷ vs) registers r i e =
 
 -- reading what was written gives the numbers, if they are in range
 read-from : (last : ℕ) (table : List Number) (numbers registers : List ℕ)
-    → T (disjoint (piecesOf table)) → T (placed (length registers) (piecesOf table)) → T (rangesFrom last table numbers)
+    → T (disjoint (piecesOf table)) → T (present (length registers) (piecesOf table)) → T (rangesFrom last table numbers)
     → readFrom last table (writeNumbers table numbers registers) ≡ numbers
 unfolding readFrom rangesFrom writeNumbers piecesOf tableReach
 read-from last [] [] registers d l t = refl
@@ -92,8 +79,8 @@ read-from last (n ∷ ns) (v ∷ vs) registers d l t =
     ap (λ (x : ℕ). x ∷ readFrom x ns after) first
     ∙ ap (λ (xs : List ℕ). v ∷ xs)
     (read-from v ns vs next (disjoint-right (n .pieces) (piecesOf ns) d)
-    (subst (λ (k : ℕ). T (placed k (piecesOf ns))) (sym (scatter-length (n .pieces) (storedFor (n .meaning) v) registers))
-    (placed-right (length registers) (n .pieces) (piecesOf ns) l))
+    (subst (λ (k : ℕ). T (present k (piecesOf ns))) (sym (scatter-length (n .pieces) (storedFor (n .meaning) v) registers))
+    (present-right (length registers) (n .pieces) (piecesOf ns) l))
     (right (inRange (n .meaning) (width (n .pieces)) last v) (rangesFrom v ns vs) t))
   where
     next : List ℕ
@@ -112,7 +99,7 @@ read-from last (n ∷ ns) (v ∷ vs) registers d l t =
         ap (meant (n .meaning) (width (n .pieces)) last)
         (kept
         ∙ gather-scatter (n .pieces) (storedFor (n .meaning) v) registers (disjoint-left (n .pieces) (piecesOf ns) d)
-        (placed-left (length registers) (n .pieces) (piecesOf ns) l))
+        (present-left (length registers) (n .pieces) (piecesOf ns) l))
         ∙ meant-stored (n .meaning) (width (n .pieces)) last v (left (inRange (n .meaning) (width (n .pieces)) last v) (rangesFrom v ns vs) t)
 
 pub read-back : (table : List Number) (numbers registers : List ℕ) → T (fitting (length registers) table) → T (allInRange table numbers)
@@ -120,8 +107,8 @@ pub read-back : (table : List Number) (numbers registers : List ℕ) → T (fitt
 unfolding fitting allInRange readNumbers
 read-back table numbers registers f t =
     read-from 0 table numbers registers
-    (left (disjoint (piecesOf table)) (placed (length registers) (piecesOf table)) f)
-    (right (disjoint (piecesOf table)) (placed (length registers) (piecesOf table)) f) t
+    (left (disjoint (piecesOf table)) (present (length registers) (piecesOf table)) f)
+    (right (disjoint (piecesOf table)) (present (length registers) (piecesOf table)) f) t
 
 -- writing what was read changes nothing
 write-from : (last : ℕ) (table : List Number) (registers : List ℕ) → writeNumbers table (readFrom last table registers) registers ≡ registers

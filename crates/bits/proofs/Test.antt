@@ -5,6 +5,7 @@ use mathlib.Core.Bool.{Bool, true, false, cond, true≢false, not, _&&_, _||_}
 use native.Mathlib.Omega.{arith}
 use borrow.Author.Tests.{eqb-true, eqb-false}
 use lib.Dec.{T, eqb}
+unfoldable pub use Rattle.bits.specs.Every.{everyBelow}
 
 pub left : (a b : Bool) → T (a && b) → T a
 left true b t = tt
@@ -83,11 +84,7 @@ pub twice : (b : Bool) → T (not (not b)) → T b
 twice true t = tt
 twice false t = absurd t
 
--- a test passes at every number below another
-unfoldable pub everyBelow : (ℕ → Bool) → ℕ → Bool
-everyBelow test zero = true
-everyBelow test (suc k) = test k && everyBelow test k
-
+-- a test that passes at every number below another passes at each
 pub below : (test : ℕ → Bool) (k : ℕ) → T (everyBelow test k) → (n : ℕ) → n < k → T (test n)
 unfolding everyBelow
 below test zero t n h = absurd (omega arith)

@@ -1,12 +1,12 @@
 -- A table of numbers as plain numbers, the form that code takes it in: a piece and a row of the table are one number each.
 -- Assumes nothing.
-use Prim.Native.Nat.{ℕ, _+_, _/_, _%_, _^_}
-use mathlib.Core.Bool.{Bool, true, cond, _&&_}
-use mathlib.Core.List.{List, [], _∷_, map}
-use lib.Dec.{eqb, ltb}
+use Prim.Native.Nat.{ℕ, _/_, _%_}
+use mathlib.Core.Bool.{cond}
+use mathlib.Core.List.{List, map}
+use lib.Dec.{eqb}
 use lib.ListN.{take, drop}
 use Rattle.bits.specs.Numbers.{Meaning, plus, endOfLast, Number}
-use Rattle.bits.specs.Pieces.{Piece, piece, width}
+use Rattle.bits.specs.Pieces.{Piece, piece}
 
 -- RRHLh is register RR, bits H to L
 unfoldable pub pieceOf : ℕ → Piece
@@ -23,14 +23,3 @@ rowOf pieces row =
 
 unfoldable pub tableOf : List ℕ → List ℕ → List Number
 tableOf rows pieces = map (rowOf pieces) rows
-
--- no number of these bits, after a last one, is larger
-unfoldable pub most : Meaning → ℕ → ℕ → ℕ
-most (plus k) n last = k + 2 ^ n
-most endOfLast n last = last + 2 ^ n
-
--- every number of a table stays below a bound
-unfoldable pub bounded : ℕ → ℕ → List Number → Bool
-bounded bound last [] = true
-bounded bound last (n ∷ ns) =
-    ltb (most (n .meaning) (width (n .pieces)) last) bound && bounded bound (most (n .meaning) (width (n .pieces)) last) ns

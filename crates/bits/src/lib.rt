@@ -1,6 +1,10 @@
-// Bits of numbers: the store rule and the pieces of split fields. Nothing here knows a card.
+// Bits of numbers: the store rule, the pieces of split fields and tables of numbers in pieces. Nothing here knows a card.
+mod numbers;
 mod pieces;
 
+pub use numbers::all_in_range;
+pub use numbers::read_numbers;
+pub use numbers::write_numbers;
 pub use pieces::gather;
 pub use pieces::scatter;
 pub use pieces::width;

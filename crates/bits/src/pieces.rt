@@ -6,7 +6,7 @@ ghost use lib.ListN.{drop};
 ghost use Rattle.bits.specs.Encoded.{pieceOf};
 ghost use Rattle.bits.specs.Pieces.{width as widthOf, held as heldBits, gather as gatherPieces, put as putPiece, scatter as scatterPieces};
 
-fn wide(x: u16) -> u32
+fn to_u32(x: u16) -> u32
     ensures { λ r. ⌜ r ≡ x ⌝ }
 {
     x as u32
@@ -16,15 +16,15 @@ fn wide(x: u16) -> u32
 fn piece_low(piece: u16) -> u32
     ensures { λ r. ⌜ r ≡ pieceOf piece .low ⌝ }
 {
-    wide(piece % 16)
+    to_u32(piece % 16)
 }
 
 // How many bits a piece has; none where its high bit is below its low one.
 fn piece_width(piece: u16) -> u32
     ensures { λ r. ⌜ r ≡ pieceOf piece .width ⌝ }
 {
-    let high = wide(piece / 16 % 16);
-    let low = wide(piece % 16);
+    let high = to_u32(piece / 16 % 16);
+    let low = to_u32(piece % 16);
     if low <= high { high + 1 - low } else { 0 }
 }
 
@@ -43,7 +43,7 @@ fn held(registers: &[u16], piece: u16) -> u32
     let low = piece_low(piece);
     let mask = piece_mask(piece);
     if register < registers.len() {
-        (wide(registers[register]) >> low) & mask
+        (to_u32(registers[register]) >> low) & mask
     } else {
         0
     }

@@ -11,7 +11,7 @@ use lib.ListN.{getD, take, drop, replicate, length, length-take, length-append, 
 use lib.Seq.{drop-cons, getD-take, getD-append-add}
 use Rattle.bits.proofs.Test.{left, right, and-false, everyBelow, below}
 use Rattle.file.specs.Readers.{ascii, nameTable, position, same}
-use Rattle.file.specs.Registers.{registers, singles, sequencer, crtc, graphics, attribute, pipeline}
+use Rattle.file.specs.Registers.{registerCount, registers}
 
 -- ---- two lists of bytes
 
@@ -100,15 +100,15 @@ fits-at [] i h t = absurd (omega arith)
 fits-at (row ∷ rows) zero h t = left (fits row) (all-fit rows) t
 fits-at (row ∷ rows) (suc i) h t = fits-at rows i (omega arith) (right (fits row) (all-fit rows) t)
 
-pub rows-count : length nameTable ≡ 100
-unfolding nameTable registers singles sequencer crtc graphics attribute pipeline ascii
+pub rows-count : length nameTable ≡ registerCount
+unfolding nameTable registers ascii
 rows-count = refl
 
 names-fit : T (all-fit nameTable)
-unfolding all-fit fits agree ends everyBelow block nameTable registers singles sequencer crtc graphics attribute pipeline ascii
+unfolding all-fit fits agree ends everyBelow block nameTable registers ascii
 names-fit = tt
 
-module _ (number : ℕ) (small : number < 100) where
+module _ (number : ℕ) (small : number < registerCount) where
   abbrev Row : List ℕ
   Row = getD nameTable number []
 

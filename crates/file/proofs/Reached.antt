@@ -9,46 +9,38 @@ use Rattle.bits.specs.Store.{bit, store}
 use Rattle.bits.proofs.Piece.{stored-outside}
 use Rattle.bits.proofs.Stored.{inside}
 use Rattle.file.specs.declared.effect.Effect.{Effect}
-use Rattle.file.specs.declared.effect.Effect.the-variants.{Nothing, Store, StoreAndFlip, Toggle, Move, Paint}
+use Rattle.file.specs.declared.effect.Effect.the-variants.{Nothing, Store, Toggle, Move, Paint}
 use Rattle.file.specs.declared.registers.File.{File}
-use Rattle.file.specs.Effects.{apply, reachOf, storeIn, paintIn}
-use Rattle.file.specs.File.{register, withRegisters, withPalette, withBank, withPointer, withToggle, black}
+use Rattle.file.specs.Effects.{apply, reachOf, storeIn}
+use Rattle.file.specs.File.{register, black}
 use Rattle.file.specs.Reached.{SameOutside}
 
 -- inside the reach of a store, the register's bits are the value's
 pub stored-inside : (f : File) (number reach value i : ℕ) → number < length (f .registers) → bit i reach ≡ 1
     → bit i (register (storeIn number reach value f) number) ≡ bit i value
-unfolding register storeIn withRegisters
+unfolding register storeIn
 stored-inside f number reach value i h e =
     ap (bit i) (getD-set-same (f .registers) number (store reach (getD (f .registers) number 0) value) 0 h)
     ∙ inside i reach (getD (f .registers) number 0) value e
 
 -- nothing changes outside the reach of an effect
 pub same-outside : (e : Effect) (f : File) → SameOutside (reachOf e) f (apply e f)
-unfolding reachOf apply storeIn paintIn withRegisters withPalette withBank withToggle withPointer register
+unfolding reachOf apply register
 same-outside Nothing f =
     record { registers = λ n i h. refl; palette = λ n h. refl; bank = λ n h. refl; pointer = λ h. refl; toggle = λ h. refl }
-same-outside (Store number reach value) f =
+same-outside (Store flips number reach value) f =
     record {
       registers = stored-outside (f .registers) number reach value;
       palette = λ n h. refl;
       bank = λ n h. refl;
       pointer = λ h. refl;
-      toggle = λ h. refl;
+      toggle = λ h. rw h refl;
     }
-same-outside (StoreAndFlip number reach value) f =
-    record {
-      registers = stored-outside (f .registers) number reach value;
-      palette = λ n h. refl;
-      bank = λ n h. refl;
-      pointer = λ h. refl;
-      toggle = λ h. absurd (true≢false h);
-    }
-same-outside (Toggle state) f =
+same-outside (Toggle toggle) f =
     record { registers = λ n i h. refl; palette = λ n h. refl; bank = λ n h. refl; pointer = λ h. refl; toggle = λ h. absurd (true≢false h) }
 same-outside (Move pointer) f =
     record { registers = λ n i h. refl; palette = λ n h. refl; bank = λ n h. refl; pointer = λ h. absurd (true≢false h); toggle = λ h. refl }
-same-outside (Paint true entry colour pointer) f =
+same-outside (Paint true entry pointer colour) f =
     record {
       registers = λ n i h. refl;
       palette = λ n h. refl;
@@ -56,7 +48,7 @@ same-outside (Paint true entry colour pointer) f =
       pointer = λ h. absurd (true≢false h);
       toggle = λ h. refl;
     }
-same-outside (Paint false entry colour pointer) f =
+same-outside (Paint false entry pointer colour) f =
     record {
       registers = λ n i h. refl;
       palette = λ n h. getD-set-other (f .palette) entry n colour black (h refl);

@@ -2,7 +2,7 @@
 -- Assumes nothing.
 use Prim.Native.Nat.{ℕ, zero, suc, _+_, _<_, _≤_}
 use mathlib.Core.Path.{_≡_, refl, sym, ap, ap₂, _∙_, subst}
-use mathlib.Core.Bool.{Bool, true, false, _&&_}
+use mathlib.Core.Bool.{Bool, true, false, cond, not, _&&_}
 use mathlib.Core.List.{List, [], _∷_}
 use native.Mathlib.Numerals.{add-one}
 use lib.Bits.{bitOr, bitXor}
@@ -13,15 +13,17 @@ use Rattle.bits.specs.Store.{store, within}
 use Rattle.bits.proofs.Stored.{store-within, within-le, none-or, none-stray}
 use Rattle.bits.proofs.Test.{left, right, both, and-assoc, and-true}
 use Rattle.file.specs.declared.effect.Effect.{Effect}
-use Rattle.file.specs.declared.effect.Effect.the-variants.{Nothing, Store, StoreAndFlip, Toggle, Move, Paint}
+use Rattle.file.specs.declared.effect.Effect.the-variants.{Nothing, Store, Toggle, Move, Paint}
 use Rattle.file.specs.declared.palette.Colour.{Colour}
 use Rattle.file.specs.declared.palette.Pointer.{Pointer}
 use Rattle.file.specs.declared.registers.File.{File}
+use Rattle.file.specs.declared.state.State.{State}
 use Rattle.file.specs.Effects.{apply, storeIn, paintIn}
-use Rattle.file.specs.File.{register, withRegisters, withPalette, withBank, withPointer, withToggle, powerOn}
+use Rattle.file.specs.File.{register, powerOn}
 use Rattle.file.specs.Palette.{byColour, addressed, moved, afterWrite, afterRead, pointerSound}
-use Rattle.file.specs.Registers.{storedBits, storedTable, registers, singles, sequencer, crtc, graphics, attribute, pipeline}
-use Rattle.file.specs.Sound.{allWithin, sound}
+use Rattle.file.specs.Registers.{registerCount, storedBits, storedTable}
+use Rattle.file.specs.Sound.{allWithin, sound, keeps}
+use Rattle.file.specs.State.{pointing, toggling, stateSound}
 
 -- a register of a sound file is within its row
 pub at : (table values : List ℕ) (number : ℕ) → T (allWithin table values) → T (within (getD table number 0) (getD values number 0))
@@ -129,61 +131,70 @@ afterRead-sound p t =
 -- the two parts of soundness
 pub registers-sound : (f : File) → T (sound f) → T (allWithin storedTable (f .registers))
 unfolding sound
-registers-sound f = left (allWithin storedTable (f .registers)) (pointerSound (f .pointer))
+registers-sound f = left (allWithin storedTable (f .registers)) (stateSound (f .state))
 
-pub pointer-sound : (f : File) → T (sound f) → T (pointerSound (f .pointer))
+pub state-sound : (f : File) → T (sound f) → T (stateSound (f .state))
 unfolding sound
-pointer-sound f = right (allWithin storedTable (f .registers)) (pointerSound (f .pointer))
+state-sound f = right (allWithin storedTable (f .registers)) (stateSound (f .state))
 
--- a sound file has a hundred registers
-pub sound-count : (f : File) → T (sound f) → length (f .registers) ≡ 100
-unfolding storedTable registers singles sequencer crtc graphics attribute pipeline
+pub sound-by : (f : File) → T (allWithin storedTable (f .registers)) → T (stateSound (f .state)) → T (sound f)
+unfolding sound
+sound-by f = both (allWithin storedTable (f .registers)) (stateSound (f .state))
+
+-- a state with a part anew
+pub pointing-sound : (p : Pointer) (s : State) → T (pointerSound p) → T (stateSound s) → T (stateSound (pointing p s))
+unfolding stateSound pointing
+pointing-sound p s t h = t
+
+pub toggling-sound : (toggle : Bool) (s : State) → T (stateSound s) → T (stateSound (toggling toggle s))
+unfolding stateSound toggling
+toggling-sound toggle s h = h
+
+pub pointer-sound : (f : File) → T (sound f) → T (pointerSound (f .state .pointer))
+unfolding stateSound
+pointer-sound f s = state-sound f s
+
+-- a sound file has all registers
+pub sound-count : (f : File) → T (sound f) → length (f .registers) ≡ registerCount
+unfolding storedTable
 sound-count f s = within-count storedTable (f .registers) (registers-sound f s)
 
--- an effect that stores within the stored bits, and moves to a sound pointer
-unfoldable pub keeps : Effect → Bool
-keeps Nothing = true
-keeps (Store number reach value) = within (storedBits number) reach
-keeps (StoreAndFlip number reach value) = within (storedBits number) reach
-keeps (Toggle state) = true
-keeps (Move pointer) = pointerSound pointer
-keeps (Paint bank entry colour pointer) = pointerSound pointer
-
 store-sound : (f : File) (number reach value : ℕ)
-    → T (within (storedBits number) reach) → T (sound f) → T (sound (storeIn number reach value f))
-unfolding storedBits sound storeIn withRegisters register
+    → T (within (storedBits number) reach) → T (sound f) → T (allWithin storedTable (storeIn number reach value f .registers))
+unfolding storedBits storeIn register
 store-sound f number reach value w s =
-    both (allWithin storedTable (set (f .registers) number (store reach (getD (f .registers) number 0) value))) (pointerSound (f .pointer))
-    (set-within storedTable (f .registers) number (store reach (getD (f .registers) number 0) value) (registers-sound f s)
+    set-within storedTable (f .registers) number (store reach (getD (f .registers) number 0) value) (registers-sound f s)
     (store-within (getD storedTable number 0) reach (getD (f .registers) number 0) value w
-    (at storedTable (f .registers) number (registers-sound f s))))
-    (pointer-sound f s)
+    (at storedTable (f .registers) number (registers-sound f s)))
 
--- a new pointer, beside registers that stay
-move-to : (f g : File) (p : Pointer) → g .registers ≡ f .registers → T (pointerSound p) → T (sound f) → T (sound (withPointer p g))
-unfolding sound withPointer
-move-to f g p same t s =
-    both (allWithin storedTable (g .registers)) (pointerSound p)
-    (subst (λ (l : List ℕ). T (allWithin storedTable l)) (sym same) (registers-sound f s)) t
-
+-- what is painted is neither registers nor state
 pub paint-keeps : (f : File) (bank : Bool) (entry : ℕ) (colour : Colour) → paintIn bank entry colour f .registers ≡ f .registers
-unfolding paintIn withBank withPalette
+unfolding paintIn
 paint-keeps f true entry colour = refl
 paint-keeps f false entry colour = refl
 
+pub paint-keeps-state : (f : File) (bank : Bool) (entry : ℕ) (colour : Colour) → paintIn bank entry colour f .state ≡ f .state
+unfolding paintIn
+paint-keeps-state f true entry colour = refl
+paint-keeps-state f false entry colour = refl
+
 -- such an effect leaves a sound file sound
 pub apply-sound : (e : Effect) (f : File) → T (keeps e) → T (sound f) → T (sound (apply e f))
-unfolding keeps apply sound withToggle
+unfolding keeps apply
 apply-sound Nothing f k s = s
-apply-sound (Store number reach value) f k s = store-sound f number reach value k s
-apply-sound (StoreAndFlip number reach value) f k s = store-sound f number reach value k s
-apply-sound (Toggle state) f k s = s
-apply-sound (Move pointer) f k s = move-to f f pointer refl k s
-apply-sound (Paint bank entry colour pointer) f k s = move-to f (paintIn bank entry colour f) pointer (paint-keeps f bank entry colour) k s
+apply-sound (Store flips number reach value) f k s =
+    sound-by (apply (Store flips number reach value) f) (store-sound f number reach value k s)
+    (toggling-sound (cond flips (not (f .state .toggle)) (f .state .toggle)) (f .state) (state-sound f s))
+apply-sound (Toggle toggle) f k s = sound-by (apply (Toggle toggle) f) (registers-sound f s) (toggling-sound toggle (f .state) (state-sound f s))
+apply-sound (Move pointer) f k s = sound-by (apply (Move pointer) f) (registers-sound f s) (pointing-sound pointer (f .state) k (state-sound f s))
+apply-sound (Paint bank entry pointer colour) f k s =
+    sound-by (apply (Paint bank entry pointer colour) f)
+    (subst (λ (l : List ℕ). T (allWithin storedTable l)) (sym (paint-keeps f bank entry colour)) (registers-sound f s))
+    (pointing-sound pointer (f .state) k (state-sound f s))
 
 -- the file at power-on is sound
 pub powerOn-sound : T (sound powerOn)
-unfolding sound powerOn allWithin storedTable registers singles sequencer crtc graphics attribute pipeline within store pointerSound addressed
+unfolding sound stateSound powerOn allWithin storedTable within store pointerSound
 powerOn-sound = tt
 
 -- a register of a sound file is at most its stored bits

@@ -1,16 +1,18 @@
--- The file as a whole: its parts one at a time, and power-on.
+-- The file as a whole: its parts one at a time, a file of which only parts are looked at, and power-on.
 -- Assumes nothing.
 use Prim.Native.Nat.{ℕ}
-use mathlib.Core.Bool.{Bool, false}
-use mathlib.Core.List.{List}
+use mathlib.Core.Bool.{Bool}
+use mathlib.Core.List.{List, []}
 use lib.ListN.{getD, replicate}
 use lib.Dec.{eqb}
 use Rattle.bits.specs.Store.{bit}
 use Rattle.file.specs.declared.palette.Colour.{Colour}
 use Rattle.file.specs.declared.palette.Pointer.{Pointer}
 use Rattle.file.specs.declared.registers.File.{File}
+use Rattle.file.specs.declared.state.State.{State}
 use Rattle.file.specs.Names.{CR11}
-use Rattle.file.specs.Palette.{addressed}
+use Rattle.file.specs.Registers.{registerCount}
+use Rattle.file.specs.State.{initial, pointing, toggling}
 
 -- what a register holds
 unfoldable pub register : File → ℕ → ℕ
@@ -22,30 +24,46 @@ crtcLocked f = eqb (bit 7 (register f CR11)) 1
 
 -- the file with one part anew
 unfoldable pub withRegisters : List ℕ → File → File
-withRegisters new f = record { registers = new; palette = f .palette; bank = f .bank; pointer = f .pointer; toggle = f .toggle }
+withRegisters new f = record { registers = new; palette = f .palette; bank = f .bank; state = f .state }
 
 unfoldable pub withPalette : List Colour → File → File
-withPalette new f = record { registers = f .registers; palette = new; bank = f .bank; pointer = f .pointer; toggle = f .toggle }
+withPalette new f = record { registers = f .registers; palette = new; bank = f .bank; state = f .state }
 
 unfoldable pub withBank : List Colour → File → File
-withBank new f = record { registers = f .registers; palette = f .palette; bank = new; pointer = f .pointer; toggle = f .toggle }
+withBank new f = record { registers = f .registers; palette = f .palette; bank = new; state = f .state }
+
+unfoldable pub withState : State → File → File
+withState new f = record { registers = f .registers; palette = f .palette; bank = f .bank; state = new }
 
 unfoldable pub withPointer : Pointer → File → File
-withPointer new f = record { registers = f .registers; palette = f .palette; bank = f .bank; pointer = new; toggle = f .toggle }
+unfolding withState pointing
+withPointer new f = withState (pointing new (f .state)) f
 
 unfoldable pub withToggle : Bool → File → File
-withToggle new f = record { registers = f .registers; palette = f .palette; bank = f .bank; pointer = f .pointer; toggle = new }
+unfolding withState toggling
+withToggle new f = withState (toggling new (f .state)) f
+
+-- a file of which no more is looked at than these registers and this state: it has no colours
+unfoldable pub seen : List ℕ → State → File
+seen registers state = record { registers = registers; palette = []; bank = []; state = state }
 
 unfoldable pub black : Colour
 black = record { red = 0; green = 0; blue = 0 }
 
+-- 01, 'a bank of 16 cursor and border colours, else one of 256'
+abbrev pub paletteCount : ℕ
+paletteCount = 256
+
+abbrev pub bankCount : ℕ
+bankCount = 16
+
 -- 01, end of 'Places': 'At power-on all stored bits and entries are 0, the toggle is index, and the pointer is at address 0, write mode, red, nothing held.'
 unfoldable pub powerOn : File
+unfolding initial black
 powerOn =
     record {
-      registers = replicate 100 0;
-      palette = replicate 256 black;
-      bank = replicate 16 black;
-      pointer = addressed false 0;
-      toggle = false;
+      registers = replicate registerCount 0;
+      palette = replicate paletteCount black;
+      bank = replicate bankCount black;
+      state = initial;
     }

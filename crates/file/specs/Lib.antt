@@ -1,7 +1,9 @@
 pub mod Answers
 pub mod Registers
 pub mod Names
+pub mod Named
 pub mod Palette
+pub mod State
 pub mod File
 pub mod Sound
 pub mod Effects

@@ -14,5 +14,5 @@ pub record SameOutside (r : Reach) (before after : File) : Type 0 where
   pub registers : (number i : ℕ) → (number ≡ r .register → bit i (r .bits) ≡ 0) → bit i (register after number) ≡ bit i (register before number)
   pub palette : (n : ℕ) → (r .palette ≡ true → n ≡ r .entry → ⊥) → getD (after .palette) n black ≡ getD (before .palette) n black
   pub bank : (n : ℕ) → (r .bank ≡ true → n ≡ r .entry → ⊥) → getD (after .bank) n black ≡ getD (before .bank) n black
-  pub pointer : r .pointer ≡ false → after .pointer ≡ before .pointer
-  pub toggle : r .toggle ≡ false → after .toggle ≡ before .toggle
+  pub pointer : r .pointer ≡ false → after .state .pointer ≡ before .state .pointer
+  pub toggle : r .toggle ≡ false → after .state .toggle ≡ before .state .toggle

@@ -14,10 +14,10 @@ use Rattle.file.specs.declared.readers.EntryRead.{EntryRead}
 use Rattle.file.specs.declared.readers.PointerRead.{PointerRead}
 use Rattle.file.specs.declared.readers.ToggleRead.{ToggleRead}
 use Rattle.file.specs.declared.registers.File.{File}
-use Rattle.file.specs.File.{register, black}
-use Rattle.file.specs.Palette.{addressed}
-use Rattle.file.specs.Registers.{Register, registers, singles, sequencer, crtc, graphics, attribute, pipeline}
+use Rattle.file.specs.File.{register, black, paletteCount, bankCount}
+use Rattle.file.specs.Registers.{Register, registerCount, registers}
 use Rattle.file.specs.Sound.{sound}
+use Rattle.file.specs.State.{initial}
 
 -- a text as its bytes
 unfoldable pub ascii : String → List ℕ
@@ -26,7 +26,7 @@ ascii (c then s) = code c ∷ ascii s
 
 -- 01, 'Stored bits': the names of the registers, by their numbers
 unfoldable pub nameTable : List (List ℕ)
-unfolding registers singles sequencer crtc graphics attribute pipeline ascii
+unfolding registers ascii
 nameTable = map (λ (r : Register). ascii (r .name)) registers
 
 unfoldable pub same : List ℕ → List ℕ → Bool
@@ -45,7 +45,7 @@ numberOf name = position name nameTable
 
 -- 01, 'Stored bits': a register by its number; code 1 as of an index that names no held register
 unfoldable pub readRegister : File → ℕ → Answer
-readRegister f number = cond (sound f) (cond (ltb number 100) (Done (register f number)) NoRegister) NotSound
+readRegister f number = cond (sound f) (cond (ltb number registerCount) (Done (register f number)) NoRegister) NotSound
 
 -- and by its name
 unfoldable pub readNamed : File → List ℕ → Answer
@@ -61,16 +61,16 @@ entryTold isSound there colour =
 
 -- 01, 'The palette pointer': 'a bank of 16 cursor and border colours, else one of 256'
 unfoldable pub readPalette : File → ℕ → EntryRead
-readPalette f n = entryTold (sound f) (ltb n 256) (getD (f .palette) n black)
+readPalette f n = entryTold (sound f) (ltb n paletteCount) (getD (f .palette) n black)
 
 unfoldable pub readBank : File → ℕ → EntryRead
-readBank f n = entryTold (sound f) (ltb n 16) (getD (f .bank) n black)
+readBank f n = entryTold (sound f) (ltb n bankCount) (getD (f .bank) n black)
 
 -- 01, 'The palette pointer': 'An address, a mode, a next colour .. and two held bytes'
 unfoldable pub readPointer : File → PointerRead
 readPointer f =
-    cond (sound f) (record { answer = Done 0; pointer = f .pointer }) (record { answer = NotSound; pointer = addressed false 0 })
+    cond (sound f) (record { answer = Done 0; pointer = f .state .pointer }) (record { answer = NotSound; pointer = initial .pointer })
 
 -- 01, 'Places': the toggle says whether the next 3C0h write is data
 unfoldable pub readToggle : File → ToggleRead
-readToggle f = cond (sound f) (record { answer = Done 0; toggle = f .toggle }) (record { answer = NotSound; toggle = false })
+readToggle f = cond (sound f) (record { answer = Done 0; toggle = f .state .toggle }) (record { answer = NotSound; toggle = initial .toggle })

@@ -148,6 +148,10 @@ pipeline =
     ∷ sixteen "E8" 0xE8 0x7FFC
     ∷ []
 
+-- how many there are; that the table has so many is a law (`registers-counted`)
+abbrev pub registerCount : ℕ
+registerCount = 100
+
 -- every register, by its number
 unfoldable pub registers : List Register
 unfolding singles sequencer crtc graphics attribute pipeline
@@ -155,9 +159,10 @@ registers = singles ++ sequencer ++ crtc ++ graphics ++ attribute ++ pipeline
 
 -- the stored bits of each register, by its number
 unfoldable pub storedTable : List ℕ
-unfolding registers singles sequencer crtc graphics attribute pipeline
+unfolding registers
 storedTable = map (λ (r : Register). r .stored) registers
 
 -- the stored bits of a register; none of a number that no register has
 unfoldable pub storedBits : ℕ → ℕ
+unfolding storedTable
 storedBits number = getD storedTable number 0

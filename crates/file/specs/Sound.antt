@@ -4,9 +4,12 @@ use Prim.Native.Nat.{ℕ}
 use mathlib.Core.Bool.{Bool, true, false, _&&_}
 use mathlib.Core.List.{List, [], _∷_}
 use Rattle.bits.specs.Store.{within}
+use Rattle.file.specs.declared.effect.Effect.{Effect}
+use Rattle.file.specs.declared.effect.Effect.the-variants.{Nothing, Store, Toggle, Move, Paint}
 use Rattle.file.specs.declared.registers.File.{File}
 use Rattle.file.specs.Palette.{pointerSound}
-use Rattle.file.specs.Registers.{storedTable}
+use Rattle.file.specs.State.{stateSound}
+use Rattle.file.specs.Registers.{storedBits, storedTable}
 
 -- each register has a row of the table, each row a register, and no bit is set outside the row's
 unfoldable pub allWithin : List ℕ → List ℕ → Bool
@@ -17,4 +20,12 @@ allWithin (stored ∷ table) (value ∷ values) = within stored value && allWith
 
 -- 'A file is sound if no bit outside the table is set, the next colour is 0 to 2, held green is 0 before blue is due, and held red is 0 at red.'
 unfoldable pub sound : File → Bool
-sound f = allWithin storedTable (f .registers) && pointerSound (f .pointer)
+sound f = allWithin storedTable (f .registers) && stateSound (f .state)
+
+-- an effect that stores within the stored bits, and moves to a sound pointer
+unfoldable pub keeps : Effect → Bool
+keeps Nothing = true
+keeps (Store flips number reach value) = within (storedBits number) reach
+keeps (Toggle toggle) = true
+keeps (Move pointer) = pointerSound pointer
+keeps (Paint bank entry pointer colour) = pointerSound pointer

@@ -2,22 +2,21 @@ ghost use mathlib.Core.Path.{_≡_};
 ghost use mathlib.Core.Bool.{true, false};
 ghost use Rattle.file.specs.declared.effect.Effect.the-variants.{Nothing};
 ghost use Rattle.file.specs.Effects.{storeIn, paintIn, apply as applyTo, reachOf};
-ghost use Rattle.file.specs.File.{withPointer, withToggle};
+ghost use Rattle.file.specs.File.{withState};
 use crate::palette::Colour;
 use crate::palette::Pointer;
+use crate::registers::BANK;
 use crate::registers::File;
+use crate::registers::PALETTE;
+use crate::registers::REGISTERS;
+use crate::state::State;
 
 // What an access does to the file.
 pub enum Effect {
     Nothing,
-    // the register takes the value inside the reach
+    // the register takes the value inside the reach; a write of 3C0h flips the toggle too
     Store {
-        register: usize,
-        reach: u16,
-        value: u16,
-    },
-    // the same, and the toggle flips: a write of 3C0h
-    StoreAndFlip {
+        flips: bool,
         register: usize,
         reach: u16,
         value: u16,
@@ -30,8 +29,8 @@ pub enum Effect {
     Paint {
         bank: bool,
         entry: usize,
-        colour: Colour,
         pointer: Pointer,
+        colour: Colour,
     },
 }
 
@@ -51,7 +50,7 @@ fn stored(file: File, number: usize, reach: u16, value: u16) -> File
     ensures { λ r. ⌜ r ≡ storeIn number reach value file ⌝ }
 {
     let mut after = file;
-    if number < 100 {
+    if number < REGISTERS {
         let old = after.registers[number];
         after.registers[number] = bits::store(reach, old, value);
     }
@@ -64,30 +63,22 @@ fn painted(file: File, bank: bool, entry: usize, colour: Colour) -> File
 {
     let mut after = file;
     if bank {
-        if entry < 16 {
+        if entry < BANK {
             after.bank[entry] = colour;
         }
     } else {
-        if entry < 256 {
+        if entry < PALETTE {
             after.palette[entry] = colour;
         }
     }
     after
 }
 
-fn toggled(file: File, state: bool) -> File
-    ensures { λ r. ⌜ r ≡ withToggle state file ⌝ }
+fn stated(file: File, state: State) -> File
+    ensures { λ r. ⌜ r ≡ withState state file ⌝ }
 {
     let mut after = file;
-    after.toggle = state;
-    after
-}
-
-fn pointed(file: File, pointer: Pointer) -> File
-    ensures { λ r. ⌜ r ≡ withPointer pointer file ⌝ }
-{
-    let mut after = file;
-    after.pointer = pointer;
+    after.state = state;
     after
 }
 
@@ -102,20 +93,22 @@ impl Effect {
                 register,
                 reach,
                 value,
-            } => stored(file, register, reach, value),
-            Effect::StoreAndFlip {
-                register,
-                reach,
-                value,
-            } => toggled(stored(file, register, reach, value), !file.toggle),
-            Effect::Toggle(state) => toggled(file, state),
-            Effect::Move(pointer) => pointed(file, pointer),
+                flips,
+            } => {
+                let after = stored(file, register, reach, value);
+                stated(after, file.state.flipped(flips))
+            }
+            Effect::Toggle(toggle) => stated(file, file.state.toggling(toggle)),
+            Effect::Move(pointer) => stated(file, file.state.pointing(pointer)),
             Effect::Paint {
                 bank,
                 entry,
                 colour,
                 pointer,
-            } => pointed(painted(file, bank, entry, colour), pointer),
+            } => stated(
+                painted(file, bank, entry, colour),
+                file.state.pointing(pointer),
+            ),
         }
     }
 
@@ -129,12 +122,8 @@ impl Effect {
                 register,
                 reach,
                 value: _,
-            } => Reach::bits_of(register, reach, false),
-            Effect::StoreAndFlip {
-                register,
-                reach,
-                value: _,
-            } => Reach::bits_of(register, reach, true),
+                flips,
+            } => Reach::bits_of(register, reach, flips),
             Effect::Toggle(_) => Reach::bits_of(0, 0, true),
             Effect::Move(_) => Reach::colours(false, false, 0),
             Effect::Paint {

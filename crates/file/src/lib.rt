@@ -1,4 +1,4 @@
-// The register file of the CL-GD546X as a value: registers, palette, bank, pointer and toggle; what an access may do to it.
+// The register file of the CL-GD546X as a value: registers, palette, bank, and a state with pointer and toggle; what an access may do to it.
 mod answer;
 mod effect;
 mod numbered;
@@ -7,6 +7,7 @@ mod pointer;
 mod readers;
 mod registers;
 mod sound;
+mod state;
 
 pub use answer::Answer;
 pub use effect::Effect;
@@ -42,5 +43,9 @@ pub use pointer::write_pixel;
 pub use readers::EntryRead;
 pub use readers::PointerRead;
 pub use readers::ToggleRead;
+pub use registers::BANK;
 pub use registers::File;
+pub use registers::PALETTE;
+pub use registers::REGISTERS;
 pub use sound::is_sound;
+pub use state::State;

@@ -122,7 +122,7 @@ impl Pointer {
     pub fn palette_state(self) -> u16
         ensures { λ r. ⌜ r ≡ paletteState self ⌝ }
     {
-        let colour = (wide(self.next) + 2) % 3;
+        let colour = (to_u16(self.next) + 2) % 3;
         if self.reading { 4 + colour } else { colour }
     }
 }
@@ -134,7 +134,7 @@ fn risen(address: u8) -> u8
     if address == 255 { 0 } else { address + 1 }
 }
 
-fn wide(x: u8) -> u16
+fn to_u16(x: u8) -> u16
     ensures { λ r. ⌜ r ≡ x ⌝ }
 {
     x as u16

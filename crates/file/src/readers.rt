@@ -4,11 +4,15 @@ ghost use mathlib.Core.List.{[]};
 ghost use Prim.Native.Nat.{_<_};
 ghost use lib.Dec.{eqb};
 ghost use lib.ListN.{getD, length};
+ghost use Rattle.file.specs.Registers.{registerCount};
 ghost use Rattle.file.specs.Readers.{nameTable, numberOf, same, readRegister, readNamed, readPalette, readBank, readPointer, readToggle, noEntry, entryTold};
 use crate::answer::Answer;
 use crate::palette::Colour;
 use crate::palette::Pointer;
+use crate::registers::BANK;
 use crate::registers::File;
+use crate::registers::PALETTE;
+use crate::registers::REGISTERS;
 use crate::sound::is_sound;
 
 // An entry of the palette or the bank; black where the answer is not 0.
@@ -134,7 +138,7 @@ const NAMES: [u8; 1200] = *b"\
 
 // Whether a register's name has this many bytes: the dots begin behind its last.
 fn ends_at(number: usize, count: usize) -> bool
-    requires { ⌜ number < 100 ⌝ }
+    requires { ⌜ number < registerCount ⌝ }
     ensures { λ r. ⌜ r ≡ eqb (length (getD nameTable number [])) count ⌝ }
 {
     if 10 < count {
@@ -149,7 +153,7 @@ fn ends_at(number: usize, count: usize) -> bool
 
 // Whether a register has this name.
 fn is_name(number: usize, name: &[u8]) -> bool
-    requires { ⌜ number < 100 ⌝ }
+    requires { ⌜ number < registerCount ⌝ }
     ensures { λ r. ⌜ r ≡ same (getD nameTable number []) (now (name .entry)) ⌝ }
 {
     if !ends_at(number, name.len()) {
@@ -166,18 +170,18 @@ fn is_name(number: usize, name: &[u8]) -> bool
     true
 }
 
-// The number of the register of a name; 100 if there is none.
+// The number of the register of a name; that of none if there is none.
 fn number_named(name: &[u8]) -> usize
     ensures { λ r. ⌜ r ≡ numberOf (now (name .entry)) ⌝ }
 {
     let mut number = 0;
-    while number < 100 {
+    while number < REGISTERS {
         if is_name(number, name) {
             return number;
         }
         number += 1;
     }
-    100
+    REGISTERS
 }
 
 impl EntryRead {
@@ -222,7 +226,7 @@ impl File {
         if !is_sound(self) {
             return Answer::NotSound;
         }
-        if number < 100 {
+        if number < REGISTERS {
             Answer::Done(self.registers[number])
         } else {
             Answer::NoRegister
@@ -240,18 +244,18 @@ impl File {
     pub fn palette_entry(self, entry: usize) -> EntryRead
         ensures { λ r. ⌜ r ≡ readPalette self entry ⌝ }
     {
-        let at = entry % 256;
+        let at = entry % PALETTE;
         let colour = self.palette[at];
-        EntryRead::told(is_sound(self), entry < 256, colour)
+        EntryRead::told(is_sound(self), entry < PALETTE, colour)
     }
 
     // The same for the bank.
     pub fn bank_entry(self, entry: usize) -> EntryRead
         ensures { λ r. ⌜ r ≡ readBank self entry ⌝ }
     {
-        let at = entry % 16;
+        let at = entry % BANK;
         let colour = self.bank[at];
-        EntryRead::told(is_sound(self), entry < 16, colour)
+        EntryRead::told(is_sound(self), entry < BANK, colour)
     }
 
     // The palette pointer.
@@ -259,7 +263,7 @@ impl File {
         ensures { λ r. ⌜ r ≡ readPointer self ⌝ }
     {
         if is_sound(self) {
-            let pointer = self.pointer;
+            let pointer = self.state.pointer;
             PointerRead {
                 answer: Answer::Done(0),
                 pointer,
@@ -279,7 +283,7 @@ impl File {
         if is_sound(self) {
             ToggleRead {
                 answer: Answer::Done(0),
-                toggle: self.toggle,
+                toggle: self.state.toggle,
             }
         } else {
             ToggleRead {

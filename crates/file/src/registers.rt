@@ -1,23 +1,28 @@
 ghost use mathlib.Core.Path.{_≡_};
 ghost use Prim.Native.Nat.{_<_};
 ghost use Rattle.file.specs.File.{powerOn};
-ghost use Rattle.file.specs.Registers.{storedBits};
+ghost use Rattle.file.specs.Registers.{storedBits, storedTable};
 use crate::palette::Colour;
-use crate::palette::Pointer;
+use crate::state::State;
 
-// The register file. The registers are those of 01's list of stored bits, by their numbers there;
-// the toggle says whether the next 3C0h write is data.
+// How many registers a file has, and how many entries its palette and its bank have.
+pub const REGISTERS: usize = 100;
+
+pub const PALETTE: usize = 256;
+
+pub const BANK: usize = 16;
+
+// The register file. The registers are those of 01's list of stored bits, by their numbers there; the state is everything else but the colours.
 pub struct File {
-    pub registers: [u16; 100],
-    pub palette: [Colour; 256],
-    pub bank: [Colour; 16],
-    pub pointer: Pointer,
-    pub toggle: bool,
+    pub registers: [u16; REGISTERS],
+    pub palette: [Colour; PALETTE],
+    pub bank: [Colour; BANK],
+    pub state: State,
 }
 
 impl File {
     // The bits that each register stores.
-    pub const STORED: [u16; 100] = [
+    pub const STORED: [u16; REGISTERS] = [
         0xEF, // MISC
         0x1F, // SRX
         0x3F, // CRX
@@ -129,27 +134,26 @@ impl File {
             green: 0,
             blue: 0,
         };
-        let pointer = Pointer {
-            address: 0,
-            reading: false,
-            next: 0,
-            red: 0,
-            green: 0,
-        };
         File {
-            registers: [0; 100],
-            palette: [black; 256],
-            bank: [black; 16],
-            pointer,
-            toggle: false,
+            registers: [0; REGISTERS],
+            palette: [black; PALETTE],
+            bank: [black; BANK],
+            state: State::power_on(),
         }
+    }
+
+    // The stored bits of every register by value, for those who lend them: a constant that is indexed is copied first.
+    pub fn stored() -> [u16; REGISTERS]
+        ensures { λ r. ⌜ r ≡ storedTable ⌝ }
+    {
+        File::STORED
     }
 
     // The bits that a register stores, by its number; none of a number that no register has.
     pub fn stored_bits(number: usize) -> u16
         ensures { λ r. ⌜ r ≡ storedBits number ⌝ }
     {
-        if number < 100 {
+        if number < REGISTERS {
             File::STORED[number]
         } else {
             0

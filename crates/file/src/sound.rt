@@ -1,25 +1,35 @@
 ghost use mathlib.Core.Path.{_≡_};
 ghost use Rattle.file.specs.Palette.{pointerSound};
 ghost use Rattle.file.specs.Sound.{sound};
+ghost use Rattle.file.specs.State.{stateSound};
 use crate::palette::Pointer;
 use crate::registers::File;
+use crate::registers::REGISTERS;
+use crate::state::State;
 
-// No bit outside the table is set, and the pointer is one that its steps can reach.
+// No bit outside the table is set, and the state is one that accesses can reach.
 pub fn is_sound(file: File) -> bool
     ensures { λ r. ⌜ r ≡ sound file ⌝ }
 {
     let stored = File::STORED;
     let mut stray: u16 = 0;
     let mut i = 0;
-    while i < 100 {
+    while i < REGISTERS {
         stray = stray | bits::stray(stored[i], file.registers[i]);
         i += 1;
     }
     if stray == 0 {
-        pointer_sound(file.pointer)
+        state_sound(file.state)
     } else {
         false
     }
+}
+
+// The pointer is one that its steps can reach.
+fn state_sound(state: State) -> bool
+    ensures { λ r. ⌜ r ≡ stateSound state ⌝ }
+{
+    pointer_sound(state.pointer)
 }
 
 // The next colour is 0 to 2, green is held before blue only, and red after red only.

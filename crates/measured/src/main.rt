@@ -1,6 +1,6 @@
 // For bench/run: runs the trace on standard input from power-on and prints nothing of it; then does one thing some hundred times with
-// the file that it ends in. Words: `run`, or `read`, `write` (the timing) or `plan` and a digit for the hundreds. The number that it
-// prints hangs on all that it did.
+// the file that it ends in. Words: `run`, or `read`, `write` (the timing), `plan` or `restore` (from power-on) and a digit for the
+// hundreds. The number that it prints hangs on all that it did.
 use file::File;
 use libc::STDIN_FILENO;
 use libc::STDOUT_FILENO;
@@ -13,7 +13,7 @@ fn mix(sum: u64, more: u64) -> u64 {
     (sum % 0x1_0000_0000) * 31 + more % 0x1_0000_0000
 }
 
-fn wide(x: u8) -> u64 {
+fn to_u64(x: u8) -> u64 {
     x as u64
 }
 
@@ -27,12 +27,12 @@ struct Course {
 fn run_some(before: Course, trace: &mut [u8; 8192], replies: &mut [u8; 8192]) -> Course {
     let size = io::read_full(STDIN_FILENO, trace);
     let trace: &[u8] = trace;
-    let ran = access::run(before.file, &trace[..size], replies);
+    let ran = trace::run(before.file, &trace[..size], replies);
     let at = (before.sum % 8192) as usize;
     let file = ran.file;
     Course {
         file,
-        sum: mix(before.sum, wide(replies[at])),
+        sum: mix(before.sum, to_u64(replies[at])),
         more: size == 8192,
     }
 }
@@ -63,10 +63,13 @@ fn placed(n: u32) -> u64 {
     n as u64
 }
 
-// The timing read, or a plan made.
+// The timing read, a plan made, or the file restored.
 fn look(what: u8, file: File, buffer: &mut [u8; 8192]) -> u64 {
     if what == b'p' {
         return counted(plan::plan(file, buffer).count);
+    }
+    if what == b's' {
+        return counted(plan::restore(File::power_on(), file, buffer).count);
     }
     placed(read_timing(file).timing.screen_start)
 }
@@ -80,7 +83,7 @@ fn look_many(what: u8, file: File, times: u64) -> u64 {
         left -= 1;
     }
     let at = (sum % 8192) as usize;
-    mix(sum, wide(buffer[at]))
+    mix(sum, to_u64(buffer[at]))
 }
 
 fn write_many(file: File, timing: Timing, times: u64) -> u64 {
@@ -92,24 +95,24 @@ fn write_many(file: File, timing: Timing, times: u64) -> u64 {
         let answer = written.answer;
         let after = written.file;
         current = after;
-        sum = mix(sum, wide(answer.code()));
+        sum = mix(sum, to_u64(answer.code()));
         left -= 1;
     }
     sum
 }
 
-// The first byte of a word that the program was started with.
+// The first byte of a word that the program was started with; the third of `restore`, which begins as `read` does.
 fn letter(place: usize) -> u8 {
     let mut word = [0u8; 16];
     os::arg(place, &mut word);
-    word[0]
+    if word[2] == b's' { word[2] } else { word[0] }
 }
 
 fn main() {
     let course = run_input();
     let file = course.file;
     let what = letter(1);
-    let times = wide(letter(2)) % 16 * 100;
+    let times = to_u64(letter(2)) % 16 * 100;
     let done = if what == b'w' {
         write_many(file, read_timing(file).timing, times)
     } else {

@@ -37,26 +37,26 @@ started [] = powerOn
 started (s ∷ ss) = setRegister (s .register) (s .value) (started ss)
 
 -- records as the examples write them
-abbrev wide : ℕ → ℕ → ℕ → ℕ → Record
-wide kind width address value = record { kind = kind; width = width; address = address; value = value }
+abbrev asking : ℕ → ℕ → ℕ → ℕ → Record
+asking kind width address value = record { kind = kind; width = width; address = address; value = value }
 
 abbrev configRead : ℕ → Record
-configRead address = wide 0 2 address 0
+configRead address = asking 0 2 address 0
 
 abbrev configWrite : ℕ → ℕ → Record
-configWrite address value = wide 1 2 address value
+configWrite address value = asking 1 2 address value
 
 abbrev portRead : ℕ → Record
-portRead address = wide 2 1 address 0
+portRead address = asking 2 1 address 0
 
 abbrev portWrite : ℕ → ℕ → Record
-portWrite address value = wide 3 1 address value
+portWrite address value = asking 3 1 address value
 
 abbrev mmioRead : ℕ → Record
-mmioRead address = wide 4 1 address 0
+mmioRead address = asking 4 1 address 0
 
 abbrev mmioWrite : ℕ → ℕ → Record
-mmioWrite address value = wide 5 1 address value
+mmioWrite address value = asking 5 1 address value
 
 -- a record, and the code and value that it gets
 pub record Step : Type 0 where
@@ -108,12 +108,12 @@ blanked clocks =
 
 unfoldable pub examples : List Example
 examples =
-    example "P1" (PCI04 ≔ 0x0000 ∷ []) (portRead 0x3CC gives 3 ∷ wide 9 1 0x3CC 0 gives 2 ∷ []) nothing
+    example "P1" (PCI04 ≔ 0x0000 ∷ []) (portRead 0x3CC gives 3 ∷ asking 9 1 0x3CC 0 gives 2 ∷ []) nothing
     ∷ example "P2" opened (configWrite 0x04 0xFFFF gives 0 ∷ configRead 0x04 reads 0x0027 ∷ []) nothing
     ∷ example "P3" opened (portWrite 0x3C2 0xFF gives 0 ∷ portRead 0x3CC reads 0xEF ∷ mmioRead 0x80 reads 0xEF ∷ []) nothing
     ∷ example "P4" (CR11 ≔ 0x80 ∷ opened) (mmioWrite 0x00 0x00 gives 8 ∷ mmioWrite 0x1C 0xFF gives 0 ∷ mmioRead 0x1C reads 0x10 ∷ []) nothing
     ∷ example "P5" (MISC ≔ 0x01 ∷ opened)
-    (portRead 0x3B4 gives 5 ∷ portWrite 0x3B4 0x00 gives 5 ∷ wide 4 2 0x00 0 gives 6 ∷ wide 5 2 0x00 0 gives 6
+    (portRead 0x3B4 gives 5 ∷ portWrite 0x3B4 0x00 gives 5 ∷ asking 4 2 0x00 0 gives 6 ∷ asking 5 2 0x00 0 gives 6
     ∷ mmioRead 0x70 gives 4 ∷ mmioWrite 0x70 0x00 gives 4 ∷ [])
     nothing
     ∷ example "P6" opened

@@ -7,14 +7,8 @@ mod same;
 mod stored;
 
 use access::Item;
-use access::Next;
-use access::RanAt;
 use access::Record;
 use access::Reply;
-use access::next_from;
-use access::reply_bytes;
-use access::run_from;
-use access::unread;
 use file::Answer;
 use file::File;
 use file::Pointer;
@@ -25,6 +19,12 @@ use printing::print_replies;
 use same::same_bytes;
 use same::same_files;
 use stored::TRACE;
+use trace::Next;
+use trace::RanAt;
+use trace::next_from;
+use trace::reply_bytes;
+use trace::run_from;
+use trace::unread;
 
 // One run; how many replies there are, and how many bytes are left unread.
 fn at_once(trace: &[u8], replies: &mut [u8]) -> File {
@@ -155,7 +155,8 @@ fn from_unsound(trace: &[u8], replies: &mut [u8]) {
         red: 0,
         green: 0,
     };
-    file.pointer = pointer;
+    let state = file.state.pointing(pointer);
+    file.state = state;
     let after = run_from(trace, 0, file, replies);
     let ran = after.ran;
     let answer = ran.answer;

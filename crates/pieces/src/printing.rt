@@ -1,14 +1,14 @@
 // Lines on the standard output.
 use access::Item;
-use access::record_bytes;
 use libc::STDOUT_FILENO;
+use trace::record_bytes;
 
 pub fn print_number(n: usize) {
     io::print_decimal(STDOUT_FILENO, n as u64);
     io::write_all(STDOUT_FILENO, b"\n");
 }
 
-fn wide(x: u8) -> u64 {
+fn to_u64(x: u8) -> u64 {
     x as u64
 }
 
@@ -20,10 +20,10 @@ fn print_reply(replies: &[u8], number: usize) {
     let at = 8 * number;
     io::print_decimal(STDOUT_FILENO, number as u64);
     io::write_all(STDOUT_FILENO, b" ");
-    io::print_decimal(STDOUT_FILENO, wide(replies[at]));
+    io::print_decimal(STDOUT_FILENO, to_u64(replies[at]));
     io::write_all(STDOUT_FILENO, b" ");
-    io::print_hex(STDOUT_FILENO, wide(replies[at + 5]), 2);
-    io::print_hex(STDOUT_FILENO, wide(replies[at + 4]), 2);
+    io::print_hex(STDOUT_FILENO, to_u64(replies[at + 5]), 2);
+    io::print_hex(STDOUT_FILENO, to_u64(replies[at + 4]), 2);
     io::write_all(STDOUT_FILENO, b"\n");
 }
 
@@ -38,7 +38,7 @@ pub fn print_replies(replies: &[u8], count: usize) {
 fn print_bytes(bytes: [u8; 8]) {
     let mut n: usize = 0;
     while n < 8 {
-        io::print_hex(STDOUT_FILENO, wide(bytes[n]), 2);
+        io::print_hex(STDOUT_FILENO, to_u64(bytes[n]), 2);
         n += 1;
     }
     io::write_all(STDOUT_FILENO, b"\n");

@@ -2,6 +2,7 @@
 use file::Colour;
 use file::File;
 use file::Pointer;
+use file::REGISTERS;
 
 pub fn same_bytes(a: &[u8; 216], b: &[u8; 216]) -> bool {
     let mut n: usize = 0;
@@ -28,7 +29,7 @@ fn same_pointer(a: Pointer, b: Pointer) -> bool {
 
 // A register, an entry of the palette and one of the bank, each by a number modulo how many there are.
 fn same_at(a: File, b: File, n: usize) -> bool {
-    let register = n % 100;
+    let register = n % REGISTERS;
     let entry = n % 256;
     let within = n % 16;
     a.registers[register] == b.registers[register]
@@ -44,5 +45,5 @@ pub fn same_files(a: File, b: File) -> bool {
         }
         n += 1;
     }
-    a.toggle == b.toggle && same_pointer(a.pointer, b.pointer)
+    a.state.toggle == b.state.toggle && same_pointer(a.state.pointer, b.state.pointer)
 }

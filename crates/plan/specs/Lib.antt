@@ -1,7 +1,11 @@
 pub mod Roads
-pub mod Steps
+pub mod RoadRecords
 pub mod Plan
 pub mod Restores
 pub mod Refusals
-pub mod Written
 pub mod Promises
+pub mod Appended
+pub mod EngineRows
+pub mod RegisterStage
+pub mod ColourStage
+pub mod StageEnds

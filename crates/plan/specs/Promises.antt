@@ -7,25 +7,24 @@ use mathlib.Core.List.{List}
 use lib.ListN.{length}
 use Rattle.file.specs.declared.registers.File.{File}
 use Rattle.file.specs.Answers.{refused}
-use Rattle.access.specs.Records.{items}
-use Rattle.access.specs.Run.{fileAfter}
-use Rattle.plan.specs.declared.planning.Planned.{Planned as Answered}
+use Rattle.trace.specs.Records.{items}
+use Rattle.trace.specs.Run.{fileAfter}
+use Rattle.plan.specs.declared.planning.Planned.{Planned}
 use Rattle.plan.specs.declared.restoring.Restored.{Restored}
-use Rattle.plan.specs.Plan.{planRecords}
 use Rattle.plan.specs.Refusals.{planAnswer, restoreAnswer}
-use Rattle.plan.specs.Restores.{Planned}
+use Rattle.plan.specs.Restores.{PlanWritten}
 
 -- a plan, by what the buffer holds before and after: 'Plan: 12, 13, 11'; which plan it is stays open
-pub record PlanKept (w : File) (before after : List ℕ) (r : Answered) : Type 0 where
+pub record PlanKept (w : File) (before after : List ℕ) (r : Planned) : Type 0 where
   pub answered : r .answer ≡ planAnswer w (length before)
-  pub made : refused (r .answer) ≡ false → Planned w before after (r .count)
+  pub made : refused (r .answer) ≡ false → PlanWritten w before after (r .count)
   pub none : refused (r .answer) ≡ true → r .count ≡ 0
   pub kept : refused (r .answer) ≡ true → after ≡ before
 
--- a restore: '12, 13, 11, 14', and 'the file the run ends in', which is the wanted one
+-- a restore: '12, 13, 11', never 14 by what `made` says of the records, and 'the file the run ends in', which is the wanted one
 pub record RestoreKept (f w : File) (before after : List ℕ) (r : Restored) : Type 0 where
-  pub answered : r .answer ≡ restoreAnswer f w (length before) (planRecords w)
-  pub made : refused (r .answer) ≡ false → Planned w before after (r .count)
+  pub answered : r .answer ≡ restoreAnswer f w (length before)
+  pub made : refused (r .answer) ≡ false → PlanWritten w before after (r .count)
   pub ran : r .file ≡ fileAfter f (items (r .count) after)
   pub restored : refused (r .answer) ≡ false → r .file ≡ w
   pub none : refused (r .answer) ≡ true → r .count ≡ 0

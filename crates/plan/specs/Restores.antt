@@ -13,8 +13,8 @@ use Rattle.file.specs.Answers.{codeOf}
 use Rattle.file.specs.Sound.{sound}
 use Rattle.access.specs.declared.record.Item.the-variants.{Whole}
 use Rattle.access.specs.declared.record.Record.{Record}
-use Rattle.access.specs.Records.{bytesOf}
-use Rattle.access.specs.Run.{fileAfter, answers}
+use Rattle.trace.specs.Records.{bytesOf}
+use Rattle.trace.specs.Run.{fileAfter, answers}
 
 -- 'accepted means code 0'
 unfoldable pub accepted : Answer → Bool
@@ -25,7 +25,7 @@ allAccepted [] = true
 allAccepted (a ∷ as′) = accepted a && allAccepted as′
 
 -- from one file, every record is accepted and the run ends in another
-pub record Runs (f : File) (records : List Record) (g : File) : Type 0 where
+pub record RunsInto (f : File) (records : List Record) (g : File) : Type 0 where
   pub allDone : T (allAccepted (answers f (map Whole records)))
   pub ends : fileAfter f (map Whole records) ≡ g
 
@@ -53,16 +53,16 @@ pub record IsFile (f : File) : Type 0 where
   pub bank : length (f .bank) ≡ 16
   pub paletteBytes : T (bytes (f .palette))
   pub bankBytes : T (bytes (f .bank))
-  pub address : f .pointer .address < 256
+  pub address : f .state .pointer .address < 256
 
 -- demand 3: records that are a plan of a wanted file. Several are; `planRecords` is one
 pub record Plans (w : File) (records : List Record) : Type 0 where
   pub room : length records ≤ 1024
   pub whole : T (allInBytes records)
-  pub restores : (f : File) → IsFile f → T (sound f) → Runs f records w
+  pub restores : (f : File) → IsFile f → T (sound f) → RunsInto f records w
 
 -- 'the plan fills the buffer's first 8 bytes times the count, and the rest stays': what a buffer holds before and after
-pub record Planned (w : File) (before after : List ℕ) (count : ℕ) : Type 0 where
+pub record PlanWritten (w : File) (before after : List ℕ) (count : ℕ) : Type 0 where
   pub records : List Record
   pub plans : Plans w records
   pub counted : count ≡ length records

@@ -5,12 +5,10 @@ use mathlib.Core.Bool.{cond}
 use mathlib.Core.List.{List, [], _∷_, _++_}
 use lib.Dec.{eqb}
 use Rattle.bits.specs.Store.{bit}
-use Rattle.file.specs.declared.registers.File.{File}
-use Rattle.file.specs.File.{register}
+use Rattle.places.specs.Lookup.{isOneOf}
 use Rattle.file.specs.Names.{MISC, SRX, CRX, GRX, ARX, pixelMask, PCI04, SR0, CR0, CR11, GR0, AR0, B0}
 use Rattle.file.specs.Registers.{Register as Stored, sequencer, crtc, graphics, attribute, pipeline}
-use Rattle.access.specs.Checks.{isOneOf}
-use Rattle.access.specs.Places.{Index, any, sr, gr, indexDue, dataDue}
+use Rattle.places.specs.Places.{Index, any, sr, gr, indexDue, dataDue}
 
 -- a road: the register's number; the kind, width and address of the record that writes it; the index that has to be selected first
 pub record Road : Type 0 where
@@ -46,7 +44,7 @@ unfoldable pub but : List ℕ → List Road → List Road
 but numbers [] = []
 but numbers (r ∷ rs) = cond (isOneOf numbers (r .register)) [] (r ∷ []) ++ but numbers rs
 
--- what has to stand open while a plan runs: written first, and the first three of them once more at the end
+-- what has to stand open while a plan runs: written first
 abbrev pub toPCI04 : Road
 toPCI04 = configRoad PCI04 0x04
 
@@ -59,8 +57,13 @@ toB0 = mmioRoad B0 1 0xB0
 abbrev pub toMISC : Road
 toMISC = mmioRoad MISC 1 0x80
 
+-- three of them once more at the end, PCI04 last
+unfoldable pub closingRoads : List Road
+closingRoads = toB0 ∷ toCR11 ∷ toPCI04 ∷ []
+
 -- 'pixel mask A0h', 'CRn at 4n', 'the 15 pipeline registers stored below, at their offsets'; '3C4h/3C5h', '3CEh/3CFh', '3C0h .. index or data by the toggle'
 unfoldable pub registerRoads : List Road
+unfolding eachRoad but isOneOf crtc pipeline sequencer graphics attribute
 registerRoads =
     but (CR11 ∷ B0 ∷ [])
     (mmioRoad pixelMask 1 0xA0
@@ -81,11 +84,11 @@ abbrev pub toARX : Road
 toARX = portRoad ARX 0x3C0 indexDue
 
 -- '? is B or D': by MISC[0] of the wanted file, which MISC holds by then
-unfoldable pub byHalf : File → ℕ → ℕ → ℕ
-byHalf w monochrome colour = cond (eqb (bit 0 (register w MISC)) 1) colour monochrome
+unfoldable pub byHalf : ℕ → ℕ → ℕ → ℕ
+byHalf misc monochrome colour = cond (eqb (bit 0 misc) 1) colour monochrome
 
-abbrev pub toCRX : File → Road
-toCRX w = portRoad CRX (byHalf w 0x3B4 0x3D4) any
+abbrev pub toCRX : ℕ → Road
+toCRX misc = portRoad CRX (byHalf misc 0x3B4 0x3D4) any
 
-unfoldable pub indexRoads : File → List Road
-indexRoads w = toSRX ∷ toGRX ∷ toCRX w ∷ []
+unfoldable pub indexRoads : ℕ → List Road
+indexRoads misc = toSRX ∷ toGRX ∷ toCRX misc ∷ []

@@ -1,9 +1,9 @@
 // The plan: records that put any card into a wanted file.
-mod bytes;
 mod planning;
 mod records;
 mod restoring;
 mod rows;
+mod stages;
 
 pub use planning::Planned;
 pub use planning::plan;

@@ -1,12 +1,15 @@
 ghost use mathlib.Core.Path.{_≡_};
-ghost use mathlib.Core.List.{_++_};
-ghost use Prim.Native.Nat.{_≤_};
-ghost use lib.ListN.{length, drop};
+ghost use Prim.Native.Nat.{_+_, _*_, _≤_};
+ghost use lib.ListN.{length};
+ghost use Rattle.plan.specs.Appended.{Appended};
 ghost use Rattle.plan.specs.Plan.{planRecords};
-ghost use Rattle.plan.specs.Restores.{traceOf};
 ghost use Rattle.plan.specs.Promises.{PlanKept};
-use crate::bytes::put;
-use crate::records::record_at;
+use crate::rows::put_registers;
+use crate::rows::register_rows;
+use crate::stages::put_closing;
+use crate::stages::put_colours;
+use crate::stages::put_indices;
+use crate::stages::put_opening;
 use file::Answer;
 use file::File;
 use file::is_sound;
@@ -17,16 +20,21 @@ pub struct Planned {
     pub count: usize,
 }
 
-// Writes the 973 records of a plan, and leaves what stands behind them.
-fn write_records(wanted: File, buffer: &mut [u8])
-    requires { ⌜ 7784 ≤ length (now buffer) ⌝ }
-    ensures { λ _. ⌜ now (buffer .exit) ≡ traceOf (planRecords wanted) ++ drop 7784 (now (buffer .entry)) ⌝ }
+// The records of a plan, stage by stage.
+fn put_plan(wanted: File, buffer: &mut [u8], at: usize) -> usize
+    requires { ⌜ at + 8 * length (planRecords wanted) ≤ length (now buffer) ⌝ }
+    ensures { λ r. ⌜ Appended (now (buffer .entry)) at (planRecords wanted) (now (buffer .exit)) r ⌝ }
 {
-    let mut k: usize = 0;
-    while k < 973 {
-        put(buffer, k, record_at(wanted, k));
-        k += 1;
-    }
+    let all = wanted.registers;
+    let registers = &all[..];
+    let palette = wanted.palette;
+    let bank = wanted.bank;
+    let rows = register_rows();
+    let at = put_opening(registers, buffer, at);
+    let at = put_colours(palette, bank, buffer, at);
+    let at = put_registers(&rows, registers, buffer, at);
+    let at = put_indices(registers, wanted.state.toggle, buffer, at);
+    put_closing(registers, wanted.state.pointer, buffer, at)
 }
 
 // A plan of the wanted file, whatever file it is run from: 12, 13, 11, or 0 with the buffer's first 8 bytes times the
@@ -35,22 +43,23 @@ pub fn plan(wanted: File, buffer: &mut [u8]) -> Planned
     ensures { λ r. ⌜ PlanKept wanted (now (buffer .entry)) (now (buffer .exit)) r ⌝ }
 {
     if !is_sound(wanted) {
-        return refused(Answer::NotSound);
+        return no_plan(Answer::NotSound);
     }
-    if wanted.pointer.next != 0 {
-        return refused(Answer::NotBeforeRed);
+    if wanted.state.pointer.next != 0 {
+        return no_plan(Answer::NotBeforeRed);
     }
     if buffer.len() < 8192 {
-        return refused(Answer::ShortBuffer);
+        return no_plan(Answer::ShortBuffer);
     }
-    write_records(wanted, buffer);
+    let end = put_plan(wanted, buffer, 0);
     Planned {
         answer: Answer::Done(0),
-        count: 973,
+        count: end / 8,
     }
 }
 
-fn refused(answer: Answer) -> Planned
+// A refusal has no records.
+fn no_plan(answer: Answer) -> Planned
     ensures { λ r. ⌜ r ≡ record { answer = answer; count = 0 } ⌝ }
 {
     Planned { answer, count: 0 }

@@ -2,6 +2,8 @@
 use file::Colour;
 use file::File;
 use file::Pointer;
+use file::REGISTERS;
+use file::State;
 use libc::STDOUT_FILENO;
 use paper::set_register;
 use plan::plan;
@@ -33,7 +35,7 @@ fn is_filled(buffer: &[u8], from: usize) -> bool {
 }
 
 fn same_registers(a: File, b: File) -> bool {
-    for i in 0..100 {
+    for i in 0..REGISTERS {
         if a.registers[i] != b.registers[i] {
             return false;
         }
@@ -68,8 +70,8 @@ fn same_pointer(a: Pointer, b: Pointer) -> bool {
 fn same(a: File, b: File) -> bool {
     same_registers(a, b)
         && same_entries(a, b)
-        && same_pointer(a.pointer, b.pointer)
-        && a.toggle == b.toggle
+        && same_pointer(a.state.pointer, b.state.pointer)
+        && a.state.toggle == b.state.toggle
 }
 
 // A number and a byte that differ from place to place.
@@ -85,9 +87,9 @@ fn colour_at(i: usize) -> Colour {
     }
 }
 
-fn varied_registers() -> [u16; 100] {
-    let mut registers = [0u16; 100];
-    for i in 0..100 {
+fn varied_registers() -> [u16; REGISTERS] {
+    let mut registers = [0u16; REGISTERS];
+    for i in 0..REGISTERS {
         registers[i] = bits::store(File::stored_bits(i), 0, word_at(i + 1));
     }
     registers
@@ -107,8 +109,10 @@ fn varied() -> File {
         registers: varied_registers(),
         palette,
         bank,
-        pointer: Pointer::addressed(true, 0x7B),
-        toggle: true,
+        state: State {
+            pointer: Pointer::addressed(true, 0x7B),
+            toggle: true,
+        },
     }
 }
 
@@ -133,14 +137,17 @@ fn everything_set() -> File {
         registers: File::STORED,
         palette: [white; 256],
         bank: [white; 16],
-        pointer: pointer_before(2, 0x5A, 0xC3),
-        toggle: true,
+        state: State {
+            pointer: pointer_before(2, 0x5A, 0xC3),
+            toggle: true,
+        },
     }
 }
 
 fn with_pointer(file: File, pointer: Pointer) -> File {
     let mut set = file;
-    set.pointer = pointer;
+    let state = set.state.pointing(pointer);
+    set.state = state;
     set
 }
 

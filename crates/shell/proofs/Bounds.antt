@@ -10,8 +10,8 @@ use Rattle.bits.proofs.Test.{by-test}
 use Rattle.file.specs.declared.registers.File.{File}
 use Rattle.file.specs.Answers.{refused}
 use Rattle.file.specs.Sound.{sound}
-use Rattle.access.specs.Records.{items, itemCount}
-use Rattle.access.proofs.Runs.{run-sound}
+use Rattle.trace.specs.Records.{items, itemCount}
+use Rattle.trace.proofs.RunMore.{run-sound}
 use Rattle.plan.specs.declared.planning.Planned.{Planned}
 use Rattle.plan.specs.Promises.{PlanKept}
 use Rattle.shell.specs.Parts.{afterPart}

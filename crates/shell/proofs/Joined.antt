@@ -8,10 +8,10 @@ use lib.ListN.{length, length-append}
 use Rattle.bits.proofs.Test.{left, right}
 use Rattle.file.specs.declared.registers.File.{File}
 use Rattle.file.specs.File.{powerOn}
-use Rattle.access.specs.Records.{items, itemCount}
-use Rattle.access.specs.Run.{fileAfter}
+use Rattle.trace.specs.Records.{items, itemCount}
+use Rattle.trace.specs.Run.{fileAfter}
 use Rattle.text.specs.Text.{recordLines, replayed, replayedFrom}
-use Rattle.access.proofs.Pieces.{file-in-parts}
+use Rattle.trace.proofs.RunInPieces.{file-in-parts}
 use Rattle.text.proofs.Pieces.{replayed-in-pieces, trace-cut}
 use Rattle.shell.specs.Parts.{afterPart, inParts, joined, partLines, wholeButLast}
 

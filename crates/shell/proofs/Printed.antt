@@ -11,11 +11,11 @@ use lib.Seq.{take-at, take-append-seam}
 use Rattle.bits.proofs.Test.{is-true}
 use Rattle.file.specs.declared.registers.File.{File}
 use Rattle.file.specs.Sound.{sound}
-use Rattle.access.specs.Records.{items, itemCount}
-use Rattle.access.specs.declared.running.Ran.{Ran}
-use Rattle.access.specs.Run.{replies, run, ran, runCount}
-use Rattle.access.specs.Run.{Ran as LeftBy}
-use Rattle.access.proofs.Runs.{items-length, replies-length}
+use Rattle.trace.specs.Records.{items, itemCount}
+use Rattle.trace.specs.declared.running.Ran.{Ran}
+use Rattle.trace.specs.Run.{replies, run, ran, runCount}
+use Rattle.trace.specs.Run.{RunLeft as LeftBy}
+use Rattle.trace.proofs.RunMore.{items-length, replies-length}
 use Rattle.text.specs.Lent.{behindIf, placedIf}
 use Rattle.text.specs.Text.{linesFit, replyLines}
 use Rattle.text.proofs.Pieces.{lines-of-run}

@@ -13,8 +13,8 @@ use Rattle.file.specs.declared.registers.File.{File}
 use Rattle.file.specs.File.{powerOn}
 use Rattle.file.specs.Sound.{sound}
 use Rattle.file.proofs.Soundness.{powerOn-sound}
-use Rattle.access.specs.Records.{items, itemCount}
-use Rattle.access.specs.Run.{fileAfter}
+use Rattle.trace.specs.Records.{items, itemCount}
+use Rattle.trace.specs.Run.{fileAfter}
 use Rattle.text.specs.Text.{recordLines}
 use Rattle.shell.specs.declared.course.Course.{Course}
 use Rattle.shell.specs.declared.course.Part.{Part}

@@ -9,8 +9,8 @@ use lib.ListN.{length, take}
 use Rattle.io.specs.Counts.{Counts}
 use Rattle.file.specs.declared.registers.File.{File}
 use Rattle.file.specs.File.{powerOn}
-use Rattle.access.specs.Records.{items, itemCount}
-use Rattle.access.specs.Run.{fileAfter}
+use Rattle.trace.specs.Records.{items, itemCount}
+use Rattle.trace.specs.Run.{fileAfter}
 use Rattle.timing.specs.Timing.{timingIn}
 use Rattle.text.specs.Text.{recordLines, timingLine}
 use Rattle.shell.specs.declared.course.Course.{Course}

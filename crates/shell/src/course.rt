@@ -6,7 +6,7 @@ ghost use lib.Dec.{T};
 ghost use lib.ListN.{length};
 ghost use Rattle.io.specs.Counts.{Counts};
 ghost use Rattle.file.specs.Sound.{sound};
-ghost use Rattle.access.specs.Records.{itemCount};
+ghost use Rattle.trace.specs.Records.{itemCount};
 ghost use Rattle.shell.specs.Parts.{Came, Parted, Turned};
 use crate::reading::Filled;
 use crate::reading::fill;
@@ -48,7 +48,7 @@ fn run_part(
     requires { ⌜ number + itemCount (now trace) < 2 ^ 64 ⌝ }
     ensures { λ r. ⌜ Parted before number prints (now (trace .entry)) (now (lines .exit)) r ⌝ }
 {
-    let ran = access::run(before, trace, replies);
+    let ran = trace::run(before, trace, replies);
     let file = ran.file;
     let count = ran.count;
     if prints {

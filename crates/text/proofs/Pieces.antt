@@ -8,10 +8,10 @@ use lib.ListN.{length, take, drop, length-append, length-drop}
 use lib.Seq.{take-append-le, drop-append-le}
 use Rattle.access.specs.declared.record.Item.{Item}
 use Rattle.access.specs.Access.{accessItem, replyTo}
-use Rattle.access.specs.Records.{itemCount, itemOf, items, replyBytes, two}
-use Rattle.access.specs.Run.{fileAfter, replies}
-use Rattle.access.proofs.Pieces.{file-in-parts}
-use Rattle.access.proofs.Runs.{items-length}
+use Rattle.trace.specs.Records.{itemCount, itemOf, items, replyBytes, two}
+use Rattle.trace.specs.Run.{fileAfter, replies}
+use Rattle.trace.proofs.RunInPieces.{file-in-parts}
+use Rattle.trace.proofs.RunMore.{items-length}
 use Rattle.file.specs.declared.registers.File.{File}
 use Rattle.file.specs.Answers.{codeOf, valueOf}
 use Rattle.file.specs.File.{powerOn}

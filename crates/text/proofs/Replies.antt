@@ -9,7 +9,7 @@ use borrow.Author.Tests.{le-leb, lt-leb, lt-ltb, ltb-true, ltb-false}
 use lib.Dec.{leb, ltb, leb→le, ltb→lt}
 use lib.ListN.{length, getD, drop, length-append}
 use lib.Seq.{drop-drop, getD-drop}
-use Rattle.access.specs.Records.{two}
+use Rattle.trace.specs.Records.{two}
 use Rattle.bits.proofs.Test.{by-test, left, right, passes}
 use Rattle.text.specs.Text.{lineOf, linesFit, replyLines}
 

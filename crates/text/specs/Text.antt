@@ -8,8 +8,8 @@ use lib.ListN.{getD, drop}
 use Rattle.io.specs.Digits.{digits}
 use Rattle.access.specs.declared.record.Item.{Item}
 use Rattle.access.specs.Access.{accessItem}
-use Rattle.access.specs.Records.{items, itemCount, two}
-use Rattle.access.specs.Run.{fileAfter}
+use Rattle.trace.specs.Records.{items, itemCount, two}
+use Rattle.trace.specs.Run.{fileAfter}
 use Rattle.file.specs.declared.answer.Answer.{Answer}
 use Rattle.file.specs.declared.registers.File.{File}
 use Rattle.file.specs.Answers.{codeOf, valueOf}

@@ -4,13 +4,14 @@ ghost use mathlib.Core.List.{_++_};
 ghost use Prim.Native.Nat.{_+_, _*_, _/_, _≤_, _<_};
 ghost use lib.ListN.{length, getD};
 ghost use Rattle.io.specs.Digits.{digits};
-ghost use Rattle.access.specs.Records.{two};
+ghost use Rattle.trace.specs.Records.{two as twoIn};
 ghost use Rattle.text.specs.Lent.{Wrote, placed, placedIf, behind, behindIf};
 ghost use Rattle.text.specs.Text.{linesFit, lineOf, replyLines, space};
 use crate::number::byte;
 use crate::number::hex;
 use crate::number::places;
 use crate::number::spell;
+use trace::two;
 
 // A record's number, code and value, from a place of the buffer on, and the place behind the line; nothing is stored where there is no room.
 pub fn record_line(buffer: &mut [u8], at: usize, number: u64, code: u8, value: u16) -> usize
@@ -74,17 +75,11 @@ fn lines(number: u64, count: usize, replies: &[u8], buffer: &mut [u8], at: usize
 fn reply_line(number: u64, replies: &[u8], from: usize, buffer: &mut [u8], at: usize) -> usize
     requires { ⌜ from + 8 ≤ length (now replies) ⌝ }
     requires { ⌜ at + 30 ≤ length (now buffer) ⌝ }
-    ensures { λ r. ⌜ Wrote (now (buffer .entry)) at (lineOf number (getD (now (replies .entry)) from 0) (two (now (replies .entry)) (from + 4))) (now (buffer .exit)) r ⌝ }
+    ensures { λ r. ⌜ Wrote (now (buffer .entry)) at (lineOf number (getD (now (replies .entry)) from 0) (twoIn (now (replies .entry)) (from + 4))) (now (buffer .exit)) r ⌝ }
     ensures { λ r. ⌜ r ≤ at + 30 ⌝ }
 {
-    let value = joined(replies[from + 4], replies[from + 5]);
+    let value = two(replies[from + 4], replies[from + 5]);
     line(number, replies[from], value, buffer, at)
-}
-
-fn joined(low: u8, high: u8) -> u16
-    ensures { λ r. ⌜ r ≡ low + 256 * high ⌝ }
-{
-    low as u16 + 256 * (high as u16)
 }
 
 // A record's line, from a place of a buffer that has room for it on; the place behind it.

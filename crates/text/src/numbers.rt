@@ -44,7 +44,7 @@ fn spaced_size(numbers: &[u32; 15]) -> usize
 {
     let mut size = 0;
     for i in 0..15 {
-        size += 1 + places(wide(numbers[i]));
+        size += 1 + places(to_u64(numbers[i]));
     }
     size
 }
@@ -57,7 +57,7 @@ fn spell_each(numbers: &[u32; 15], buffer: &mut [u8], at: usize) -> usize
 {
     let mut at = at;
     for i in 0..15 {
-        at = spell_behind(wide(numbers[i]), buffer, at);
+        at = spell_behind(to_u64(numbers[i]), buffer, at);
     }
     at
 }
@@ -71,7 +71,7 @@ fn spell_behind(n: u64, buffer: &mut [u8], at: usize) -> usize
     spell(n, places(n), buffer, at)
 }
 
-fn wide(n: u32) -> u64
+fn to_u64(n: u32) -> u64
     ensures { λ r. ⌜ r ≡ n ⌝ }
 {
     n as u64

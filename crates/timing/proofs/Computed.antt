@@ -1,28 +1,27 @@
 -- 01's table of timing numbers, wide and narrow: each rule of it that the proofs use is one computed test.
 -- Assumes nothing.
 use Prim.Native.Nat.{ℕ, _^_, _<_}
-use mathlib.Core.Path.{_≡_, refl, ap, _∙_, subst}
-use mathlib.Core.Bool.{Bool, true, false, _&&_}
-use mathlib.Core.List.{List, [], _∷_}
+use mathlib.Core.Path.{_≡_, refl, sym, ap, _∙_, subst}
+use mathlib.Core.Bool.{Bool, true, false}
+use mathlib.Core.List.{List}
 use native.Mathlib.Omega.{arith}
-use lib.Bits.{bitAnd}
-use lib.Dec.{T, eqb}
+use lib.Dec.{T}
 use lib.ListN.{length, getD, take}
 use lib.Seq.{getD-take}
-use Rattle.bits.specs.Encoded.{most, bounded}
-use Rattle.bits.specs.Numbers.{Number, readFrom, readNumbers}
-use Rattle.bits.specs.Pieces.{Piece, width, pieceReach}
+use Rattle.bits.specs.Numbers.{readFrom, readNumbers}
+use Rattle.bits.specs.Pieces.{width, pieceReach}
+use Rattle.bits.specs.Reach.{piecesReach, disjoint, present, piecesOf, tableReach, fitting}
 use Rattle.bits.specs.Store.{store, within}
-use Rattle.bits.proofs.Bounded.{read-below, read-first}
-use Rattle.bits.proofs.Split.{reachIn, disjoint, placed}
-use Rattle.bits.proofs.Tables.{piecesOf, tableReach, fitting}
-use Rattle.file.specs.Names.{CR3, CR5, CR9, CR11, CR1A, CR1B}
-use Rattle.file.specs.Registers.{storedBits, storedTable, registers, singles, sequencer, crtc, graphics, attribute, pipeline}
+use Rattle.bits.specs.Words.{most, bounded, readWords}
+use Rattle.bits.proofs.Bounded.{words-numbers, read-below, read-first}
+use Rattle.file.specs.Names.{CR1A, CR1B}
+use Rattle.file.specs.Registers.{registerCount, storedBits, storedTable, registers, singles, sequencer, crtc, graphics, attribute, pipeline}
+use Rattle.timing.specs.Promises.{storable, free, unused}
 use Rattle.timing.specs.Table.{table}
 
 -- the pieces lie in the file's registers and are disjoint
-pub table-fits : (w : Bool) → T (fitting 100 (table w))
-unfolding fitting disjoint placed piecesOf reachIn pieceReach table
+pub table-fits : (w : Bool) → T (fitting registerCount (table w))
+unfolding fitting disjoint present piecesOf piecesReach pieceReach table
 table-fits true = tt
 table-fits false = tt
 
@@ -31,6 +30,17 @@ pub table-bounded : (w : Bool) → T (bounded (2 ^ 31) 0 (table w))
 unfolding bounded most width table
 table-bounded true = tt
 table-bounded false = tt
+
+table-count : (w : Bool) → length (table w) ≡ 15
+unfolding table
+table-count true = refl
+table-count false = refl
+
+-- so in fifteen places their words are the numbers themselves
+pub words-read : (w : Bool) (registers places : List ℕ) → length places ≡ 15
+    → readWords 0 (table w) registers places ≡ readNumbers (table w) registers
+words-read w registers places e =
+    words-numbers (2 ^ 31) (table w) registers places (omega arith) (table-bounded w) (e ∙ sym (table-count w))
 
 -- all but the last, the screen start, below 2^16
 first-bounded : (w : Bool) → T (bounded (2 ^ 16) 0 (take 14 (table w)))
@@ -50,50 +60,25 @@ numbers-below w registers k h =
     (ap (λ (l : List ℕ). getD l k 0) (read-first 0 (table w) registers 14) ∙ getD-take 14 (readFrom 0 (table w) registers) k 0 h)
     (read-below (2 ^ 16) 0 (take 14 (table w)) registers (first-bounded w) k (omega (arith, first-count w)))
 
--- each piece lies in stored bits
-unfoldable pub storable : List Piece → Bool
-storable [] = true
-storable (p ∷ ps) = within (storedBits (p .register)) (pieceReach p) && storable ps
-
+-- its pieces lie in stored bits
 pub table-stored : (w : Bool) → T (storable (piecesOf (table w)))
 unfolding storable piecesOf pieceReach table within store storedBits storedTable registers singles sequencer crtc graphics attribute pipeline
 table-stored true = tt
 table-stored false = tt
 
--- bits of the table's registers that belong to no number
-pub record Free : Type 0 where
-  pub register : ℕ
-  pub bits : ℕ
-
-unfoldable pub free : List Free
-free =
-    record { register = CR1A; bits = 0x0F }
-    ∷ record { register = CR1B; bits = 0xE2 }
-    ∷ record { register = CR3; bits = 0xE0 }
-    ∷ record { register = CR5; bits = 0x60 }
-    ∷ record { register = CR9; bits = 0x9F }
-    ∷ record { register = CR11; bits = 0xF0 }
-    ∷ []
-
-unfoldable pub nothing : Free
-nothing = record { register = 0; bits = 0 }
-
-unfoldable pub spares : List Number → List Free → Bool
-spares table [] = true
-spares table (x ∷ xs) = eqb (bitAnd (x .bits) (tableReach table (x .register))) 0 && spares table xs
-
-pub table-spares : (w : Bool) → T (spares (table w) free)
-unfolding spares free tableReach piecesOf reachIn pieceReach table
-table-spares true = tt
-table-spares false = tt
+-- and no number has a bit of the list `free`
+pub table-unused : (w : Bool) → T (unused (table w) free)
+unfolding unused free tableReach piecesOf piecesReach pieceReach table
+table-unused true = tt
+table-unused false = tt
 
 -- 'otherwise .. CR1A[7:4] isn't touched': the narrow table has no piece there
 pub narrow-reach : tableReach (table false) CR1A ≡ 0
-unfolding tableReach piecesOf reachIn pieceReach table
+unfolding tableReach piecesOf piecesReach pieceReach table
 narrow-reach = refl
 
 -- 'The writer never changes CR1B[5] or CR1B[7]'
 pub wide-reach : (w : Bool) → tableReach (table w) CR1B ≡ 0x1D
-unfolding tableReach piecesOf reachIn pieceReach table
+unfolding tableReach piecesOf piecesReach pieceReach table
 wide-reach true = refl
 wide-reach false = refl

@@ -1,12 +1,13 @@
 -- Writing numbers whose pieces lie in stored bits keeps soundness.
 -- Assumes nothing.
+use mathlib.Core.Bool.{false}
 use Prim.Native.Nat.{ℕ, _/_, _%_, _*_, _^_}
 use mathlib.Core.List.{List, [], _∷_, _++_}
 use lib.Dec.{T}
 use Rattle.bits.specs.Numbers.{Number, storedFor, writeNumbers}
 use Rattle.bits.specs.Pieces.{Piece, width, pieceReach, put, scatter}
+use Rattle.bits.specs.Reach.{piecesOf}
 use Rattle.bits.specs.Store.{within}
-use Rattle.bits.proofs.Tables.{piecesOf}
 use Rattle.bits.proofs.Test.{left, right, both}
 use Rattle.file.specs.declared.effect.Effect.{Effect}
 use Rattle.file.specs.declared.effect.Effect.the-variants.{Store}
@@ -14,9 +15,9 @@ use Rattle.file.specs.declared.registers.File.{File}
 use Rattle.file.specs.Effects.{apply, storeIn}
 use Rattle.file.specs.File.{register, withRegisters}
 use Rattle.file.specs.Registers.{storedBits}
-use Rattle.file.specs.Sound.{sound}
-use Rattle.file.proofs.Soundness.{apply-sound, keeps}
-use Rattle.timing.proofs.Computed.{storable}
+use Rattle.file.specs.Sound.{sound, keeps}
+use Rattle.file.proofs.Soundness.{apply-sound}
+use Rattle.timing.specs.Promises.{storable}
 
 storable-left : (ps qs : List Piece) → T (storable (ps ++ qs)) → T (storable ps)
 unfolding storable
@@ -33,7 +34,7 @@ storable-right (p ∷ ps) qs t = storable-right ps qs (right (within (storedBits
 
 -- a piece that is put is a store by its reach
 stored : Piece → ℕ → Effect
-stored p n = Store (p .register) (pieceReach p) (n % 2 ^ p .width * 2 ^ p .low)
+stored p n = Store false (p .register) (pieceReach p) (n % 2 ^ p .width * 2 ^ p .low)
 
 scatter-sound : (ps : List Piece) (n : ℕ) (f : File)
     → T (storable ps) → T (sound f) → T (sound (withRegisters (scatter ps n (f .registers)) f))

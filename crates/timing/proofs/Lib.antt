@@ -1,5 +1,3 @@
-pub mod Part
-pub mod Rows
 pub mod Computed
 pub mod Cases
 pub mod Kept

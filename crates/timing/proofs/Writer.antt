@@ -10,10 +10,11 @@ use lib.Bits.{bitAnd}
 use lib.Dec.{T, eqb}
 use lib.ListN.{getD, length}
 use Rattle.bits.specs.Numbers.{Number, readFrom, readNumbers, allInRange, writeNumbers}
+use Rattle.bits.specs.Reach.{tableReach, fitting}
 use Rattle.bits.specs.Store.{bit}
 use Rattle.bits.proofs.Bit.{by-bits, bit-of-zero}
 use Rattle.bits.proofs.Split.{apart}
-use Rattle.bits.proofs.Tables.{tableReach, fitting, written-outside, read-back, write-back, read-ranged}
+use Rattle.bits.proofs.Tables.{written-outside, read-back, write-back, read-ranged}
 use Rattle.bits.proofs.Test.{left, right, is-true, passes}
 use Rattle.file.specs.declared.answer.Answer.{Answer}
 use Rattle.file.specs.declared.answer.Answer.the-variants.{Done, Locked, OutOfRange, NotSound}
@@ -24,16 +25,11 @@ use Rattle.file.specs.Names.{CR1A, CR1B}
 use Rattle.file.specs.Sound.{sound}
 use Rattle.file.proofs.Soundness.{sound-count}
 use Rattle.timing.specs.declared.Timing.{Timing}
+use Rattle.timing.specs.Promises.{Passes, Free, free, noBits, unused, SameOutsideTable}
 use Rattle.timing.specs.Table.{table, wide}
 use Rattle.timing.specs.Timing.{timingOf, numbersOf, timingIn, readTiming, withTiming, timingAnswer, writtenFile, writeTiming}
 use Rattle.timing.proofs.Kept.{written-sound}
-use Rattle.timing.proofs.Computed.{Free, nothing, free, spares, table-spares, table-fits, table-stored, narrow-reach, wide-reach}
-
--- the three tests that an accepted timing passes
-pub record Passes (f : File) (t : Timing) : Type 0 where
-  pub is-sound : T (sound f)
-  pub unlocked : crtcLocked f ≡ false
-  pub ranged : T (allInRange (table (wide f)) (numbersOf t))
+use Rattle.timing.proofs.Computed.{table-unused, table-fits, table-stored, narrow-reach, wide-reach}
 
 -- accepted if and only if the file is sound and unlocked and every number is in its range
 pub accepted : (f : File) (t : Timing) → (timingAnswer f t ≡ Done 0) ↔ Passes f t
@@ -66,43 +62,34 @@ after-writer P f t p q = by-refusal (refused (timingAnswer f t))
     by-refusal true = p
     by-refusal false = q
 
--- no bit of any register outside the table's pieces differs, nor the palette, the bank, the pointer or the toggle
-pub record SameOutsideTable (before after : File) : Type 0 where
-  pub registers : (r i : ℕ) → bit i (tableReach (table (wide before)) r) ≡ 0 → bit i (register after r) ≡ bit i (register before r)
-  pub palette : after .palette ≡ before .palette
-  pub bank : after .bank ≡ before .bank
-  pub pointer : after .pointer ≡ before .pointer
-  pub toggle : after .toggle ≡ before .toggle
-
 -- no other bit of the whole file moves, whatever the writer answers
 pub same-outside : (f : File) (t : Timing) → SameOutsideTable f (writeTiming f t .file)
 unfolding withTiming withRegisters register
 same-outside f t =
     after-writer (SameOutsideTable f) f t
-    (record { registers = λ r i e. refl; palette = refl; bank = refl; pointer = refl; toggle = refl })
+    (record { registers = λ r i e. refl; palette = refl; bank = refl; state = refl })
     (record {
       registers = λ r i e. written-outside (table (wide f)) (numbersOf t) (f .registers) r i e;
       palette = refl;
       bank = refl;
-      pointer = refl;
-      toggle = refl;
+      state = refl;
     })
 
--- a bit that a table spares is outside its reach
-spared : (table : List Number) (xs : List Free) (k i : ℕ) → T (spares table xs) → bit i (getD xs k nothing .bits) ≡ 1
-    → bit i (tableReach table (getD xs k nothing .register)) ≡ 0
-unfolding spares nothing
-spared table [] k i t e = absurd (let z : _≡_ {A = ℕ} 0 1 = sym (bit-of-zero i) ∙ e in omega arith)
-spared table (x ∷ xs) zero i t e =
-    apart (x .bits) (tableReach table (x .register)) i (left (eqb (bitAnd (x .bits) (tableReach table (x .register))) 0) (spares table xs) t) e
-spared table (x ∷ xs) (suc k) i t e =
-    spared table xs k i (right (eqb (bitAnd (x .bits) (tableReach table (x .register))) 0) (spares table xs) t) e
+-- a bit that no number has is outside the table's reach
+unused-bit : (table : List Number) (xs : List Free) (k i : ℕ) → T (unused table xs) → bit i (getD xs k noBits .bits) ≡ 1
+    → bit i (tableReach table (getD xs k noBits .register)) ≡ 0
+unfolding unused noBits
+unused-bit table [] k i t e = absurd (let z : _≡_ {A = ℕ} 0 1 = sym (bit-of-zero i) ∙ e in omega arith)
+unused-bit table (x ∷ xs) zero i t e =
+    apart (x .bits) (tableReach table (x .register)) i (left (eqb (bitAnd (x .bits) (tableReach table (x .register))) 0) (unused table xs) t) e
+unused-bit table (x ∷ xs) (suc k) i t e =
+    unused-bit table xs k i (right (eqb (bitAnd (x .bits) (tableReach table (x .register))) 0) (unused table xs) t) e
 
 -- CR1A[3:0], CR1B[7:5] and [1], CR3[7:5], CR5[6:5], CR9[7] and [4:0], CR11[7:4] never move: each bit of the list `free`
-pub free-kept : (f : File) (t : Timing) (k i : ℕ) → bit i (getD free k nothing .bits) ≡ 1
-    → bit i (register (writeTiming f t .file) (getD free k nothing .register)) ≡ bit i (register f (getD free k nothing .register))
+pub free-kept : (f : File) (t : Timing) (k i : ℕ) → bit i (getD free k noBits .bits) ≡ 1
+    → bit i (register (writeTiming f t .file) (getD free k noBits .register)) ≡ bit i (register f (getD free k noBits .register))
 free-kept f t k i e =
-    same-outside f t .registers (getD free k nothing .register) i (spared (table (wide f)) free k i (table-spares (wide f)) e)
+    same-outside f t .registers (getD free k noBits .register) i (unused-bit (table (wide f)) free k i (table-unused (wide f)) e)
 
 -- a narrow file keeps CR1A whole
 pub narrow-kept : (f : File) (t : Timing) → wide f ≡ false → register (writeTiming f t .file) CR1A ≡ register f CR1A

@@ -1,7 +1,7 @@
 -- 01, 'Timing': the reader and the writer.
 -- Assumes nothing.
 use Prim.Native.Nat.{ℕ}
-use mathlib.Core.Bool.{Bool, cond}
+use mathlib.Core.Bool.{cond}
 use mathlib.Core.List.{List, [], _∷_}
 use lib.ListN.{getD}
 use Rattle.bits.specs.Numbers.{readNumbers, allInRange, writeNumbers}

@@ -1,5 +1,4 @@
 // The fifteen timing numbers of a register file, in two units that cannot be mixed up.
-mod numbers;
 mod table;
 
 ghost use mathlib.Core.Path.{_≡_};

@@ -3,9 +3,9 @@ ghost use mathlib.Core.Path.{_≡_};
 ghost use lib.ListN.{length};
 ghost use Rattle.bits.specs.Numbers.{readNumbers, allInRange, writeNumbers};
 ghost use Rattle.timing.specs.Table.{table};
-use crate::numbers::all_in_range;
-use crate::numbers::read_numbers;
-use crate::numbers::write_numbers;
+use bits::all_in_range;
+use bits::read_numbers;
+use bits::write_numbers;
 
 // The pieces, high bits first, RRHLh for bits H to L of the register numbered RR.
 const PIECES: [u16; 41] = [
@@ -104,7 +104,6 @@ pub fn read(wide: bool, registers: &[u16], numbers: &mut [u32])
 
 // Whether each of the fifteen numbers is in its range.
 pub fn in_range(wide: bool, numbers: &[u32]) -> bool
-    requires { ⌜ length (now numbers) ≡ 15 ⌝ }
     ensures { λ r. ⌜ r ≡ allInRange (table wide) (now (numbers .entry)) ⌝ }
 {
     if wide {
@@ -116,7 +115,6 @@ pub fn in_range(wide: bool, numbers: &[u32]) -> bool
 
 // The fifteen numbers, written into their pieces.
 pub fn write(wide: bool, registers: &mut [u16], numbers: &[u32])
-    requires { ⌜ length (now numbers) ≡ 15 ⌝ }
     ensures { λ _. ⌜ now (registers .exit) ≡ writeNumbers (table wide) (now (numbers .entry)) (now (registers .entry)) ⌝ }
 {
     if wide {

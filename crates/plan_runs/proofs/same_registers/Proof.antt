@@ -1,14 +1,15 @@
 -- `same_registers` is safe and ends. Assumes nothing.
 use Prim.Native.Nat.{_-_, _≤_}
 use borrow.Author.Needs.{needs}
+use Rattle.file.specs.Registers.{registerCount}
 use Rattle.plan_runs.proofs.same_registers.Statement.{statement}
 use Rattle.plan_runs.proofs.same_registers.Tie as tie
 
 abbrev Inv-loop : tie.InvT-loop
-Inv-loop a b i₀ i = i ≤ 100
+Inv-loop a b i₀ i = i ≤ registerCount
 
 abbrev μ-loop : tie.MeasureT-loop
-μ-loop a b i₀ i = 100 - i
+μ-loop a b i₀ i = registerCount - i
 
 pub same-registers-spec : {M : Type 1} → statement M
 same-registers-spec =

@@ -1,14 +1,13 @@
 -- `shown_in` meets its contract. Assumes nothing.
+use Prim.Native.Nat.{ℕ}
 use mathlib.Core.Path.{sym, ap, _∙_}
 use native.Mathlib.Omega.{arith}
 use Rattle.file.specs.declared.palette.Colour.{Colour}
-use Rattle.file.specs.File.{register, withRegisters, withToggle}
+use Rattle.file.specs.File.{seen, register}
 use Rattle.file.specs.Palette.{component}
-use Rattle.file.proofs.Typed.{address-byte, palette-count, bank-count}
-use Rattle.access.specs.Access.{inBank}
-use Rattle.access.specs.Cells.{seen}
-use Rattle.access.specs.Looked.{shownIn}
-use Rattle.access.proofs.Shown.{entry-in-bank, entry-in-palette}
+use Rattle.file.proofs.Typed.{palette-count, bank-count, address-byte}
+use Rattle.access.specs.Access.{inBank, shownIn}
+use Rattle.access.proofs.EntriesNamed.{entry-in-bank, entry-in-palette}
 use borrow.Author.Needs.{needs}
 use Rattle.access.proofs.access.shown_in.Statement.{statement}
 use Rattle.access.proofs.access.shown_in.Tie as tie
@@ -26,16 +25,16 @@ element-copy-out-colour-2 : tie.Need-element-copy-out-colour-2
 element-copy-out-colour-2 c = omega (arith, rw (c .if1 .left) at (c .before .entry-number .ensures), address-byte (c .before .before .before .before .before .before .args .t1) _ (c .before .before .before .before .before .before .good .0))
 
 returns : tie.Need-returns
-unfolding shownIn inBank seen register withRegisters withToggle
+unfolding shownIn inBank seen register
 returns c = c .component .ensures
-    ∙ ap (λ (k : Colour). component k (c .before .before .before .before .before .before .before .before .args .t1 .pointer .next))
+    ∙ ap (λ (k : Colour). component k (c .before .before .before .before .before .before .before .before .args .t1 .state .pointer .next))
     (entry-in-bank (c .before .before .before .before .before .before .before .before .args .t1) (c .before .before .before .entry-number .result) _ (sym (c .before .before .before .before .is-in-bank .ensures) ∙ c .before .before .if1 .taken) (rw (c .before .before .if1 .taken) at (c .before .before .before .entry-number .ensures))
     (omega (arith, rw (c .before .before .if1 .taken) at (c .before .before .before .entry-number .ensures), bank-count (c .before .before .before .before .before .before .before .before .args .t1) _ (c .before .before .before .before .before .before .before .before .good .0))))
 
 returns-2 : tie.Need-returns-2
-unfolding shownIn inBank seen register withRegisters withToggle
+unfolding shownIn inBank seen register
 returns-2 c = c .component2 .ensures
-    ∙ ap (λ (k : Colour). component k (c .before .before .before .before .before .before .before .before .args .t1 .pointer .next))
+    ∙ ap (λ (k : Colour). component k (c .before .before .before .before .before .before .before .before .args .t1 .state .pointer .next))
     (entry-in-palette (c .before .before .before .before .before .before .before .before .args .t1) (c .before .before .before .entry-number .result) _ (sym (c .before .before .before .before .is-in-bank .ensures) ∙ c .before .before .if1 .left) (rw (c .before .before .if1 .left) at (c .before .before .before .entry-number .ensures))
     (omega (arith, rw (c .before .before .if1 .left) at (c .before .before .before .entry-number .ensures), palette-count (c .before .before .before .before .before .before .before .before .args .t1) _ (c .before .before .before .before .before .before .before .before .good .0), address-byte (c .before .before .before .before .before .before .before .before .args .t1) _ (c .before .before .before .before .before .before .before .before .good .0))))
 

@@ -6,8 +6,5 @@ use Rattle.access.proofs.engine.entry_number.Tie as tie
 returns : tie.Need-returns
 returns c = rw (c .if1 .taken)
 
-returns-2 : tie.Need-returns-2
-returns-2 c = rw (c .if1 .left)
-
 pub entry-number-spec : {M : Type 1} → statement M
-entry-number-spec = tie.close (tie.spec (λ c. search needs) returns returns-2)
+entry-number-spec = tie.close (tie.spec returns (λ c. search needs))

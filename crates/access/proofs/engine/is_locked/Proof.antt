@@ -1,13 +1,12 @@
 -- `is_locked` meets its contract. Assumes nothing.
+use Rattle.file.specs.File.{seen, register, crtcLocked}
 use Rattle.bits.specs.Store.{bit}
-use Rattle.file.specs.File.{register, crtcLocked, withRegisters, withToggle}
-use Rattle.access.specs.Cells.{seen}
 use borrow.Author.Needs.{needs}
 use Rattle.access.proofs.engine.is_locked.Statement.{statement}
 use Rattle.access.proofs.engine.is_locked.Tie as tie
 
 returns : tie.Need-returns
-unfolding crtcLocked bit seen register withRegisters withToggle
+unfolding crtcLocked bit seen register
 returns c = search needs
 
 pub is-locked-spec : {M : Type 1} → statement M

@@ -1,48 +1,38 @@
--- `look` meets its contract: the checks in their order. Assumes nothing.
+-- `look` meets its contract. Assumes nothing.
 use mathlib.Core.Path.{sym, _∙_}
 use borrow.Author.Tests.{eq-eqb, ne-eqb}
-use Rattle.file.specs.File.{powerOn}
 use Rattle.access.specs.Checks.{malformed}
-use Rattle.access.specs.Looked.{lookedAt}
-use Rattle.access.proofs.Looks.{kind-below}
+use Rattle.access.specs.Engine.{lookedBy}
 use borrow.Author.Needs.{needs}
 use Rattle.access.proofs.engine.look.Statement.{statement}
 use Rattle.access.proofs.engine.look.Tie as tie
 
 returns : tie.Need-returns
-unfolding lookedAt malformed
+unfolding lookedBy malformed
 returns c = rw (sym (c .before .is-malformed .ensures) ∙ c .if1 .taken)
 
 returns-2 : tie.Need-returns-2
-unfolding lookedAt malformed
+unfolding lookedBy malformed
 returns-2 c = rw (sym (c .before .before .before .is-malformed .ensures) ∙ c .before .before .if1 .left, sym (c .before .is-space-off .ensures) ∙ c .if2 .taken)
 
-cell-at-requires : tie.Need-cell-at-requires
-unfolding malformed
-cell-at-requires c κs = (c .before .before .before .before .pre, kind-below powerOn (c .before .before .before .before .args .asked) (sym (c .before .before .before .is-malformed .ensures) ∙ c .before .before .if1 .left))
-
 returns-3 : tie.Need-returns-3
-unfolding lookedAt malformed
+unfolding lookedBy malformed
 returns-3 c = rw (sym (c .before .before .before .before .before .is-malformed .ensures) ∙ c .before .before .before .before .if1 .left, sym (c .before .before .before .is-space-off .ensures) ∙ c .before .before .if2 .left, ← c .before .cell-at .ensures, eq-eqb _ _ (c .if3 .taken))
 
-is-other-half-requires : tie.Need-is-other-half-requires
-unfolding malformed
-is-other-half-requires c κs = (kind-below powerOn (c .before .before .before .before .before .before .args .asked) (sym (c .before .before .before .before .before .is-malformed .ensures) ∙ c .before .before .before .before .if1 .left), λ e. c .if3 .left (c .before .cell-at .ensures ∙ e))
-
 returns-4 : tie.Need-returns-4
-unfolding lookedAt malformed
-returns-4 c = rw (sym (c .before .before .before .before .before .before .before .is-malformed .ensures) ∙ c .before .before .before .before .before .before .if1 .left, sym (c .before .before .before .before .before .is-space-off .ensures) ∙ c .before .before .before .before .if2 .left, ← c .before .before .before .cell-at .ensures, ne-eqb _ _ (c .before .before .if3 .left), sym (c .before .is-other-half .ensures) ∙ c .if4 .taken)
+unfolding lookedBy malformed
+returns-4 c = rw (sym (c .before .before .before .before .before .before .before .is-malformed .ensures) ∙ c .before .before .before .before .before .before .if1 .left, sym (c .before .before .before .before .before .is-space-off .ensures) ∙ c .before .before .before .before .if2 .left, ← c .before .before .before .cell-at .ensures, ne-eqb _ _ (c .before .before .if3 .left), sym (c .before .is-other-row .ensures) ∙ c .if4 .taken)
 
 returns-5 : tie.Need-returns-5
-unfolding lookedAt malformed
-returns-5 c = rw (sym (c .before .before .before .before .before .before .before .before .before .before .is-malformed .ensures) ∙ c .before .before .before .before .before .before .before .before .before .if1 .left, sym (c .before .before .before .before .before .before .before .before .is-space-off .ensures) ∙ c .before .before .before .before .before .before .before .if2 .left, ← c .before .before .before .before .before .before .cell-at .ensures, ne-eqb _ _ (c .before .before .before .before .before .if3 .left), sym (c .before .before .before .before .is-other-half .ensures) ∙ c .before .before .before .if4 .left, ← c .before .before .width-of .ensures, ne-eqb _ _ (c .if5 .taken))
+unfolding lookedBy malformed
+returns-5 c = rw (sym (c .before .before .before .before .before .before .before .before .before .before .is-malformed .ensures) ∙ c .before .before .before .before .before .before .before .before .before .if1 .left, sym (c .before .before .before .before .before .before .before .before .is-space-off .ensures) ∙ c .before .before .before .before .before .before .before .if2 .left, ← c .before .before .before .before .before .before .cell-at .ensures, ne-eqb _ _ (c .before .before .before .before .before .if3 .left), sym (c .before .before .before .before .is-other-row .ensures) ∙ c .before .before .before .if4 .left, ← c .before .before .width-of .ensures, ne-eqb _ _ (c .if5 .taken))
 
 returns-6 : tie.Need-returns-6
-unfolding lookedAt malformed
-returns-6 c = rw (sym (c .before .before .before .before .before .before .before .before .before .before .is-malformed .ensures) ∙ c .before .before .before .before .before .before .before .before .before .if1 .left, sym (c .before .before .before .before .before .before .before .before .is-space-off .ensures) ∙ c .before .before .before .before .before .before .before .if2 .left, ← c .before .before .before .before .before .before .cell-at .ensures, ne-eqb _ _ (c .before .before .before .before .before .if3 .left), sym (c .before .before .before .before .is-other-half .ensures) ∙ c .before .before .before .if4 .left, ← c .before .before .width-of .ensures, eq-eqb _ _ (c .if5 .left))
+unfolding lookedBy malformed
+returns-6 c = rw (sym (c .before .before .before .before .before .before .before .before .before .before .is-malformed .ensures) ∙ c .before .before .before .before .before .before .before .before .before .if1 .left, sym (c .before .before .before .before .before .before .before .before .is-space-off .ensures) ∙ c .before .before .before .before .before .before .before .if2 .left, ← c .before .before .before .before .before .before .cell-at .ensures, ne-eqb _ _ (c .before .before .before .before .before .if3 .left), sym (c .before .before .before .before .is-other-row .ensures) ∙ c .before .before .before .if4 .left, ← c .before .before .width-of .ensures, eq-eqb _ _ (c .if5 .left))
 
 pub look-spec : {M : Type 1} → statement M
 look-spec =
     tie.close
-    (tie.spec (λ c κs. search needs) returns (λ c κs. search needs) returns-2 cell-at-requires returns-3 is-other-half-requires returns-4
-    (λ c κs. search needs) returns-5 returns-6)
+    (tie.spec (λ c κs. search needs) returns (λ c κs. search needs) returns-2 (λ c κs. search needs) returns-3 (λ c κs. search needs)
+    returns-4 (λ c κs. search needs) returns-5 returns-6)

@@ -1,18 +1,20 @@
 -- `write_register` meets its contract. Assumes nothing.
-use mathlib.Core.Path.{sym, _∙_}
+use mathlib.Core.Path.{sym, ap, _∙_}
+use Rattle.access.specs.Access.{writeAnswer, writeEffect}
+use Rattle.access.specs.Engine.{decidedWrite}
 use Rattle.file.specs.Answers.{codeOf, refused}
-use Rattle.access.specs.Access.{answerAt, writeAt}
+use Rattle.places.specs.EngineCells.{taken}
 use borrow.Author.Needs.{needs}
 use Rattle.access.proofs.engine.write_register.Statement.{statement}
 use Rattle.access.proofs.engine.write_register.Tie as tie
 
 returns : tie.Need-returns
-unfolding answerAt writeAt refused codeOf
-returns c = rw (sym (c .before .before .is-locked-out .ensures) ∙ c .before .if1 .taken) (record { answers = c .only .ensures .0; does = c .only .ensures .1 })
+unfolding decidedWrite writeAnswer refused codeOf
+returns c = rw (sym (c .before .before .is-locked-out .ensures) ∙ c .before .if1 .taken) (c .only .ensures)
 
 returns-2 : tie.Need-returns-2
-unfolding answerAt writeAt refused codeOf
-returns-2 c = rw (sym (c .before .before .before .is-locked-out .ensures) ∙ c .before .before .if1 .left) (record { answers = c .done .ensures .0; does = c .done .ensures .1 ∙ c .before .store .ensures })
+unfolding decidedWrite writeAnswer writeEffect taken refused codeOf
+returns-2 c = rw (sym (c .before .before .before .is-locked-out .ensures) ∙ c .before .before .if1 .left, ← c .before .reach-in .ensures) (c .done .ensures)
 
 pub write-register-spec : {M : Type 1} → statement M
 write-register-spec =

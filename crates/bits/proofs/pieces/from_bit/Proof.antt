@@ -1,6 +1,6 @@
 -- `bits::pieces::from_bit` meets its contract: from bit 32 on there is nothing. Assumes nothing.
 use mathlib.Core.Path.{sym}
-use Rattle.bits.proofs.Encoded.{shifted-out}
+use Rattle.bits.proofs.Enough.{shifted-out}
 use borrow.Author.Needs.{needs}
 use Rattle.bits.proofs.pieces.from_bit.Statement.{statement}
 use Rattle.bits.proofs.pieces.from_bit.Tie as tie

@@ -15,7 +15,7 @@ shr-result c = omega (arith, low-below (c .before .before .before .before .befor
 
 returns : tie.Need-returns
 unfolding held pieceOf
-returns c = rw (c .wide .ensures, c .before .before .before .before .piece-low .ensures, c .before .before .before .piece-mask .ensures) (and-mask _ _)
+returns c = rw (c .to-u32 .ensures, c .before .before .before .before .piece-low .ensures, c .before .before .before .piece-mask .ensures) (and-mask _ _)
 
 returns-2 : tie.Need-returns-2
 returns-2 c = sym (held-absent (now (c .before .before .before .before .args .registers)) (c .before .before .before .before .args .piece) (c .if1 .left))

@@ -6,7 +6,7 @@ use Rattle.bits.proofs.pieces.piece_low.Tie as tie
 
 returns : tie.Need-returns
 unfolding pieceOf
-returns c = c .wide .ensures
+returns c = c .to-u32 .ensures
 
 pub piece-low-spec : {M : Type 1} → statement M
 piece-low-spec = tie.close (tie.spec (λ c κs. search needs) returns)

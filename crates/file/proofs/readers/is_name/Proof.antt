@@ -7,7 +7,7 @@ use borrow.Author.Needs.{needs}
 use borrow.Author.Tests.{eqb-true, eqb-false, not-true, not-false}
 use lib.ListN.{length, getD, drop}
 use Rattle.file.specs.Readers.{ascii, nameTable, same}
-use Rattle.file.specs.Registers.{registers, singles, sequencer, crtc, graphics, attribute, pipeline}
+use Rattle.file.specs.Registers.{registers}
 use Rattle.file.proofs.Named.{same-end, other-length, flat, block, row-short, differs, agrees}
 use Rattle.file.proofs.readers.is_name.Statement.{statement}
 use Rattle.file.proofs.readers.is_name.Tie as tie
@@ -30,11 +30,11 @@ array-read-if2 : tie.Need-array-read-if2 Inv-loop μ-loop
 array-read-if2 c = omega (arith, c .loop-test .taken, c .before .loop .inv .0, row-short (c .before .before .before .before .before .args .number) (c .before .before .before .before .before .pre))
 
 returns-2 : tie.Need-returns-2 Inv-loop μ-loop
-unfolding flat block nameTable registers singles sequencer crtc graphics attribute pipeline ascii
+unfolding flat block nameTable registers ascii
 returns-2 c = sym (sym (c .before .before .before .loop .inv .2) ∙ differs (c .before .before .before .before .before .before .before .args .number) (c .before .before .before .before .before .before .before .pre) (c .before .before .before .loop .i) _ (c .before .before .before .loop .inv .0) (c .before .before .loop-test .taken) (c .if2 .taken))
 
 loop-again : tie.Need-loop-again Inv-loop μ-loop
-unfolding flat block nameTable registers singles sequencer crtc graphics attribute pipeline ascii
+unfolding flat block nameTable registers ascii
 loop-again c = (c .before .before .before .loop .inv .0, omega arith, sym (agrees (c .before .before .before .before .before .before .before .args .number) (c .before .before .before .before .before .before .before .pre) (c .before .before .before .loop .i) _ (c .before .before .before .loop .inv .0) (c .before .before .loop-test .taken) (c .if2 .left)) ∙ c .before .before .before .loop .inv .2)
 
 returns-3 : tie.Need-returns-3 Inv-loop μ-loop

@@ -4,16 +4,17 @@ use mathlib.Core.Path.{_≡_, sym, _∙_}
 use native.Mathlib.Omega.{arith}
 use borrow.Author.Needs.{needs}
 use lib.ListN.{drop}
+use Rattle.file.specs.Registers.{registerCount}
 use Rattle.file.specs.Readers.{nameTable, numberOf, position}
 use Rattle.file.proofs.Named.{found, passed, ended, rows-count}
 use Rattle.file.proofs.readers.number_named.Statement.{statement}
 use Rattle.file.proofs.readers.number_named.Tie as tie
 
 abbrev Inv-loop : tie.InvT-loop
-Inv-loop name number₀ number = (number ≤ 100) × (number + position name (drop number nameTable) ≡ numberOf name)
+Inv-loop name number₀ number = (number ≤ registerCount) × (number + position name (drop number nameTable) ≡ numberOf name)
 
 abbrev μ-loop : tie.MeasureT-loop
-μ-loop name number₀ number = 100 - number
+μ-loop name number₀ number = registerCount - number
 
 loop-holds : tie.Need-loop-holds Inv-loop μ-loop
 unfolding numberOf

@@ -7,7 +7,7 @@ use borrow.Author.Needs.{needs}
 use borrow.Author.Tests.{eq-eqb, ne-eqb}
 use lib.Dec.{eqb}
 use lib.ListN.{drop}
-use Rattle.file.specs.Registers.{storedTable}
+use Rattle.file.specs.Registers.{registerCount, storedTable}
 use Rattle.file.specs.Sound.{sound, allWithin}
 use Rattle.file.proofs.Soundness.{stray-next, stray-last}
 use Rattle.file.proofs.Typed.{registers-count}
@@ -16,10 +16,10 @@ use Rattle.file.proofs.sound.is_sound.Tie as tie
 
 abbrev Inv-loop : tie.InvT-loop
 Inv-loop file stored stray₀ i₀ stray i =
-    (i ≤ 100) × ((eqb stray 0 && allWithin (drop i storedTable) (drop i (file .registers))) ≡ allWithin storedTable (file .registers))
+    (i ≤ registerCount) × ((eqb stray 0 && allWithin (drop i storedTable) (drop i (file .registers))) ≡ allWithin storedTable (file .registers))
 
 abbrev μ-loop : tie.MeasureT-loop
-μ-loop file stored stray₀ i₀ stray i = 100 - i
+μ-loop file stored stray₀ i₀ stray i = registerCount - i
 
 loop-holds : tie.Need-loop-holds Inv-loop μ-loop
 loop-holds c = (omega arith, refl)
@@ -43,7 +43,7 @@ done c =
 
 returns : tie.Need-returns Inv-loop μ-loop
 unfolding sound
-returns c = rw (done (c .before .before .before), eq-eqb (c .before .before .before .before .loop .stray) 0 (c .before .before .if1 .taken)) (c .pointer-sound .ensures)
+returns c = rw (done (c .before .before .before), eq-eqb (c .before .before .before .before .loop .stray) 0 (c .before .before .if1 .taken)) (c .state-sound .ensures)
 
 returns-2 : tie.Need-returns-2 Inv-loop μ-loop
 unfolding sound

@@ -13,15 +13,15 @@ line-requires : tie.Need-line-requires
 line-requires c κs =
     let args = c .before .before .before .before .before .before .before .args in
     let code = c .before .shared-slice-known4 .given (args .from) in
-    let most = line-most (args .number) (getD (now (args .replies)) (args .from) 0) (c .before .before .joined .result) (omega arith) (omega arith) in
+    let most = line-most (args .number) (getD (now (args .replies)) (args .from) 0) (c .before .before .two .result) (omega arith) (omega arith) in
     omega arith
 
 returns : tie.Need-returns
 returns c =
     let args = c .before .before .before .before .before .before .before .before .before .before .args in
     let code = c .before .before .before .before .shared-slice-known4 .given (args .from) in
-    let most = line-most (args .number) (getD (now (args .replies)) (args .from) 0) (c .before .before .before .before .before .joined .result) (omega arith) (omega arith) in
-    let value = c .before .before .before .before .before .joined .ensures ∙ value-bytes (now (args .replies)) (args .from) in
+    let most = line-most (args .number) (getD (now (args .replies)) (args .from) 0) (c .before .before .before .before .before .two .result) (omega arith) (omega arith) in
+    let value = c .before .before .before .before .before .two .ensures ∙ value-bytes (now (args .replies)) (args .from) in
     (rw value at (c .before .before .line .ensures), omega arith)
 
 pub reply-line-spec : {M : Type 1} → statement M

@@ -20,11 +20,11 @@ abbrev μ-loop : tie.MeasureT-loop
 loop-holds : tie.Need-loop-holds Inv-loop μ-loop
 loop-holds c = omega arith
 
-mul-wide : tie.Need-mul-wide Inv-loop μ-loop
-mul-wide c = omega arith
+mul-to-u64 : tie.Need-mul-to-u64 Inv-loop μ-loop
+mul-to-u64 c = omega arith
 
-element-copy-out-wide : tie.Need-element-copy-out-wide Inv-loop μ-loop
-element-copy-out-wide c = omega arith
+element-copy-out-to-u64 : tie.Need-element-copy-out-to-u64 Inv-loop μ-loop
+element-copy-out-to-u64 c = omega arith
 
 add-size : tie.Need-add-size Inv-loop μ-loop
 add-size c = omega arith
@@ -43,7 +43,7 @@ loop-again c =
     let at-loop = c .before .before .before .before in
     let next = next-length (now (at-loop .before .args .numbers)) (at-loop .loop .i) (omega arith) in
     let n = c .places .ensures .0 in
-    let same = ap (λ (n : ℕ). decimalPlaces n n) (c .before .wide .ensures) in
+    let same = ap (λ (n : ℕ). decimalPlaces n n) (c .before .to-u64 .ensures) in
     omega arith
 
 returns : tie.Need-returns Inv-loop μ-loop
@@ -54,5 +54,5 @@ returns c =
 pub spaced-size-spec : {M : Type 1} → statement M
 spaced-size-spec =
     tie.close
-    (tie.spec Inv-loop μ-loop loop-holds mul-wide element-copy-out-wide (λ c κs. search needs) (λ c κs. search needs) add-size add-size-2
+    (tie.spec Inv-loop μ-loop loop-holds mul-to-u64 element-copy-out-to-u64 (λ c κs. search needs) (λ c κs. search needs) add-size add-size-2
     add-i loop-less loop-again returns)

@@ -25,17 +25,17 @@ abbrev μ-loop : tie.MeasureT-loop
 loop-holds : tie.Need-loop-holds Inv-loop μ-loop
 loop-holds c = (refl, refl, omega arith, refl)
 
-mul-wide : tie.Need-mul-wide Inv-loop μ-loop
-mul-wide c = omega arith
+mul-to-u64 : tie.Need-mul-to-u64 Inv-loop μ-loop
+mul-to-u64 c = omega arith
 
-element-copy-out-wide : tie.Need-element-copy-out-wide Inv-loop μ-loop
-element-copy-out-wide c = omega arith
+element-copy-out-to-u64 : tie.Need-element-copy-out-to-u64 Inv-loop μ-loop
+element-copy-out-to-u64 c = omega arith
 
 spell-behind-requires : tie.Need-spell-behind-requires Inv-loop μ-loop
 spell-behind-requires c κs =
     let at-loop = c .before .before .before .before in
     let next = next-length (now (at-loop .before .before .args .numbers)) (at-loop .loop .i) (omega arith) in
-    let same = ap (λ (n : ℕ). decimalPlaces n n) (c .before .wide .ensures) in
+    let same = ap (λ (n : ℕ). decimalPlaces n n) (c .before .to-u64 .ensures) in
     omega arith
 
 add-i : tie.Need-add-i Inv-loop μ-loop
@@ -46,7 +46,7 @@ loop-less c = omega arith
 
 loop-again : tie.Need-loop-again Inv-loop μ-loop
 loop-again c =
-    let wide = c .before .before .before .before .wide in
+    let wide = c .before .before .before .before .to-u64 in
     let spelled = rw (wide .ensures) at (c .before .before .spell-behind .ensures) in
     let at-loop = c .before .before .before .before .before .before .before in
     let numbers = now (at-loop .before .before .args .numbers) in
@@ -74,5 +74,5 @@ returns c =
 pub spell-each-spec : {M : Type 1} → statement M
 spell-each-spec =
     tie.close
-    (tie.spec Inv-loop μ-loop loop-holds mul-wide element-copy-out-wide (λ c κs. search needs) spell-behind-requires add-i loop-less
+    (tie.spec Inv-loop μ-loop loop-holds mul-to-u64 element-copy-out-to-u64 (λ c κs. search needs) spell-behind-requires add-i loop-less
     loop-again same-length returns)

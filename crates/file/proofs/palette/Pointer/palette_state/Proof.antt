@@ -8,11 +8,11 @@ use Rattle.file.proofs.palette.Pointer.palette_state.Tie as tie
 
 returns : tie.Need-returns
 unfolding paletteState
-returns c = rw (c .if1 .taken, ← c .before .wide .ensures)
+returns c = rw (c .if1 .taken, ← c .before .to-u16 .ensures)
 
 returns-2 : tie.Need-returns-2
 unfolding paletteState
-returns-2 c = rw (c .if1 .left, ← c .before .wide .ensures) (sym (zero-add _))
+returns-2 c = rw (c .if1 .left, ← c .before .to-u16 .ensures) (sym (zero-add _))
 
 pub palette-state-spec : {M : Type 1} → statement M
 palette-state-spec =

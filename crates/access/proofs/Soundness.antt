@@ -1,0 +1,48 @@
+-- An access to a sound file leaves a sound file. Assumes nothing.
+use Prim.Native.Nat.{ℕ}
+use mathlib.Core.Path.{_≡_, sym, subst}
+use mathlib.Core.Bool.{Bool, _&&_}
+use lib.Dec.{T, eqb, eqb→eq}
+use Rattle.bits.specs.Store.{within, store}
+use Rattle.bits.proofs.Stored.{within-self}
+use Rattle.bits.proofs.Test.{right, chosen-by, passes}
+use Rattle.file.specs.declared.effect.Effect.{Effect}
+use Rattle.file.specs.declared.registers.File.{File}
+use Rattle.file.specs.File.{crtcLocked}
+use Rattle.file.specs.Names.{CR7}
+use Rattle.file.specs.Registers.{storedBits}
+use Rattle.file.specs.Sound.{sound, keeps}
+use Rattle.file.proofs.Soundness.{apply-sound, addressed-sound, afterWrite-sound, afterRead-sound, pointer-sound}
+use Rattle.places.specs.Profile.{Reading, Writing, profile}
+use Rattle.access.specs.declared.record.Record.{Record}
+use Rattle.access.specs.Access.{placeOf, lockedReach, reachIn, writeEffect, readEffect, effect, access}
+use Rattle.access.proofs.Refusals.{by-read, by-write, by-effect}
+
+-- what a write may reach is within the stored bits, under the lock too
+pub reach-within : (f : File) (number : ℕ) → T (within (storedBits number) (reachIn f number))
+unfolding reachIn lockedReach storedBits within store
+reach-within f number =
+    chosen-by (within (storedBits number)) (crtcLocked f && eqb number CR7) lockedReach (storedBits number)
+    (λ e. subst (λ (n : ℕ). T (within (storedBits n) lockedReach))
+    (sym (eqb→eq number CR7 (right (crtcLocked f) (eqb number CR7) (passes (crtcLocked f && eqb number CR7) e)))) tt)
+    (within-self (storedBits number))
+
+module _ (f : File) (s : T (sound f)) where
+  write-keeps : (writing : Writing) (value : ℕ) → T (keeps (writeEffect (reachIn f) f writing value))
+  unfolding keeps
+  write-keeps writing value =
+      by-write (λ (e : Effect). T (keeps e)) (reachIn f) f writing value tt (λ number flips e. reach-within f number)
+      (λ reading. addressed-sound reading value) (afterWrite-sound (f .state .pointer) value (pointer-sound f s))
+      (afterWrite-sound (f .state .pointer) value (pointer-sound f s)) (λ e. tt)
+
+  read-keeps : (reading : Reading) → T (keeps (readEffect f reading))
+  unfolding keeps
+  read-keeps reading =
+      by-read (λ (e : Effect). T (keeps e)) f reading tt (afterRead-sound (f .state .pointer) (pointer-sound f s)) (λ e. tt)
+
+  pub access-sound : (r : Record) → T (sound (access f r .file))
+  unfolding access keeps
+  access-sound r =
+      apply-sound (effect f r) f
+      (by-effect (λ (e : Effect). T (keeps e)) f r tt (λ n w. write-keeps (profile (placeOf f r) .writing) (r .value))
+      (read-keeps (profile (placeOf f r) .reading))) s

@@ -1,0 +1,44 @@
+ghost use mathlib.Core.Path.{_≡_};
+ghost use Rattle.file.specs.State.{initial, pointing as pointingTo, toggling as togglingTo, flipped as flippedState};
+use crate::palette::Pointer;
+
+// The small parts of a file beside its registers and colours. The toggle says whether the next 3C0h write is data.
+pub struct State {
+    pub pointer: Pointer,
+    pub toggle: bool,
+}
+
+impl State {
+    // The pointer at address 0, write mode, red, nothing held; the toggle at index.
+    pub fn power_on() -> State
+        ensures { λ r. ⌜ r ≡ initial ⌝ }
+    {
+        State {
+            pointer: Pointer::addressed(false, 0),
+            toggle: false,
+        }
+    }
+
+    // The state with another pointer.
+    pub fn pointing(mut self, pointer: Pointer) -> State
+        ensures { λ r. ⌜ r ≡ pointingTo pointer self ⌝ }
+    {
+        self.pointer = pointer;
+        self
+    }
+
+    // The state with the toggle as given.
+    pub fn toggling(mut self, toggle: bool) -> State
+        ensures { λ r. ⌜ r ≡ togglingTo toggle self ⌝ }
+    {
+        self.toggle = toggle;
+        self
+    }
+
+    // The state with the toggle flipped, where it flips.
+    pub fn flipped(self, flips: bool) -> State
+        ensures { λ r. ⌜ r ≡ flippedState flips self ⌝ }
+    {
+        self.toggling(self.toggle != flips)
+    }
+}

@@ -1,0 +1,208 @@
+-- 01's table of cells holds the cells of the list of places: inside it by computed tests, outside it nothing is held. Assumes nothing.
+use Prim.Native.Nat.{ℕ, zero, suc, _+_, _-_, _<_, _≤_}
+use mathlib.Core.Path.{_≡_, refl, sym, ap, _∙_, subst}
+use mathlib.Core.Bool.{Bool, true, false, cond, true≢false, _&&_, _||_}
+use mathlib.Core.List.{List, [], _∷_}
+use native.Mathlib.Nat.{zero-add}
+use native.Mathlib.Omega.{arith}
+use borrow.Author.Tests.{lt-ltb, le-ltb, ltb-true, leb-true}
+use lib.Dec.{T, eqb, leb, ltb, eqb→eq, leb→le, ltb→lt, lit<}
+use lib.ListN.{getD}
+use Rattle.bits.proofs.Test.{left, right, by-test, passes, is-true}
+use Rattle.places.specs.EngineCells.{nothingHeld, plainCell, indexedCell, ofKind, ofAddress, rowsAt, cellOf, cellAt, behindPort, firstPort, portCount, portWrites, behindSRX, countSRX, behindCRX, countCRX, behindGRX, countGRX, behindARX, countARX, configSpace, configCount, configInMmio, mmioSpace, mmioCount, cellCount, tableCell, tabled, cellTable, portCell, mmioCell, configCell, cellIn}
+use Rattle.places.specs.Places.{Row, places}
+use Rattle.places.proofs.Rows.{every}
+
+-- the addresses that the table covers, by kind
+unfoldable pub configRange : ℕ → Bool
+configRange a = ltb a configCount
+
+unfoldable pub portRange : ℕ → Bool
+portRange a = leb firstPort a && ltb a (firstPort + portCount)
+
+unfoldable pub mmioRange : ℕ → Bool
+mmioRange a = ltb a mmioCount || leb configInMmio a && configRange (a - configInMmio)
+
+unfoldable pub range : ℕ → ℕ → Bool
+range kind = getD (configRange ∷ configRange ∷ portRange ∷ portRange ∷ mmioRange ∷ mmioRange ∷ []) kind configRange
+
+covered : (kind : ℕ) → kind < 6 → T (every (λ (row : Row). range kind (row .address)) (ofKind kind places))
+unfolding every range configRange portRange mmioRange ofKind places
+covered zero h = tt
+covered (suc zero) h = tt
+covered (suc (suc zero)) h = tt
+covered (suc (suc (suc zero))) h = tt
+covered (suc (suc (suc (suc zero)))) h = tt
+covered (suc (suc (suc (suc (suc zero))))) h = tt
+covered (suc (suc (suc (suc (suc (suc kind)))))) h = absurd (omega arith)
+
+-- an address outside a rule that every row's passes has no rows
+no-rows : (p : ℕ → Bool) (rows : List Row) → T (every (λ (row : Row). p (row .address)) rows) → (a : ℕ) → p a ≡ false → ofAddress a rows ≡ []
+unfolding every ofAddress
+no-rows p [] t a e = refl
+no-rows p (row ∷ rows) t a e =
+    by-test (eqb a (row .address))
+    (λ s. absurd (true≢false (sym (is-true (p a) (subst (λ (b : ℕ). T (p b)) (sym (eqb→eq a (row .address) (passes (eqb a (row .address)) s)))
+    (left (p (row .address)) (every (λ (row : Row). p (row .address)) rows) t))) ∙ e)))
+    (λ s. rw s (no-rows p rows (right (p (row .address)) (every (λ (row : Row). p (row .address)) rows) t) a e))
+
+-- so nothing is held there
+uncovered : (kind : ℕ) → kind < 6 → (a : ℕ) → range kind a ≡ false → nothingHeld ≡ cellAt kind a
+unfolding cellAt rowsAt cellOf
+uncovered kind h a e = sym (ap cellOf (no-rows (range kind) (ofKind kind places) (covered kind h) a e))
+
+-- the cells of a kind at n addresses, entry i for an address made of i
+unfoldable pub cellsOf : ℕ → (ℕ → ℕ) → ℕ → List ℕ
+cellsOf kind address zero = []
+cellsOf kind address (suc n) = cellAt kind (address 0) ∷ cellsOf kind (λ (i : ℕ). address (suc i)) n
+
+in-table : (kind : ℕ) (address : ℕ → ℕ) (n i : ℕ) → i < n → (a : ℕ) → address i ≡ a → getD (cellsOf kind address n) i 0 ≡ cellAt kind a
+unfolding cellsOf
+in-table kind address zero i h a e = absurd (omega arith)
+in-table kind address (suc n) zero h a e = ap (cellAt kind) e
+in-table kind address (suc n) (suc i) h a e = in-table kind (λ (i : ℕ). address (suc i)) n i (omega arith) a e
+
+-- two kinds, or two ranges of addresses, with the same cells: a computed test over both
+alike : (k l : ℕ) (a b : ℕ → ℕ) (n : ℕ) → cellsOf k a n ≡ cellsOf l b n → (i : ℕ) → i < n → cellAt k (a i) ≡ cellAt l (b i)
+alike k l a b n e i h = sym (in-table k a n i h (a i) refl) ∙ ap (λ (cells : List ℕ). getD cells i 0) e ∙ in-table l b n i h (b i) refl
+
+-- an entry of a table is its rule's
+by-rule : (rule : ℕ → ℕ) (n i : ℕ) → i < n → getD (tabled n rule) i 0 ≡ rule i
+unfolding tabled
+by-rule rule zero i h = absurd (omega arith)
+by-rule rule (suc n) zero h = refl
+by-rule rule (suc n) (suc i) h = by-rule (λ (i : ℕ). rule (suc i)) n i (omega arith)
+
+-- what the table holds at a place
+pub at-cell : (i : ℕ) → i < cellCount → getD cellTable i 0 ≡ tableCell i
+unfolding cellTable
+at-cell i h = by-rule tableCell cellCount i h
+
+-- section by section
+read-cells : (i : ℕ) → i < portCount → tableCell i ≡ cellAt 2 (firstPort + i)
+unfolding tableCell
+read-cells i h = rw (lt-ltb i portWrites h)
+
+write-cells : (i : ℕ) → i < portCount → tableCell (portWrites + i) ≡ cellAt 3 (firstPort + i)
+unfolding tableCell
+write-cells i h =
+    rw (le-ltb (portWrites + i) portWrites (omega arith), lt-ltb (portWrites + i) behindSRX (omega arith)) (ap (cellAt 3) (omega arith))
+
+pub sequencer-cells : (i : ℕ) → i < countSRX → tableCell (behindSRX + i) ≡ getD (behindPort 0x3C5 countSRX) i 0
+unfolding tableCell
+sequencer-cells i h =
+    rw (le-ltb (behindSRX + i) portWrites (omega arith), le-ltb (behindSRX + i) behindSRX (omega arith), lt-ltb (behindSRX + i) behindCRX (omega arith))
+    (ap (λ (n : ℕ). getD (behindPort 0x3C5 countSRX) n 0) (omega arith))
+
+pub crtc-cells : (i : ℕ) → i < countCRX → tableCell (behindCRX + i) ≡ getD (behindPort 0x3B5 countCRX) i 0
+unfolding tableCell
+crtc-cells i h =
+    rw (le-ltb (behindCRX + i) portWrites (omega arith), le-ltb (behindCRX + i) behindSRX (omega arith), le-ltb (behindCRX + i) behindCRX (omega arith), lt-ltb (behindCRX + i) behindGRX (omega arith))
+    (ap (λ (n : ℕ). getD (behindPort 0x3B5 countCRX) n 0) (omega arith))
+
+pub graphics-cells : (i : ℕ) → i < countGRX → tableCell (behindGRX + i) ≡ getD (behindPort 0x3CF countGRX) i 0
+unfolding tableCell
+graphics-cells i h =
+    rw (le-ltb (behindGRX + i) portWrites (omega arith), le-ltb (behindGRX + i) behindSRX (omega arith), le-ltb (behindGRX + i) behindCRX (omega arith), le-ltb (behindGRX + i) behindGRX (omega arith), lt-ltb (behindGRX + i) behindARX (omega arith))
+    (ap (λ (n : ℕ). getD (behindPort 0x3CF countGRX) n 0) (omega arith))
+
+pub attribute-cells : (i : ℕ) → i < countARX → tableCell (behindARX + i) ≡ getD (behindPort 0x3C1 countARX) i 0
+unfolding tableCell
+attribute-cells i h =
+    rw (le-ltb (behindARX + i) portWrites (omega arith), le-ltb (behindARX + i) behindSRX (omega arith), le-ltb (behindARX + i) behindCRX (omega arith), le-ltb (behindARX + i) behindGRX (omega arith), le-ltb (behindARX + i) behindARX (omega arith), lt-ltb (behindARX + i) configSpace (omega arith))
+    (ap (λ (n : ℕ). getD (behindPort 0x3C1 countARX) n 0) (omega arith))
+
+config-cells : (i : ℕ) → i < configCount → tableCell (configSpace + i) ≡ cellAt 0 i
+unfolding tableCell
+config-cells i h =
+    rw (le-ltb (configSpace + i) portWrites (omega arith), le-ltb (configSpace + i) behindSRX (omega arith), le-ltb (configSpace + i) behindCRX (omega arith), le-ltb (configSpace + i) behindGRX (omega arith), le-ltb (configSpace + i) behindARX (omega arith), le-ltb (configSpace + i) configSpace (omega arith), lt-ltb (configSpace + i) mmioSpace (omega arith))
+    (ap (cellAt 0) (omega arith))
+
+mmio-cells : (i : ℕ) → tableCell (mmioSpace + i) ≡ cellAt 4 i
+unfolding tableCell
+mmio-cells i =
+    rw (le-ltb (mmioSpace + i) portWrites (omega arith), le-ltb (mmioSpace + i) behindSRX (omega arith), le-ltb (mmioSpace + i) behindCRX (omega arith), le-ltb (mmioSpace + i) behindGRX (omega arith), le-ltb (mmioSpace + i) behindARX (omega arith), le-ltb (mmioSpace + i) configSpace (omega arith), le-ltb (mmioSpace + i) mmioSpace (omega arith))
+    (ap (cellAt 4) (omega arith))
+
+-- config space is the same in both directions, as MMIO is, and stands at 300h of MMIO too
+config-both : (i : ℕ) → i < configCount → cellAt 0 i ≡ cellAt 1 i
+unfolding cellsOf plainCell indexedCell ofKind ofAddress rowsAt cellOf cellAt places
+config-both = alike 0 1 (λ (i : ℕ). i) (λ (i : ℕ). i) configCount refl
+
+mmio-both : (i : ℕ) → i < mmioCount → cellAt 4 i ≡ cellAt 5 i
+unfolding cellsOf plainCell indexedCell ofKind ofAddress rowsAt cellOf cellAt places
+mmio-both = alike 4 5 (λ (i : ℕ). i) (λ (i : ℕ). i) mmioCount refl
+
+config-in-mmio : (i : ℕ) → i < configCount → cellAt 0 i ≡ cellAt 4 (configInMmio + i)
+unfolding cellsOf plainCell indexedCell ofKind ofAddress rowsAt cellOf cellAt places
+config-in-mmio = alike 0 4 (λ (i : ℕ). i) (λ (i : ℕ). configInMmio + i) configCount refl
+
+config-in-writes : (i : ℕ) → i < configCount → cellAt 0 i ≡ cellAt 5 (configInMmio + i)
+unfolding cellsOf plainCell indexedCell ofKind ofAddress rowsAt cellOf cellAt places
+config-in-writes = alike 0 5 (λ (i : ℕ). i) (λ (i : ℕ). configInMmio + i) configCount refl
+
+-- ---- the engine finds 01's cells in it
+
+config-true : (a : ℕ) → (configCell cellTable a ≡ cellAt 0 a) × (configCell cellTable a ≡ cellAt 1 a)
+unfolding configCell range configRange
+config-true a =
+    by-test (ltb a configCount)
+    (λ e.
+    let low : a < configCount = ltb-true a configCount e in
+    let here : getD cellTable (configSpace + a) 0 ≡ cellAt 0 a = at-cell (configSpace + a) (omega arith) ∙ config-cells a low in
+    rw e (here, here ∙ config-both a low))
+    (λ e. rw e (uncovered 0 (lit< tt) a e, uncovered 1 (lit< tt) a e))
+
+port-true : (write : Bool) (a : ℕ) → portCell cellTable write a ≡ cellAt (cond write 3 2) a
+unfolding portCell range portRange
+port-true write a =
+    by-test (leb firstPort a && ltb a (firstPort + portCount))
+    (λ e.
+    let t = passes (leb firstPort a && ltb a (firstPort + portCount)) e in
+    let from : firstPort ≤ a = leb→le firstPort a (left (leb firstPort a) (ltb a (firstPort + portCount)) t) in
+    let to : a < firstPort + portCount = ltb→lt a (firstPort + portCount) (right (leb firstPort a) (ltb a (firstPort + portCount)) t) in
+    let low : a - firstPort < portCount = omega arith in
+    let back : firstPort + (a - firstPort) ≡ a = omega arith in
+    rw e (inside write low back))
+    (λ e. rw e (outside write e))
+  where
+    inside : (write : Bool) → a - firstPort < portCount → firstPort + (a - firstPort) ≡ a
+        → getD cellTable (cond write portWrites 0 + (a - firstPort)) 0 ≡ cellAt (cond write 3 2) a
+    inside true low back = at-cell (portWrites + (a - firstPort)) (omega arith) ∙ write-cells (a - firstPort) low ∙ ap (cellAt 3) back
+    inside false low back =
+        ap (λ (n : ℕ). getD cellTable n 0) (zero-add (a - firstPort)) ∙ at-cell (a - firstPort) (omega arith) ∙ read-cells (a - firstPort) low ∙ ap (cellAt 2) back
+
+    outside : (write : Bool) → (leb firstPort a && ltb a (firstPort + portCount)) ≡ false → nothingHeld ≡ cellAt (cond write 3 2) a
+    outside true e = uncovered 3 (lit< tt) a e
+    outside false e = uncovered 2 (lit< tt) a e
+
+mmio-true : (a : ℕ) → (mmioCell cellTable a ≡ cellAt 4 a) × (mmioCell cellTable a ≡ cellAt 5 a)
+unfolding mmioCell configCell range mmioRange configRange
+mmio-true a =
+    by-test (ltb a mmioCount)
+    (λ e.
+    let low : a < mmioCount = ltb-true a mmioCount e in
+    let here : getD cellTable (mmioSpace + a) 0 ≡ cellAt 4 a = at-cell (mmioSpace + a) (omega arith) ∙ mmio-cells a in
+    rw e (here, here ∙ mmio-both a low))
+    (λ e. rw e
+    (by-test (leb configInMmio a)
+    (λ g. rw g
+    (by-test (ltb (a - configInMmio) configCount)
+    (λ h.
+    let low : a - configInMmio < configCount = ltb-true (a - configInMmio) configCount h in
+    let up : configInMmio ≤ a = leb-true configInMmio a g in
+    let back : configInMmio + (a - configInMmio) ≡ a = omega arith in
+    let here : getD cellTable (configSpace + (a - configInMmio)) 0 ≡ cellAt 0 (a - configInMmio) = at-cell (configSpace + (a - configInMmio)) (omega arith) ∙ config-cells (a - configInMmio) low in
+    rw h (here ∙ config-in-mmio (a - configInMmio) low ∙ ap (cellAt 4) back, here ∙ config-in-writes (a - configInMmio) low ∙ ap (cellAt 5) back))
+    (λ h. rw h (uncovered 4 (lit< tt) a (simp (e, g, h)), uncovered 5 (lit< tt) a (simp (e, g, h))))))
+    (λ g. rw g (uncovered 4 (lit< tt) a (simp (e, g)), uncovered 5 (lit< tt) a (simp (e, g))))))
+
+pub cell-true : (kind : ℕ) → kind < 6 → (a : ℕ) → cellIn cellTable kind a ≡ cellAt kind a
+unfolding cellIn
+cell-true zero h a = config-true a .0
+cell-true (suc zero) h a = config-true a .1
+cell-true (suc (suc zero)) h a = port-true false a
+cell-true (suc (suc (suc zero))) h a = port-true true a
+cell-true (suc (suc (suc (suc zero)))) h a = mmio-true a .0
+cell-true (suc (suc (suc (suc (suc zero))))) h a = mmio-true a .1
+cell-true (suc (suc (suc (suc (suc (suc kind)))))) h a = absurd (omega arith)

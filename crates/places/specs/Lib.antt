@@ -1,0 +1,4 @@
+pub mod Profile
+pub mod Places
+pub mod Lookup
+pub mod EngineCells

@@ -1,0 +1,88 @@
+-- 01, 'Places' and 'The palette pointer': what a place is, said once. What an access answers and does goes by this.
+-- Assumes nothing.
+use Prim.Native.Nat.{ℕ}
+use mathlib.Core.Bool.{Bool, true, false}
+use Rattle.file.specs.Names.{ARX, B0}
+use Rattle.file.specs.Registers.{registerCount}
+use Rattle.places.specs.declared.place.Place.{Place}
+use Rattle.places.specs.declared.place.Place.the-variants.{Register, Attribute, Fixed, ToggleState, AttributeIndex, PaletteState, ReadAddress, WriteAddress, PixelData, ToggleReset, Unnamed, UnnamedAttribute}
+
+-- what a read gives: what a register holds; a number that never changes; the toggle; B0 with the pointer's state; the DAC state; the address; the
+-- pixel's component, and the pointer moves; 0, and the toggle is set to index; no register is named
+pub data Reading : Type 0 where
+  givesHeld : ℕ → Reading
+  givesFixed : ℕ → Reading
+  givesToggle givesPaletteState givesDacState givesAddress : Reading
+  givesPixel : Reading
+  resetsToggle : Reading
+  namesNothing : Reading
+
+-- what a write does: it stores into a register, and may flip the toggle; it is refused; it sets the pointer, in read mode or not; it writes a
+-- pixel's component; no register is named, and the toggle may flip all the same
+pub data Writing : Type 0 where
+  storesTo : ℕ → Bool → Writing
+  readOnly : Writing
+  setsAddress : Bool → Writing
+  writesPixel : Writing
+  storesNothing : Bool → Writing
+
+pub record Profile : Type 0 where
+  pub reading : Reading
+  pub writing : Writing
+
+abbrev profiled : Reading → Writing → Profile
+profiled reading writing = record { reading = reading; writing = writing }
+
+unfoldable pub profile : Place → Profile
+profile (Register number) = profiled (givesHeld number) (storesTo number false)
+profile (Attribute number) = profiled (givesHeld number) (storesTo number true)
+profile (Fixed value) = profiled (givesFixed value) readOnly
+profile ToggleState = profiled givesToggle readOnly
+profile AttributeIndex = profiled (givesHeld ARX) readOnly
+profile PaletteState = profiled givesPaletteState (storesTo B0 false)
+profile ReadAddress = profiled givesDacState (setsAddress true)
+profile WriteAddress = profiled givesAddress (setsAddress false)
+profile PixelData = profiled givesPixel writesPixel
+profile ToggleReset = profiled resetsToggle readOnly
+profile Unnamed = profiled namesNothing (storesNothing false)
+profile UnnamedAttribute = profiled namesNothing (storesNothing true)
+
+-- the register that a write stores into; the number that none has where there is none
+unfoldable pub storesInto : Writing → ℕ
+storesInto (storesTo number flips) = number
+storesInto readOnly = registerCount
+storesInto (setsAddress reading) = registerCount
+storesInto writesPixel = registerCount
+storesInto (storesNothing flips) = registerCount
+
+-- a write may flip the toggle
+unfoldable pub flips : Writing → Bool
+flips (storesTo number flip) = flip
+flips readOnly = false
+flips (setsAddress reading) = false
+flips writesPixel = false
+flips (storesNothing flip) = flip
+
+-- a read shows a pixel's component
+unfoldable pub readsPixel : Reading → Bool
+readsPixel (givesHeld number) = false
+readsPixel (givesFixed value) = false
+readsPixel givesToggle = false
+readsPixel givesPaletteState = false
+readsPixel givesDacState = false
+readsPixel givesAddress = false
+readsPixel givesPixel = true
+readsPixel resetsToggle = false
+readsPixel namesNothing = false
+
+-- a read sets the toggle to index
+unfoldable pub resets : Reading → Bool
+resets (givesHeld number) = false
+resets (givesFixed value) = false
+resets givesToggle = false
+resets givesPaletteState = false
+resets givesDacState = false
+resets givesAddress = false
+resets givesPixel = false
+resets resetsToggle = true
+resets namesNothing = false

@@ -1,0 +1,27 @@
+// What an address, and an index, of a space and a direction names.
+pub enum Place {
+    // a register of the file, by its number
+    Register(usize),
+    // a register that a 3C0h write stores, and flips the toggle
+    Attribute(usize),
+    // a read-only number: SR6, PCI00, PCI02
+    Fixed(u16),
+    // CR24
+    ToggleState,
+    // CR26
+    AttributeIndex,
+    // B0: a register that also shows the pointer's state
+    PaletteState,
+    // 3C7h: read the DAC state, write the read address
+    ReadAddress,
+    // 3C8h: read the address, write the write address
+    WriteAddress,
+    // 3C9h
+    PixelData,
+    // 3?Ah: a read sets the toggle to index
+    ToggleReset,
+    // an index that names no held register
+    Unnamed,
+    // the same at a data write of 3C0h, which still flips the toggle
+    UnnamedAttribute,
+}

@@ -1,0 +1,209 @@
+-- What a plan and a restore promise, from what the code did. Assumes nothing.
+use Prim.Native.Nat.{ℕ, _+_, _*_, _/_, _≤_, _<_}
+use mathlib.Core.Path.{_≡_, refl, sym, ap, ap₂, _∙_, subst}
+use mathlib.Core.Bool.{true, false, true≢false}
+use mathlib.Core.List.{List, [], _++_, map, append-nil}
+use native.Mathlib.Omega.{arith}
+use borrow.Author.Tests.{eq-eqb, ne-eqb, le-leb, lt-leb}
+use lib.ListN.{getD, length, take, drop, length-append, length-map}
+use lib.Seq.{sets-eq, take-at}
+use Rattle.bits.proofs.Test.{by-test, passes}
+use Rattle.file.specs.declared.answer.Answer.{Answer}
+use Rattle.file.specs.declared.answer.Answer.the-variants.{Done, ShortBuffer, NotSound, NotBeforeRed}
+use Rattle.file.specs.declared.registers.File.{File}
+use Rattle.file.specs.Answers.{codeOf, refused}
+use Rattle.file.specs.Sound.{sound}
+use Rattle.access.specs.declared.record.Item.the-variants.{Whole}
+use Rattle.trace.specs.Records.{itemCount, items}
+use Rattle.trace.specs.Run.{fileAfter, runCount, ran, run}
+use Rattle.plan.specs.declared.planning.Planned.{Planned}
+use Rattle.plan.specs.declared.restoring.Restored.{Restored}
+use Rattle.plan.specs.Appended.{Appended}
+use Rattle.plan.specs.Plan.{planRecords}
+use Rattle.plan.specs.Promises.{PlanKept, RestoreKept}
+use Rattle.plan.specs.Refusals.{planAnswer, restoreAnswer}
+use Rattle.plan.specs.Restores.{traceOf, IsFile, RunsInto, PlanWritten}
+use Rattle.plan.proofs.Appending.{trace-count}
+use Rattle.plan.proofs.PlanCount.{plan-room}
+use Rattle.plan.proofs.AcceptedFits.{trace-items}
+use Rattle.plan.proofs.RepliesAccepted.{codes-zero}
+use Rattle.plan.proofs.PlanServes.{plan-serves, planned-runs, never-fourteen}
+
+-- ---- a plan
+
+module _ (w : File) (before : List ℕ) where
+  plan-refused : (a : Answer) → a ≡ planAnswer w (length before) → refused a ≡ true → (r : Planned) → r ≡ record { answer = a; count = 0 }
+      → PlanKept w before before r
+  plan-refused a e t r q =
+      subst (λ (x : Planned). PlanKept w before before x) (sym q)
+      (record { answered = e; made = λ n. absurd (true≢false (sym t ∙ n)); none = λ _. refl; kept = λ _. refl })
+
+  pub plan-unsound : sound w ≡ false → (r : Planned) → r ≡ record { answer = NotSound; count = 0 } → PlanKept w before before r
+  unfolding planAnswer refused codeOf
+  plan-unsound s = plan-refused NotSound (rw s) refl
+
+  pub plan-not-red : sound w ≡ true → (w .state .pointer .next ≡ 0 → ⊥) → (r : Planned) → r ≡ record { answer = NotBeforeRed; count = 0 }
+      → PlanKept w before before r
+  unfolding planAnswer refused codeOf
+  plan-not-red s n = plan-refused NotBeforeRed (rw (s, ne-eqb (w .state .pointer .next) 0 n)) refl
+
+  pub plan-short : sound w ≡ true → w .state .pointer .next ≡ 0 → length before < 8192 → (r : Planned)
+      → r ≡ record { answer = ShortBuffer; count = 0 } → PlanKept w before before r
+  unfolding planAnswer refused codeOf
+  plan-short s e l = plan-refused ShortBuffer (rw (s, eq-eqb (w .state .pointer .next) 0 e, lt-leb 8192 (length before) l)) refl
+
+  pub plan-made : IsFile w → sound w ≡ true → w .state .pointer .next ≡ 0 → 8192 ≤ length before → {after : List ℕ} {end : ℕ}
+      → Appended before 0 (planRecords w) after end → PlanKept w before after (record { answer = Done 0; count = end / 8 })
+  unfolding planAnswer refused codeOf
+  plan-made wf s e l {after} {end} wrote =
+      record {
+        answered = rw (s, eq-eqb (w .state .pointer .next) 0 e, le-leb 8192 (length before) l);
+        made = λ _. record { records = planRecords w; plans = plan-serves w wf (passes (sound w) s) e; counted = counted; filled = filled };
+        none = λ t. absurd (true≢false (sym t));
+        kept = λ t. absurd (true≢false (sym t));
+      }
+    where
+      counted : end / 8 ≡ length (planRecords w)
+      counted = omega (arith, wrote .place)
+
+      size : 0 + length (traceOf (planRecords w)) ≡ 8 * (end / 8)
+      size = omega (arith, trace-count (planRecords w), counted)
+
+      filled : after ≡ traceOf (planRecords w) ++ drop (8 * (end / 8)) before
+      filled =
+          wrote .bytes
+          ∙ sets-eq (traceOf (planRecords w)) before 0 (omega (arith, trace-count (planRecords w), plan-room w wf))
+          ∙ ap (λ (n : ℕ). traceOf (planRecords w) ++ drop n before) size
+
+-- ---- a plan that is run
+
+-- an answer that is no refusal has a plan in the buffer
+pub plan-written : {w : File} {before after : List ℕ} (p : Planned) → PlanKept w before after p → {code : ℕ} → code ≡ codeOf (p .answer) → code < 2
+    → PlanWritten w before after (p .count)
+unfolding refused
+plan-written p done e small = done .made (lt-leb 2 (codeOf (p .answer)) (rw e at small))
+
+module _ {w : File} {before after : List ℕ} {count : ℕ} (p : PlanWritten w before after count) where
+  -- its records stand whole in the buffer
+  pub written-room : 8 * count ≤ length after
+  written-room =
+      omega (
+        arith,
+        ap length (p .filled) ∙ length-append (traceOf (p .records)) (drop (8 * count) before),
+        trace-count (p .records),
+        p .counted,
+      )
+
+  pub written-few : count ≤ 1024
+  written-few = omega (arith, p .counted, p .plans .room)
+
+  -- nothing else stands before their end
+  alone : take (8 * count) after ≡ traceOf (p .records)
+  alone =
+      ap (take (8 * count)) (p .filled)
+      ∙ take-at (traceOf (p .records)) (drop (8 * count) before) (8 * count) (omega (arith, trace-count (p .records), p .counted))
+
+  items-alone : items count (take (8 * count) after) ≡ map Whole (p .records)
+  items-alone =
+      ap₂ items (p .counted) (alone ∙ sym (append-nil (traceOf (p .records)))) ∙ trace-items (p .records) []
+
+  -- a run over them answers each, where there are places enough
+  all-read : (places : List ℕ) → length places ≡ 8192 → runCount (take (8 * count) after) places ≡ count
+  unfolding runCount itemCount
+  all-read places h = omega (arith, ap length alone, trace-count (p .records), p .counted, p .plans .room)
+
+  module _ (f : File) (ff : IsFile f) (s : sound f ≡ true) (places : List ℕ) (h : length places ≡ 8192) where
+    runs : RunsInto f (p .records) w
+    runs = p .plans .restores f ff (passes (sound f) s)
+
+    run-is : run f (take (8 * count) after) places ≡ ran count f (take (8 * count) after) places
+    unfolding run
+    run-is = rw (s, all-read places h)
+
+    -- it ends in the wanted file
+    pub run-ends : run f (take (8 * count) after) places .file ≡ w
+    unfolding ran
+    run-ends = rw run-is (ap (fileAfter f) items-alone ∙ runs .ends)
+
+    -- and every reply has code 0
+    pub run-codes : (k : ℕ) → k < count → getD (run f (take (8 * count) after) places .buffer) (8 * k) 0 ≡ 0
+    unfolding ran
+    run-codes k small =
+        rw (run-is, items-alone)
+        (codes-zero (map Whole (p .records)) f (drop (8 * count) places) (runs .allDone) k
+        (omega (arith, length-map (p .records) Whole, p .counted)))
+
+-- ---- a restore
+
+module _ (f : File) {w : File} {before : List ℕ} where
+  restore-refused : {after : List ℕ} (a : Answer) → a ≡ restoreAnswer f w (length before) → refused a ≡ true → after ≡ before
+      → (r : Restored) → r ≡ record { answer = a; count = 0; file = f } → RestoreKept f w before after r
+  unfolding items fileAfter
+  restore-refused {after} a e t same r q =
+      subst (λ (x : Restored). RestoreKept f w before after x) (sym q)
+      (record {
+        answered = e;
+        made = λ n. absurd (true≢false (sym t ∙ n));
+        ran = refl;
+        restored = λ n. absurd (true≢false (sym t ∙ n));
+        none = λ _. refl;
+        back = λ _. refl;
+        kept = λ _. same;
+      })
+
+  pub restore-unsound : sound f ≡ false → (r : Restored) → r ≡ record { answer = NotSound; count = 0; file = f } → RestoreKept f w before before r
+  unfolding restoreAnswer refused codeOf
+  restore-unsound s = restore-refused NotSound (rw s) refl refl
+
+  module _ (s : sound f ≡ true) {after : List ℕ} (p : Planned) (done : PlanKept w before after p) where
+    as-planned : p .answer ≡ restoreAnswer f w (length before)
+    unfolding restoreAnswer
+    as-planned = done .answered ∙ rw s
+
+    pub restore-unplanned : {code : ℕ} → code ≡ codeOf (p .answer) → 2 ≤ code → (r : Restored) → r ≡ record { answer = p .answer; count = 0; file = f }
+        → RestoreKept f w before after r
+    unfolding refused
+    restore-unplanned e large =
+        let no = le-leb 2 (codeOf (p .answer)) (rw e at large) in
+        restore-refused (p .answer) as-planned no (done .kept no)
+
+    pub restore-done : {code : ℕ} → code ≡ codeOf (p .answer) → code < 2 → IsFile f → (g : File) → g ≡ w
+        → RestoreKept f w before after (record { answer = p .answer; count = p .count; file = g })
+    unfolding refused
+    restore-done same small ff g e =
+        let yes = lt-leb 2 (codeOf (p .answer)) (rw same at small) in
+        record {
+          answered = as-planned;
+          made = done .made;
+          ran = e ∙ sym (planned-runs w before after (p .count) (done .made yes) f ff (passes (sound f) s) .1);
+          restored = λ _. e;
+          none = λ n. absurd (true≢false (sym n ∙ yes));
+          back = λ n. absurd (true≢false (sym n ∙ yes));
+          kept = λ n. absurd (true≢false (sym n ∙ yes));
+        }
+
+-- ---- what the promises settle
+
+-- 14 is never answered
+pub kept-never-fourteen : (f w : File) (before after : List ℕ) (r : Restored) → RestoreKept f w before after r
+    → codeOf (r .answer) ≡ 14 → ⊥
+kept-never-fourteen f w before after r p e = never-fourteen f w (length before) (sym (ap codeOf (p .answered)) ∙ e)
+
+-- two plans of one file and buffer answer the same; their bytes and counts may differ, since several plans serve
+pub plans-alike : (w : File) (before after other : List ℕ) (p q : Planned) → PlanKept w before after p → PlanKept w before other q
+    → p .answer ≡ q .answer
+plans-alike w before after other p q s t = s .answered ∙ sym (t .answered)
+
+-- and two restores answer the same and end in the same file
+pub restores-alike : (f w : File) (before after other : List ℕ) (p q : Restored) → RestoreKept f w before after p → RestoreKept f w before other q
+    → (p .answer ≡ q .answer) × (p .file ≡ q .file)
+restores-alike f w before after other p q s t = (same, files)
+  where
+    same : p .answer ≡ q .answer
+    same = s .answered ∙ sym (t .answered)
+
+    files : p .file ≡ q .file
+    files =
+        by-test (refused (p .answer))
+        (λ e. s .back e ∙ sym (t .back (sym (ap refused same) ∙ e)))
+        (λ e. s .restored e ∙ sym (t .restored (sym (ap refused same) ∙ e)))

@@ -1,4 +1,0 @@
-// Replay: every code of an access, in order.
-fn main() {
-    shell::replay();
-}

@@ -1,4 +1,0 @@
-// Replay: three records and a fragment of five bytes.
-fn main() {
-    shell::replay();
-}

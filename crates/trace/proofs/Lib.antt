@@ -1,0 +1,10 @@
+pub mod RecordBytes
+pub mod Positions
+pub mod ThinWalks
+pub mod RunMore
+pub mod EffectsInParts
+pub mod ServedAccess
+pub mod RunLoop
+pub mod RunEnds
+pub mod BytesAndRecords
+pub mod RunInPieces

@@ -1,0 +1,120 @@
+-- `run_whole` meets its contract: the loop keeps `Held`. Assumes nothing.
+use Prim.Native.Nat.{ℕ, _*_, _-_, _%_}
+use mathlib.Core.Path.{_≡_, refl, sym, ap, _∙_, subst}
+use mathlib.Core.Bool.{cond}
+use mathlib.Core.List.{List, _++_}
+use native.Mathlib.Omega.{arith}
+use borrow.Author.Needs.{needs}
+use lib.Dec.{T}
+use lib.ListN.{drop, set}
+use Rattle.file.specs.declared.palette.Colour.{Colour}
+use Rattle.file.specs.declared.registers.File.{File}
+use Rattle.file.specs.File.{register, seen, black}
+use Rattle.file.specs.Sound.{sound}
+use Rattle.access.specs.Access.{inBank, shownIn}
+use Rattle.trace.specs.Records.{items}
+use Rattle.trace.specs.Run.{fileAfter, replies}
+use Rattle.trace.proofs.RunLoop.{came-by, together, Held, buffer-long, component-served, held-step}
+use Rattle.trace.proofs.RunMore.{run-sound}
+use Rattle.trace.proofs.running.run_whole.Statement.{statement}
+use Rattle.trace.proofs.running.run_whole.Tie as tie
+
+abbrev Inv-loop : tie.InvT-loop
+Inv-loop trace replies₀ count registers₀ palette₀ bank₀ state₀ cells stored n₀ replies registers palette bank state n =
+    Held (together registers₀ palette₀ bank₀ state₀) trace replies₀ count replies registers palette bank state n
+
+abbrev μ-loop : tie.MeasureT-loop
+μ-loop trace replies₀ count registers₀ palette₀ bank₀ state₀ cells stored n₀ replies registers palette bank state n =
+    count - n
+
+loop-holds : tie.Need-loop-holds Inv-loop μ-loop
+unfolding fileAfter items replies
+loop-holds c = record { reached = omega arith; file = refl; said = refl }
+
+serve-requires : tie.Need-serve-requires Inv-loop μ-loop
+unfolding sound seen
+serve-requires c κs = (c .before .before .before .before .before .before .before .cells .ensures, c .before .before .before .before .before .before .stored .ensures, subst (λ (f : File). T (sound f)) (sym (c .before .before .before .before .before .loop .inv .file)) (run-sound (c .before .before .before .before .before .before .before .before .before .before .before .before .before .before .args .whole) _ (c .before .before .before .before .before .before .before .before .before .before .before .before .before .before .pre .0)))
+
+mul-component : tie.Need-mul-component Inv-loop μ-loop
+mul-component c = record { fits = omega (arith, c .bank-entry .ensures .1) }
+
+array-copy-out-component : tie.Need-array-copy-out-component Inv-loop μ-loop
+array-copy-out-component c = omega (arith, c .bank-entry .ensures .1)
+
+mul-component-2 : tie.Need-mul-component-2 Inv-loop μ-loop
+mul-component-2 c = record { fits = omega (arith, c .palette-entry .ensures .1) }
+
+array-copy-out-component-2 : tie.Need-array-copy-out-component-2 Inv-loop μ-loop
+array-copy-out-component-2 c = omega (arith, c .palette-entry .ensures .1)
+
+mul-record-at : tie.Need-mul-record-at Inv-loop μ-loop
+mul-record-at c = search needs
+
+mul-put-reply : tie.Need-mul-put-reply Inv-loop μ-loop
+mul-put-reply c = record { fits = mul-record-at (c .before .before .before .before .before .before .before) .fits }
+
+put-reply-requires : tie.Need-put-reply-requires Inv-loop μ-loop
+put-reply-requires c κs = omega (arith, buffer-long _ _ _ (c .before .before .before .before .before .before .before .before .loop .inv) (c .before .before .before .before .before .before .before .before .before .before .before .before .before .before .before .before .before .pre .2), c .before .before .before .before .before .before .before .loop-test .taken, c .before .before .before .before .before .before .before .before .before .before .before .before .before .before .before .before .before .pre .2)
+
+mul-bank : tie.Need-mul-bank Inv-loop μ-loop
+mul-bank c = record { fits = omega (arith, c .bank-entry2 .ensures .1) }
+
+array-set-from-bank : tie.Need-array-set-from-bank Inv-loop μ-loop
+array-set-from-bank c = omega (arith, c .bank-entry2 .ensures .1)
+
+mul-palette : tie.Need-mul-palette Inv-loop μ-loop
+mul-palette c = record { fits = omega (arith, c .palette-entry2 .ensures .1) }
+
+array-set-from-palette : tie.Need-array-set-from-palette Inv-loop μ-loop
+array-set-from-palette c = omega (arith, c .palette-entry2 .ensures .1)
+
+add-n : tie.Need-add-n Inv-loop μ-loop
+add-n c = record { fits = omega (arith, mul-record-at (c .before .before .before .before .before .before .before .before .before .before .before .before .before) .fits) }
+
+loop-less : tie.Need-loop-less Inv-loop μ-loop
+loop-less c = omega (arith, c .before .before .before .before .before .before .before .before .before .before .before .before .before .loop-test .taken)
+
+loop-again : tie.Need-loop-again Inv-loop μ-loop
+unfolding black inBank register seen
+loop-again c =
+    let start = c .before .before .before .before .before .before .before .before .before .before .before .before .before .before .before .before .before .before .before .before .before .before .before in
+    let turn = c .before .before .before .before .before .before .before .before .before .before .before .before .before .before .loop in
+    let inv = turn .inv in
+    let more = c .before .before .before .before .before .before .before .before .before .before .before .before .before .loop-test .taken in
+    let asked = c .before .before .before .before .before .before .before .before .before .before .before .before .record-at in
+    let after = c .before .before .before .before .before .before .before .before .serve in
+    let painted = c .before .if2 in
+    let value : c .before .before .before .before .before .before .before .if1 .value ≡ cond (after .result .pixel) (shownIn (together (turn .registers) (turn .palette) (turn .bank) (turn .state))) (after .result .value) =
+    came-by (c .before .before .before .before .before .before .before .if1 .came)
+    (λ x. rw (x .0 .taken) (x .8 ∙ x .7 .ensures
+    ∙ component-served (turn .registers) (turn .palette) (turn .bank) (turn .state) (asked .result) _ (after .result) (after .ensures) _ _ _ (x .0 .taken) (x .2 .ensures) (x .5 .ensures .0) (x .3 .ensures .0)))
+    (λ x. rw (x .0 .left) (x .1)) in
+    held-step _ _ _ inv more (omega (arith, more, start .pre .1)) (asked .result) (asked .ensures) _ (after .result) (after .ensures) _ value
+    _ _
+    (came-by (painted .came) (λ x. rw (x .0 .taken, x .1 .taken) (x .3))
+    (λ y. came-by y
+    (λ x. rw (x .0 .taken, x .1 .left) (x .3 ∙ ap (λ (i : ℕ). set (turn .palette) i (after .result .colour)) (x .2 .ensures .0)))
+    (λ x. rw (x .0 .left) (x .1))))
+    (came-by (painted .came) (λ x. rw (x .0 .taken, x .1 .taken) (x .4 ∙ ap (λ (i : ℕ). set (turn .bank) i (after .result .colour)) (x .2 .ensures .0)))
+    (λ y. came-by y (λ x. rw (x .0 .taken, x .1 .left) (x .4)) (λ x. rw (x .0 .left) (x .2))))
+    _ (c .before .before .before .before .before .put-reply .ensures)
+
+same-length : tie.Need-same-length Inv-loop μ-loop
+same-length c = buffer-long _ _ _ (c .before .loop .inv) (c .before .before .before .before .before .before .before .before .before .before .pre .2)
+
+returns : tie.Need-returns Inv-loop μ-loop
+returns c =
+    let start = c .before .before .before .before .before .before .before .before .before .before in
+    let inv = c .before .loop .inv in
+    let all : c .before .loop .n ≡ start .args .count = omega (arith, c .loop-test .left, inv .reached) in (
+      inv .file ∙ ap (λ (k : ℕ). fileAfter (start .args .whole) (items k (start .args .trace .now))) all,
+      inv .said ∙ ap (λ (k : ℕ). replies (start .args .whole) (items k (start .args .trace .now)) ++ drop (8 * k) (start .args .replies .now)) all,
+    )
+
+pub run-whole-spec : {M : Type 1} → statement M
+run-whole-spec =
+    tie.close
+    (tie.spec Inv-loop μ-loop (λ c κs. search needs) (λ c κs. search needs) loop-holds (λ c. search needs) (λ c κs. search needs)
+    serve-requires (λ c κs. search needs) (λ c κs. search needs) mul-component array-copy-out-component (λ c κs. search needs) mul-component-2
+    array-copy-out-component-2 (λ c κs. search needs) mul-put-reply put-reply-requires (λ c κs. search needs) mul-bank array-set-from-bank
+    (λ c κs. search needs) mul-palette array-set-from-palette add-n loop-less loop-again same-length returns)

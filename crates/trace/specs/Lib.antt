@@ -1,0 +1,4 @@
+pub mod Records
+pub mod Run
+pub mod Reader
+pub mod EngineServed

@@ -1,0 +1,259 @@
+// A run over a trace: the file's parts are locals, and an access changes one of them.
+ghost use mathlib.Core.Path.{_≡_};
+ghost use mathlib.Core.Bool.{cond};
+ghost use mathlib.Core.List.{_++_};
+ghost use Prim.Native.Nat.{_+_, _*_, _%_, _<_, _≤_};
+ghost use lib.Dec.{T};
+ghost use lib.ListN.{length, getD, take, drop, set};
+ghost use Rattle.bits.specs.Store.{store as storeBits};
+ghost use Rattle.file.specs.declared.answer.Answer.the-variants.{Done as DoneAnswer, Malformed as MalformedAnswer};
+ghost use Rattle.file.specs.File.{seen, paletteCount, bankCount};
+ghost use Rattle.file.specs.Palette.{component as componentOf};
+ghost use Rattle.file.specs.Registers.{registerCount, storedTable};
+ghost use Rattle.file.specs.Sound.{sound};
+ghost use Rattle.places.specs.EngineCells.{cellTable};
+ghost use Rattle.access.specs.Access.{replyTo};
+ghost use Rattle.trace.specs.EngineServed.{Answered, Puts, Serves};
+ghost use Rattle.trace.specs.Records.{recordOf, replyBytes, items};
+ghost use Rattle.trace.specs.Run.{fileAfter, replies as repliesOf, runCount, run as runOf};
+use crate::wire::put_reply;
+use crate::wire::record_at;
+use crate::wire::record_of;
+use access::Record;
+use access::decide;
+use access::is_in_bank;
+use file::Answer;
+use file::BANK;
+use file::Colour;
+use file::Effect;
+use file::File;
+use file::REGISTERS;
+use file::State;
+use file::is_sound;
+use places::CELLS;
+
+// What a run hands back: its answer, the new file and the count of replies. What is left of the trace begins at 8 times the count.
+pub struct Ran {
+    pub answer: Answer,
+    pub file: File,
+    pub count: usize,
+}
+
+// The entry of the palette that the pointer names, and that of the bank.
+fn palette_entry(state: State) -> usize
+    ensures { λ r. ⌜ (r ≡ state .pointer .address) × (r < paletteCount) ⌝ }
+{
+    state.pointer.address as usize
+}
+
+fn bank_entry(state: State) -> usize
+    ensures { λ r. ⌜ (r ≡ state .pointer .address % bankCount) × (r < bankCount) ⌝ }
+{
+    state.pointer.address as usize % BANK
+}
+
+// The component of the next colour, of the entry of the bank or the palette.
+fn component(bank: bool, in_bank: Colour, in_palette: Colour, state: State) -> u16
+    ensures { λ r. ⌜ r ≡ componentOf (cond bank in_bank in_palette) (state .pointer .next) ⌝ }
+{
+    let next = state.pointer.next;
+    if bank {
+        in_bank.component(next) as u16
+    } else {
+        in_palette.component(next) as u16
+    }
+}
+
+// One register stored where it stands.
+fn store_in(registers: &mut [u16; REGISTERS], number: usize, reach: u16, value: u16)
+    ensures { λ _. ⌜ (number < registerCount → now (registers .exit) ≡ set (now (registers .entry)) number (storeBits reach (getD (now (registers .entry)) number 0) value)) ⌝ }
+{
+    if number < REGISTERS {
+        registers[number] = bits::store(reach, registers[number], value);
+    }
+}
+
+// What an access leaves beside the registers: its reply's code and value, the state; whether what was read is the pixel that the pointer
+// names, and whether it paints, a colour, in the bank or the palette.
+pub struct Served {
+    pub code: u8,
+    pub value: u16,
+    pub state: State,
+    pub pixel: bool,
+    pub paints: bool,
+    pub bank: bool,
+    pub colour: Colour,
+}
+
+// An access that is answered, before its effect.
+fn answered(answer: Answer, pixel: bool, state: State) -> Served
+    ensures { λ r. ⌜ Answered answer pixel state r ⌝ }
+{
+    Served {
+        code: answer.code(),
+        value: answer.value(),
+        state,
+        pixel,
+        paints: false,
+        bank: false,
+        colour: Colour {
+            red: 0,
+            green: 0,
+            blue: 0,
+        },
+    }
+}
+
+// An effect on the registers where they stand, and on the other parts by value.
+fn put_effect(registers: &mut [u16; REGISTERS], before: Served, effect: Effect) -> Served
+    ensures { λ r. ⌜ Puts (now (registers .entry)) before effect (now (registers .exit)) r ⌝ }
+{
+    let mut after = before;
+    match effect {
+        Effect::Nothing => {}
+        Effect::Store {
+            register,
+            reach,
+            value,
+            flips,
+        } => {
+            store_in(registers, register, reach, value);
+            after.state = before.state.flipped(flips);
+        }
+        Effect::Toggle(toggle) => {
+            after.state = before.state.toggling(toggle);
+        }
+        Effect::Move(pointer) => {
+            after.state = before.state.pointing(pointer);
+        }
+        Effect::Paint {
+            bank,
+            entry: _,
+            colour,
+            pointer,
+        } => {
+            after.paints = true;
+            after.bank = bank;
+            after.colour = colour;
+            after.state = before.state.pointing(pointer);
+        }
+    }
+    after
+}
+
+// One access: the registers where they stand, the state by value.
+fn serve(
+    cells: &[u8; CELLS],
+    stored: &[u16; REGISTERS],
+    registers: &mut [u16; REGISTERS],
+    state: State,
+    asked: Record,
+) -> Served
+    requires { ⌜ (now cells ≡ cellTable) × (now stored ≡ storedTable) × T (sound (seen (now registers) state)) ⌝ }
+    ensures { λ r. ⌜ Serves (seen (now (registers .entry)) state) asked (now (registers .exit)) r ⌝ }
+{
+    let decision = decide(cells, stored, registers, state, asked);
+    let answer = decision.answer;
+    let effect = decision.effect;
+    let before = answered(answer, decision.pixel, state);
+    put_effect(registers, before, effect)
+}
+
+// The first `count` whole records of a trace, which has them, into as many places of a reply buffer, which has them.
+fn run_whole(whole: File, trace: &[u8], replies: &mut [u8], count: usize) -> File
+    requires { ⌜ T (sound whole) × (8 * count ≤ length (now trace)) × (8 * count ≤ length (now replies)) ⌝ }
+    ensures { λ r. ⌜ r ≡ fileAfter whole (items count (now (trace .entry))) ⌝ }
+    ensures { λ _. ⌜ now (replies .exit) ≡ repliesOf whole (items count (now (trace .entry))) ++ drop (8 * count) (now (replies .entry)) ⌝ }
+{
+    let mut registers = whole.registers;
+    let mut palette = whole.palette;
+    let mut bank = whole.bank;
+    let mut state = whole.state;
+    let cells = places::cells();
+    let stored = File::stored();
+    for n in 0..count {
+        let asked = record_at(trace, 8 * n);
+        let served = serve(&cells, &stored, &mut registers, state, asked);
+        let mut value = served.value;
+        if served.pixel {
+            value = component(
+                is_in_bank(&registers),
+                bank[bank_entry(state)],
+                palette[palette_entry(state)],
+                state,
+            );
+        }
+        put_reply(replies, 8 * n, asked, served.code, value);
+        let colour = served.colour;
+        if served.paints {
+            if served.bank {
+                bank[bank_entry(state)] = colour;
+            } else {
+                palette[palette_entry(state)] = colour;
+            }
+        }
+        state = served.state;
+    }
+    File {
+        registers,
+        palette,
+        bank,
+        state,
+    }
+}
+
+// The reply to the fragment at the end of a trace: code 2.
+fn put_fragment(trace: &[u8], replies: &mut [u8], at: usize)
+    requires { ⌜ at < length (now trace) ⌝ }
+    requires { ⌜ at + 8 ≤ length (now replies) ⌝ }
+    ensures { λ _. ⌜ now (replies .exit) ≡ take at (now (replies .entry)) ++ replyBytes (replyTo (recordOf (take 8 (drop at (now (trace .entry))))) MalformedAnswer) ++ drop (at + 8) (now (replies .entry)) ⌝ }
+{
+    let left = &trace[at..];
+    put_reply(replies, at, record_of(left), 2, 0);
+}
+
+// A run from a sound file.
+fn run_sound(whole: File, trace: &[u8], replies: &mut [u8]) -> Ran
+    requires { ⌜ T (sound whole) ⌝ }
+    ensures { λ r. ⌜ (r .answer ≡ DoneAnswer 0) × (r .file ≡ fileAfter whole (items (runCount (now (trace .entry)) (now (replies .entry))) (now (trace .entry)))) × (r .count ≡ runCount (now (trace .entry)) (now (replies .entry))) ⌝ }
+    ensures { λ _. ⌜ now (replies .exit) ≡ repliesOf whole (items (runCount (now (trace .entry)) (now (replies .entry))) (now (trace .entry))) ++ drop (8 * runCount (now (trace .entry)) (now (replies .entry))) (now (replies .entry)) ⌝ }
+{
+    let places = replies.len() / 8;
+    let full = trace.len() / 8;
+    if places <= full {
+        return Ran {
+            answer: Answer::Done(0),
+            file: run_whole(whole, trace, replies, places),
+            count: places,
+        };
+    }
+    let file = run_whole(whole, trace, replies, full);
+    if trace.len() % 8 == 0 {
+        return Ran {
+            answer: Answer::Done(0),
+            file,
+            count: full,
+        };
+    }
+    put_fragment(trace, replies, 8 * full);
+    Ran {
+        answer: Answer::Done(0),
+        file,
+        count: full + 1,
+    }
+}
+
+// A run over a trace: replies into whole 8-byte places of a buffer until records or places end.
+pub fn run(whole: File, trace: &[u8], replies: &mut [u8]) -> Ran
+    ensures { λ r. ⌜ (r .answer ≡ runOf whole (now (trace .entry)) (now (replies .entry)) .answer) × (r .file ≡ runOf whole (now (trace .entry)) (now (replies .entry)) .file) × (r .count ≡ runOf whole (now (trace .entry)) (now (replies .entry)) .count) ⌝ }
+    ensures { λ _. ⌜ now (replies .exit) ≡ runOf whole (now (trace .entry)) (now (replies .entry)) .buffer ⌝ }
+{
+    if is_sound(whole) {
+        return run_sound(whole, trace, replies);
+    }
+    Ran {
+        answer: Answer::NotSound,
+        file: whole,
+        count: 0,
+    }
+}
