@@ -10,7 +10,7 @@ use lib.ListN.{length, getD, take, drop}
 use lib.Seq.{drop-cons}
 use Rattle.bits.proofs.Test.{by-test}
 use Rattle.access.specs.declared.record.Record.{Record}
-use Rattle.trace.proofs.Positions.{part-left}
+use Rattle.trace.proofs.RecordBytes.{part-left}
 use Rattle.plan.specs.Appended.{Appended}
 use Rattle.plan.specs.EngineRows.{indexPort, indexBy, roadOf}
 use Rattle.plan.specs.Plan.{portWrite}
