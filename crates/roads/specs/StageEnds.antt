@@ -10,9 +10,9 @@ use Rattle.file.specs.declared.registers.File.{File}
 use Rattle.file.specs.File.{withPalette, withBank, withPointer, withToggle}
 use Rattle.file.specs.Names.{MISC, ARX, PCI04, CR11, B0}
 use Rattle.file.specs.Palette.{addressed}
-use Rattle.plan.specs.Roads.{indexRoads}
-use Rattle.plan.specs.Plan.{openSpaces, openLock, openPalette, openBank}
-use Rattle.plan.specs.RegisterStage.{withRegister, brought}
+use Rattle.roads.specs.Roads.{indexRoads}
+use Rattle.roads.specs.Plan.{openSpaces, openLock, openPalette, openBank}
+use Rattle.roads.specs.RegisterStage.{withRegister, brought}
 
 -- what the opening leaves, record by record
 abbrev pub withSpacesOn : File → File

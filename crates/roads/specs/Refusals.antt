@@ -12,7 +12,7 @@ use Rattle.file.specs.Sound.{sound}
 use Rattle.access.specs.declared.record.Item.the-variants.{Whole}
 use Rattle.access.specs.declared.record.Record.{Record}
 use Rattle.trace.specs.Run.{answers}
-use Rattle.plan.specs.Restores.{allAccepted}
+use Rattle.roads.specs.Restores.{allAccepted}
 
 -- 'Plan: 12, 13, 11', by the wanted file and the length of the buffer
 unfoldable pub planAnswer : File → ℕ → Answer

@@ -9,8 +9,8 @@ use Rattle.file.specs.declared.palette.Pointer.{Pointer}
 use Rattle.file.specs.declared.registers.File.{File}
 use Rattle.file.specs.Names.{MISC, ARX}
 use Rattle.access.specs.declared.record.Record.{Record}
-use Rattle.plan.specs.Roads.{toPCI04, toCR11, toB0, toMISC, toARX, byHalf, registerRoads, indexRoads, closingRoads}
-use Rattle.plan.specs.RoadRecords.{write, along}
+use Rattle.roads.specs.Roads.{toPCI04, toCR11, toB0, toMISC, toARX, byHalf, registerRoads, indexRoads, closingRoads}
+use Rattle.roads.specs.RoadRecords.{write, along}
 
 -- a word to config space, a port's byte, a byte to MMIO
 abbrev pub configWrite : ℕ → ℕ → Record

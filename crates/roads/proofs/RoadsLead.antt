@@ -15,10 +15,10 @@ use Rattle.access.specs.Checks.{isPort, otherHalf}
 use Rattle.places.specs.Lookup.{attributeIndex, selects, matches, first, rowAt, isOneOf}
 use Rattle.places.specs.Places.{Index, any, sr, cr, gr, ar, indexDue, dataDue, Row, places}
 use Rattle.places.specs.Profile.{profile, storesInto, flips}
-use Rattle.plan.specs.Roads.{Road, portRoad, eachRoad, but, toPCI04, toCR11, toB0, toMISC, toSRX, toGRX, toARX, registerRoads}
-use Rattle.plan.specs.RoadRecords.{write}
-use Rattle.plan.specs.RegisterStage.{indexFlips, everyRoad}
-use Rattle.plan.proofs.LookupBySelectors.{Selectors, bareFile}
+use Rattle.roads.specs.Roads.{Road, portRoad, eachRoad, but, toPCI04, toCR11, toB0, toMISC, toSRX, toGRX, toARX, registerRoads}
+use Rattle.roads.specs.RoadRecords.{write}
+use Rattle.roads.specs.RegisterStage.{indexFlips, everyRoad}
+use Rattle.roads.proofs.LookupBySelectors.{Selectors, bareFile}
 
 -- what a file shows with an index selected
 unfoldable pub withIndex : Index → Selectors → Selectors

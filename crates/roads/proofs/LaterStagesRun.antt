@@ -22,22 +22,22 @@ use Rattle.file.proofs.Soundness.{registers-sound, sound-by, state-sound, point
 use Rattle.file.specs.State.{stateSound}
 use Rattle.places.specs.Lookup.{isOneOf}
 use Rattle.access.specs.Access.{paletteUp, inBank}
-use Rattle.plan.specs.Roads.{toPCI04, toCR11, toB0, toSRX, toGRX, toARX, toCRX, registerRoads, indexRoads, closingRoads, eachRoad, but, byHalf}
-use Rattle.plan.specs.Plan.{toggleRead, pointerWrite, openPalette, openBank, entries, colours, indices, closing}
-use Rattle.plan.specs.RoadRecords.{write, selecting, along}
-use Rattle.plan.specs.Restores.{RunsInto, bytes}
-use Rattle.plan.specs.RegisterStage.{withRegister, withFlip, indexFlips, everyRoad, SpacesOn, Ready, loose, selectable, brought, passable, Brings}
-use Rattle.plan.specs.ColourStage.{PaletteReady, entryCount, entriesIn, withEntries, painted, inRange, afterStretch}
-use Rattle.plan.specs.StageEnds.{coloured, indexed, closed}
-use Rattle.plan.proofs.RegisterStageRuns.{AllLead, roads-bring, arx-leads}
-use Rattle.plan.proofs.LookupBySelectors.{selectorsOf}
-use Rattle.plan.proofs.StretchRuns.{stretch-runs, address-runs}
-use Rattle.plan.proofs.RunsCompose.{runs-then}
-use Rattle.plan.proofs.ColourStageRuns.{sets-all}
-use Rattle.plan.proofs.RoadsLead.{withIndex, leads, leading, single-roads-lead, registers-lead, crx-leads}
-use Rattle.plan.proofs.OpeningRuns.{config-runs, open-fits}
-use Rattle.plan.proofs.ReadyRuns.{at-any, with-sound, wanted-within, ready-runs, ready-with, ready-flipped}
-use Rattle.plan.proofs.ToggleReads.{toggle-runs}
+use Rattle.roads.specs.Roads.{toPCI04, toCR11, toB0, toSRX, toGRX, toARX, toCRX, registerRoads, indexRoads, closingRoads, eachRoad, but, byHalf}
+use Rattle.roads.specs.Plan.{toggleRead, pointerWrite, openPalette, openBank, entries, colours, indices, closing}
+use Rattle.roads.specs.RoadRecords.{write, selecting, along}
+use Rattle.roads.specs.Restores.{RunsInto, bytes}
+use Rattle.roads.specs.RegisterStage.{withRegister, withFlip, indexFlips, everyRoad, SpacesOn, Ready, loose, selectable, brought, passable, Brings}
+use Rattle.roads.specs.ColourStage.{PaletteReady, entryCount, entriesIn, withEntries, painted, inRange, afterStretch}
+use Rattle.roads.specs.StageEnds.{coloured, indexed, closed}
+use Rattle.roads.proofs.RegisterStageRuns.{AllLead, roads-bring, arx-leads}
+use Rattle.roads.proofs.LookupBySelectors.{selectorsOf}
+use Rattle.roads.proofs.StretchRuns.{stretch-runs, address-runs}
+use Rattle.roads.proofs.RunsCompose.{runs-then}
+use Rattle.roads.proofs.ColourStageRuns.{sets-all}
+use Rattle.roads.proofs.RoadsLead.{withIndex, leads, leading, single-roads-lead, registers-lead, crx-leads}
+use Rattle.roads.proofs.OpeningRuns.{config-runs, open-fits}
+use Rattle.roads.proofs.ReadyRuns.{at-any, with-sound, wanted-within, ready-runs, ready-with, ready-flipped}
+use Rattle.roads.proofs.ToggleReads.{toggle-runs}
 
 -- ---- colours
 

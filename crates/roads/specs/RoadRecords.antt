@@ -5,7 +5,7 @@ use mathlib.Core.List.{List, [], _∷_, _++_}
 use lib.ListN.{getD}
 use Rattle.access.specs.declared.record.Record.{Record}
 use Rattle.places.specs.Places.{Index, any, sr, cr, gr, ar, indexDue, dataDue}
-use Rattle.plan.specs.Roads.{Road, toSRX, toGRX, toARX}
+use Rattle.roads.specs.Roads.{Road, toSRX, toGRX, toARX}
 
 -- the record that writes a value by a road
 abbrev pub write : Road → ℕ → Record

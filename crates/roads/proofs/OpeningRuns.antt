@@ -14,18 +14,18 @@ use Rattle.file.specs.Registers.{storedBits, storedTable}
 use Rattle.file.proofs.Soundness.{sound-by, registers-sound, state-sound, toggling-sound}
 use Rattle.file.specs.Sound.{allWithin, sound}
 use Rattle.access.specs.Checks.{isPort, isMmio, spaceOff}
-use Rattle.plan.specs.Roads.{toPCI04, toCR11, toB0, toMISC}
-use Rattle.plan.specs.Plan.{toIndex, openSpaces, openLock, openPalette, openBank, opening}
-use Rattle.plan.specs.RoadRecords.{write}
-use Rattle.plan.specs.Restores.{RunsInto}
-use Rattle.plan.specs.RegisterStage.{withRegister, withFlip, indexFlips, SpacesOn, Ready}
-use Rattle.plan.specs.StageEnds.{withSpacesOn, withLockOff, withPaletteUp, withMISC, opened}
-use Rattle.plan.proofs.LookupBySelectors.{selectorsOf}
-use Rattle.plan.proofs.RunsCompose.{runs-one, runs-then}
-use Rattle.plan.proofs.RoadsLead.{single-roads-lead}
-use Rattle.plan.proofs.ReadyRuns.{at-any, with-sound, wanted-within, beyond-lock, unlocked-free, on-runs}
-use Rattle.plan.proofs.RoadStores.{road-stores}
-use Rattle.plan.proofs.ToggleReads.{reset-runs}
+use Rattle.roads.specs.Roads.{toPCI04, toCR11, toB0, toMISC}
+use Rattle.roads.specs.Plan.{toIndex, openSpaces, openLock, openPalette, openBank, opening}
+use Rattle.roads.specs.RoadRecords.{write}
+use Rattle.roads.specs.Restores.{RunsInto}
+use Rattle.roads.specs.RegisterStage.{withRegister, withFlip, indexFlips, SpacesOn, Ready}
+use Rattle.roads.specs.StageEnds.{withSpacesOn, withLockOff, withPaletteUp, withMISC, opened}
+use Rattle.roads.proofs.LookupBySelectors.{selectorsOf}
+use Rattle.roads.proofs.RunsCompose.{runs-one, runs-then}
+use Rattle.roads.proofs.RoadsLead.{single-roads-lead}
+use Rattle.roads.proofs.ReadyRuns.{at-any, with-sound, wanted-within, beyond-lock, unlocked-free, on-runs}
+use Rattle.roads.proofs.RoadStores.{road-stores}
+use Rattle.roads.proofs.ToggleReads.{reset-runs}
 
 -- PCI04 by config, which is open in every file
 pub config-runs : (f : File) (value : ℕ) → T (sound f) → T (within (storedBits PCI04) value)

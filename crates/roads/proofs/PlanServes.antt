@@ -24,19 +24,19 @@ use Rattle.access.specs.declared.record.Item.the-variants.{Whole}
 use Rattle.access.specs.declared.record.Record.{Record}
 use Rattle.trace.specs.Records.{items}
 use Rattle.trace.specs.Run.{fileAfter, answers}
-use Rattle.plan.specs.Roads.{Road, toARX, eachRoad, but, registerRoads, indexRoads, closingRoads}
-use Rattle.plan.specs.Plan.{openPalette, opening, colours, indices, closing, planRecords}
-use Rattle.plan.specs.RoadRecords.{along}
-use Rattle.plan.specs.Refusals.{planAnswer, restoreAnswer, answerByRun}
-use Rattle.plan.specs.Restores.{allAccepted, RunsInto, IsFile, Plans, PlanWritten}
-use Rattle.plan.specs.RegisterStage.{withRegister, Ready, afterSelecting, afterRoads, brought, moves, endsWanted, Brings}
-use Rattle.plan.specs.StageEnds.{opened, coloured, indexed, closed}
-use Rattle.plan.proofs.RegisterStageRuns.{ends-wanted, after-length, after-append}
-use Rattle.plan.proofs.RunsCompose.{runs-then}
-use Rattle.plan.proofs.PlanCount.{plan-room}
-use Rattle.plan.proofs.AcceptedFits.{run-fits, trace-items}
-use Rattle.plan.proofs.OpeningRuns.{opening-runs, opened-ready, opened-up}
-use Rattle.plan.proofs.LaterStagesRun.{colours-run, coloured-ready, registers-bring, indices-run, indexed-ready, closing-runs}
+use Rattle.roads.specs.Roads.{Road, toARX, eachRoad, but, registerRoads, indexRoads, closingRoads}
+use Rattle.roads.specs.Plan.{openPalette, opening, colours, indices, closing, planRecords}
+use Rattle.roads.specs.RoadRecords.{along}
+use Rattle.roads.specs.Refusals.{planAnswer, restoreAnswer, answerByRun}
+use Rattle.roads.specs.Restores.{allAccepted, RunsInto, IsFile, Plans, PlanWritten}
+use Rattle.roads.specs.RegisterStage.{withRegister, Ready, afterSelecting, afterRoads, brought, moves, endsWanted, Brings}
+use Rattle.roads.specs.StageEnds.{opened, coloured, indexed, closed}
+use Rattle.roads.proofs.RegisterStageRuns.{ends-wanted, after-length, after-append}
+use Rattle.roads.proofs.RunsCompose.{runs-then}
+use Rattle.roads.proofs.PlanCount.{plan-room}
+use Rattle.roads.proofs.AcceptedFits.{run-fits, trace-items}
+use Rattle.roads.proofs.OpeningRuns.{opening-runs, opened-ready, opened-up}
+use Rattle.roads.proofs.LaterStagesRun.{colours-run, coloured-ready, registers-bring, indices-run, indexed-ready, closing-runs}
 
 -- ---- every register is named
 

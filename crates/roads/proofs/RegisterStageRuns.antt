@@ -18,14 +18,14 @@ use Rattle.file.specs.Sound.{allWithin}
 use Rattle.places.specs.Lookup.{isOneOf}
 use Rattle.access.specs.declared.record.Record.{Record}
 use Rattle.places.specs.Places.{Index, any, sr, cr, gr, ar, indexDue, dataDue}
-use Rattle.plan.specs.Roads.{Road, toSRX, toGRX, toARX}
-use Rattle.plan.specs.RoadRecords.{write, selecting, along}
-use Rattle.plan.specs.Restores.{RunsInto}
-use Rattle.plan.specs.RegisterStage.{withRegister, withFlip, indexFlips, everyRoad, Ready, loose, afterSelecting, selectable, selected, afterRoads, brought, passable, moves, endsWanted, leavesAlone, Brings}
-use Rattle.plan.proofs.LookupBySelectors.{Selectors, selectorsOf}
-use Rattle.plan.proofs.RunsCompose.{runs-none, runs-then}
-use Rattle.plan.proofs.RoadsLead.{withIndex, leads, leading, single-roads-lead}
-use Rattle.plan.proofs.ReadyRuns.{selectors-with, wanted-within, ready-runs, ready-with, ready-flipped}
+use Rattle.roads.specs.Roads.{Road, toSRX, toGRX, toARX}
+use Rattle.roads.specs.RoadRecords.{write, selecting, along}
+use Rattle.roads.specs.Restores.{RunsInto}
+use Rattle.roads.specs.RegisterStage.{withRegister, withFlip, indexFlips, everyRoad, Ready, loose, afterSelecting, selectable, selected, afterRoads, brought, passable, moves, endsWanted, leavesAlone, Brings}
+use Rattle.roads.proofs.LookupBySelectors.{Selectors, selectorsOf}
+use Rattle.roads.proofs.RunsCompose.{runs-none, runs-then}
+use Rattle.roads.proofs.RoadsLead.{withIndex, leads, leading, single-roads-lead}
+use Rattle.roads.proofs.ReadyRuns.{selectors-with, wanted-within, ready-runs, ready-with, ready-flipped}
 
 -- ---- selecting an index
 

@@ -8,10 +8,10 @@ use lib.ListN.{length, length-append}
 use Rattle.places.specs.Lookup.{isOneOf}
 use Rattle.file.specs.declared.palette.Colour.{Colour}
 use Rattle.file.specs.declared.registers.File.{File}
-use Rattle.plan.specs.Roads.{toB0, eachRoad, but, registerRoads, indexRoads, closingRoads}
-use Rattle.plan.specs.Plan.{openBank, opening, pixel, pixels, entries, colours, indices, closing, planRecords}
-use Rattle.plan.specs.RoadRecords.{write, selecting, along}
-use Rattle.plan.specs.Restores.{IsFile}
+use Rattle.roads.specs.Roads.{toB0, eachRoad, but, registerRoads, indexRoads, closingRoads}
+use Rattle.roads.specs.Plan.{openBank, opening, pixel, pixels, entries, colours, indices, closing, planRecords}
+use Rattle.roads.specs.RoadRecords.{write, selecting, along}
+use Rattle.roads.specs.Restores.{IsFile}
 
 pixels-count : (cs : List Colour) → length (pixels cs) ≡ 3 * length cs
 unfolding pixels pixel

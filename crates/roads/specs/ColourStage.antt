@@ -14,9 +14,9 @@ use Rattle.file.specs.Palette.{addressed}
 use Rattle.file.specs.Sound.{sound}
 use Rattle.access.specs.declared.record.Record.{Record}
 use Rattle.access.specs.Access.{paletteUp, inBank}
-use Rattle.plan.specs.Plan.{entries}
-use Rattle.plan.specs.Restores.{bytes}
-use Rattle.plan.specs.RegisterStage.{SpacesOn}
+use Rattle.roads.specs.Plan.{entries}
+use Rattle.roads.specs.Restores.{bytes}
+use Rattle.roads.specs.RegisterStage.{SpacesOn}
 
 -- ---- where it runs
 

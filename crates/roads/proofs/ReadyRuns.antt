@@ -21,15 +21,15 @@ use Rattle.places.specs.Lookup.{isOneOf}
 use Rattle.access.specs.declared.record.Record.{Record}
 use Rattle.access.specs.Access.{lockedOut, reachIn}
 use Rattle.access.specs.Checks.{isPort, isMmio, spaceOff}
-use Rattle.plan.specs.Roads.{Road}
-use Rattle.plan.specs.Plan.{openSpaces, openLock}
-use Rattle.plan.specs.RoadRecords.{write}
-use Rattle.plan.specs.Restores.{RunsInto}
-use Rattle.plan.specs.RegisterStage.{withRegister, withFlip, indexFlips, SpacesOn, Ready, loose}
-use Rattle.plan.proofs.LookupBySelectors.{selectorsOf}
-use Rattle.plan.proofs.RunsCompose.{runs-one}
-use Rattle.plan.proofs.RoadsLead.{leads}
-use Rattle.plan.proofs.RoadStores.{Free, road-stores}
+use Rattle.roads.specs.Roads.{Road}
+use Rattle.roads.specs.Plan.{openSpaces, openLock}
+use Rattle.roads.specs.RoadRecords.{write}
+use Rattle.roads.specs.Restores.{RunsInto}
+use Rattle.roads.specs.RegisterStage.{withRegister, withFlip, indexFlips, SpacesOn, Ready, loose}
+use Rattle.roads.proofs.LookupBySelectors.{selectorsOf}
+use Rattle.roads.proofs.RunsCompose.{runs-one}
+use Rattle.roads.proofs.RoadsLead.{leads}
+use Rattle.roads.proofs.RoadStores.{Free, road-stores}
 
 -- ---- one register anew
 

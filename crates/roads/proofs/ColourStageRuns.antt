@@ -19,11 +19,11 @@ use Rattle.file.specs.Palette.{addressed, pointerSound}
 use Rattle.file.specs.Registers.{storedTable}
 use Rattle.file.specs.Sound.{allWithin, sound}
 use Rattle.file.proofs.Soundness.{registers-sound, sound-by, state-sound, pointing-sound, addressed-sound}
-use Rattle.plan.specs.Plan.{entries}
-use Rattle.plan.specs.Restores.{RunsInto}
-use Rattle.plan.specs.ColourStage.{PaletteReady, entryCount, entriesIn, withEntries, painted, Stretch, inRange, afterStretch, stretchRecords, everyStretch, afterStretches, entriesAfter, inStretch, Agrees, AllAgree, colourEndsWanted}
-use Rattle.plan.proofs.StretchRuns.{up-as, painted-registers, painted-state, stretch-runs}
-use Rattle.plan.proofs.RunsCompose.{runs-none, runs-then}
+use Rattle.roads.specs.Plan.{entries}
+use Rattle.roads.specs.Restores.{RunsInto}
+use Rattle.roads.specs.ColourStage.{PaletteReady, entryCount, entriesIn, withEntries, painted, Stretch, inRange, afterStretch, stretchRecords, everyStretch, afterStretches, entriesAfter, inStretch, Agrees, AllAgree, colourEndsWanted}
+use Rattle.roads.proofs.StretchRuns.{up-as, painted-registers, painted-state, stretch-runs}
+use Rattle.roads.proofs.RunsCompose.{runs-none, runs-then}
 
 after-sound : (bank : Bool) (stretch : Stretch) (f : File) → T (sound f) → T (sound (afterStretch bank stretch f))
 unfolding afterStretch withPointer

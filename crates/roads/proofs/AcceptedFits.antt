@@ -24,7 +24,7 @@ use Rattle.trace.specs.Records.{bytesOf, itemOf, items}
 use Rattle.trace.specs.Run.{answers}
 use Rattle.places.proofs.Rows.{every, Passes, row-passes}
 use Rattle.trace.proofs.BytesAndRecords.{record-of-bytes}
-use Rattle.plan.specs.Restores.{accepted, allAccepted, inBytes, allInBytes, traceOf}
+use Rattle.roads.specs.Restores.{accepted, allAccepted, inBytes, allInBytes, traceOf}
 
 -- ---- what an accepted record passed
 

@@ -15,10 +15,10 @@ use Rattle.file.specs.Names.{MISC, SRX, GRX, ARX, PCI04, CR11}
 use Rattle.file.specs.Registers.{registerCount, storedBits}
 use Rattle.file.specs.Sound.{sound}
 use Rattle.places.specs.Places.{Index, any, sr, cr, gr, ar, indexDue, dataDue}
-use Rattle.plan.specs.Roads.{Road}
-use Rattle.plan.specs.RoadRecords.{along}
-use Rattle.plan.specs.Plan.{openSpaces, openLock}
-use Rattle.plan.specs.Restores.{RunsInto}
+use Rattle.roads.specs.Roads.{Road}
+use Rattle.roads.specs.RoadRecords.{along}
+use Rattle.roads.specs.Plan.{openSpaces, openLock}
+use Rattle.roads.specs.Restores.{RunsInto}
 
 -- ---- where it runs
 

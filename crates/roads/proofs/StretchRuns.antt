@@ -30,13 +30,13 @@ use Rattle.access.specs.Access.{paletteUp, inBank, entryNumber, answerAt, pixel
 use Rattle.access.specs.Checks.{isWrite, isPort, malformed, otherHalf}
 use Rattle.places.specs.Lookup.{selects, matches, first, rowAt}
 use Rattle.places.specs.Places.{Row, any, places}
-use Rattle.plan.specs.Plan.{mmioWrite, pixel, pixels, entries}
-use Rattle.plan.specs.Restores.{accepted, RunsInto, bytes}
-use Rattle.plan.specs.RegisterStage.{SpacesOn}
-use Rattle.plan.specs.ColourStage.{PaletteReady, entryCount, painted, Stretch, inRange, afterStretch}
-use Rattle.plan.proofs.ChecksPassed.{answered-by-place, does-as-place}
-use Rattle.plan.proofs.RunsCompose.{runs-none, runs-one, runs-then}
-use Rattle.plan.proofs.ReadyRuns.{spaces-on}
+use Rattle.roads.specs.Plan.{mmioWrite, pixel, pixels, entries}
+use Rattle.roads.specs.Restores.{accepted, RunsInto, bytes}
+use Rattle.roads.specs.RegisterStage.{SpacesOn}
+use Rattle.roads.specs.ColourStage.{PaletteReady, entryCount, painted, Stretch, inRange, afterStretch}
+use Rattle.roads.proofs.ChecksPassed.{answered-by-place, does-as-place}
+use Rattle.roads.proofs.RunsCompose.{runs-none, runs-one, runs-then}
+use Rattle.roads.proofs.ReadyRuns.{spaces-on}
 
 -- ---- a byte written to a place of MMIO
 

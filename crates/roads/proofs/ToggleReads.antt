@@ -22,13 +22,13 @@ use Rattle.access.specs.Access.{answerAt, effectAt, answer}
 use Rattle.access.specs.Checks.{isWrite, isPort, malformed, otherHalf}
 use Rattle.places.specs.Lookup.{selects, matches, first, rowAt, isOneOf}
 use Rattle.places.specs.Places.{Row, any, places}
-use Rattle.plan.specs.Roads.{byHalf}
-use Rattle.plan.specs.Plan.{portRead, toIndex, toggleRead}
-use Rattle.plan.specs.Restores.{accepted, RunsInto}
-use Rattle.plan.specs.RegisterStage.{SpacesOn, Ready}
-use Rattle.plan.proofs.ChecksPassed.{answered-by-place, does-as-place}
-use Rattle.plan.proofs.RunsCompose.{runs-one}
-use Rattle.plan.proofs.ReadyRuns.{spaces-on}
+use Rattle.roads.specs.Roads.{byHalf}
+use Rattle.roads.specs.Plan.{portRead, toIndex, toggleRead}
+use Rattle.roads.specs.Restores.{accepted, RunsInto}
+use Rattle.roads.specs.RegisterStage.{SpacesOn, Ready}
+use Rattle.roads.proofs.ChecksPassed.{answered-by-place, does-as-place}
+use Rattle.roads.proofs.RunsCompose.{runs-one}
+use Rattle.roads.proofs.ReadyRuns.{spaces-on}
 
 abbrev readRow : ℕ → Place → Row
 readRow address place = record { kind = 2; address = address; index = any; width = 1; place = place }

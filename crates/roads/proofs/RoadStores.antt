@@ -26,13 +26,13 @@ use Rattle.access.specs.Checks.{isWrite, isPort, malformed, spaceOff, otherHalf
 use Rattle.places.specs.Lookup.{rowAt}
 use Rattle.places.specs.Places.{Row}
 use Rattle.places.specs.Profile.{Writing, storesTo, readOnly, setsAddress, writesPixel, storesNothing, profile, storesInto, flips}
-use Rattle.plan.specs.Roads.{Road}
-use Rattle.plan.specs.RoadRecords.{write}
-use Rattle.plan.specs.Restores.{accepted}
-use Rattle.plan.specs.RegisterStage.{withRegister, withFlip, indexFlips}
-use Rattle.plan.proofs.RoadsLead.{same, finds, leads}
-use Rattle.plan.proofs.ChecksPassed.{answered-by-place, does-as-place}
-use Rattle.plan.proofs.LookupBySelectors.{selectorsOf, bareFile, row-by, half-by}
+use Rattle.roads.specs.Roads.{Road}
+use Rattle.roads.specs.RoadRecords.{write}
+use Rattle.roads.specs.Restores.{accepted}
+use Rattle.roads.specs.RegisterStage.{withRegister, withFlip, indexFlips}
+use Rattle.roads.proofs.RoadsLead.{same, finds, leads}
+use Rattle.roads.proofs.ChecksPassed.{answered-by-place, does-as-place}
+use Rattle.roads.proofs.LookupBySelectors.{selectorsOf, bareFile, row-by, half-by}
 
 -- the lock does not bear on a register
 pub record Free (f : File) (number : ℕ) : Type 0 where

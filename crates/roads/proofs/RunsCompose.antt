@@ -9,7 +9,7 @@ use Rattle.access.specs.declared.record.Item.the-variants.{Whole}
 use Rattle.access.specs.declared.record.Record.{Record}
 use Rattle.access.specs.Access.{answer, access, accessItem}
 use Rattle.trace.specs.Run.{fileAfter, answers}
-use Rattle.plan.specs.Restores.{accepted, allAccepted, RunsInto}
+use Rattle.roads.specs.Restores.{accepted, allAccepted, RunsInto}
 
 pub runs-none : (f : File) → RunsInto f [] f
 unfolding allAccepted answers fileAfter

@@ -12,7 +12,7 @@ use Rattle.access.specs.declared.record.Item.{Item}
 use Rattle.access.specs.Access.{accessItem, replyTo}
 use Rattle.trace.specs.Records.{replyBytes}
 use Rattle.trace.specs.Run.{answers, replies}
-use Rattle.plan.specs.Restores.{accepted, allAccepted}
+use Rattle.roads.specs.Restores.{accepted, allAccepted}
 
 -- the first byte of each reply, whatever stands behind the replies
 pub codes-zero : (is : List Item) (f : File) (rest : List ℕ) → T (allAccepted (answers f is)) → (k : ℕ) → k < length is
