@@ -85,7 +85,7 @@ indices wanted toggle =
 unfoldable pub closing : List ℕ → Pointer → List Record
 closing wanted pointer = pointerWrite pointer ∷ along wanted closingRoads
 
--- 'A plan is made from the wanted file alone': 5 records, 819, 140, 5 and 4, in all 973
+-- 'A plan is made from the wanted file alone'; how many records it has is `plan-count`
 unfoldable pub planRecords : File → List Record
 planRecords w =
     opening (w .registers)
