@@ -16,15 +16,15 @@ use libc::STDOUT_FILENO;
 use printing::print_item;
 use printing::print_number;
 use printing::print_replies;
+use reader::Next;
+use reader::RanAt;
+use reader::next_from;
+use reader::run_from;
+use reader::unread;
 use same::same_bytes;
 use same::same_files;
 use stored::TRACE;
-use trace::Next;
-use trace::RanAt;
-use trace::next_from;
 use trace::reply_bytes;
-use trace::run_from;
-use trace::unread;
 
 // One run; how many replies there are, and how many bytes are left unread.
 fn at_once(trace: &[u8], replies: &mut [u8]) -> File {

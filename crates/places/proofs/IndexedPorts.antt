@@ -13,12 +13,13 @@ use native.Mathlib.Nat.{mod-eq-of-lt}
 use Rattle.bits.specs.Store.{bits}
 use Rattle.bits.proofs.Test.{left, right, both, either, by-test, passes, is-true, everyBelow, below}
 use Rattle.file.specs.declared.registers.File.{File}
+use Rattle.file.specs.declared.state.State.{State}
 use Rattle.file.specs.File.{register, seen}
 use Rattle.file.specs.State.{initial, toggling}
 use Rattle.file.specs.Names.{SRX, CRX, GRX, ARX}
 use Rattle.places.specs.declared.place.Place.{Place}
 use Rattle.places.specs.declared.place.Place.the-variants.{Unnamed, UnnamedAttribute}
-use Rattle.places.specs.EngineCells.{firstIndexed, nothingHeld, wider, plainPlace, plainCell, ofKind, ofAddress, rowsAt, cellAt, chosen, indexing, cellsFrom, behindPort, behindSRX, countSRX, behindCRX, countCRX, behindGRX, countGRX, behindARX, countARX, cellCount, tableCell, cellTable, attributePlace, indexedPlaces, cellPlace}
+use Rattle.places.specs.EngineCells.{firstIndexed, nothingHeld, wider, plainPlace, plainCell, ofKind, ofAddress, rowsAt, cellAt, chosen, indicesAt, cellsFrom, behindPort, behindSRX, countSRX, behindCRX, countCRX, behindGRX, countGRX, behindARX, countARX, cellCount, tableCell, cellTable, attributePlace, indexedPlaces, cellPlace}
 use Rattle.places.specs.Lookup.{attributeIndex, selects, matches, first, rowAt, placeOfRow, placeAt}
 use Rattle.places.specs.Places.{Index, any, sr, cr, gr, ar, indexDue, dataDue, Row, places}
 use Rattle.places.proofs.CellsOfRows.{Door, door, doors, sameDoor, isDoor, Outcome, nothing, held, outcome, spoken, place-chosen}
@@ -45,10 +46,6 @@ decider f c = getD (register f SRX ∷ register f CRX ∷ register f GRX ∷ att
 unfoldable pub count : ℕ → ℕ
 count c = getD (countSRX ∷ countCRX ∷ countGRX ∷ countARX ∷ countARX ∷ []) c 0
 
--- a file that stands in for another: the same toggle and the deciding number
-abbrev standIn : File → ℕ → File
-standIn f c = indexing (f .state .toggle) (decider f c)
-
 -- what stands behind an indexed port in a file, by the list of places
 unfoldable pub behindOf : File → ℕ → Place
 unfolding plainPlace attributePlace register attributeIndex
@@ -63,39 +60,62 @@ behindOf f c =
     c
     Unnamed
 
+-- by a kind of index that is a given one, what decides is what that one looks at
+decided : (f g : File) (c k : ℕ) → T (eqb c k) → decider f c ≡ decider g c → decider f k ≡ decider g k
+decided f g c k t e = subst (λ (c : ℕ). decider f c ≡ decider g c) (eqb→eq c k t) e
+
+-- two files of which the same decides
+module _ (f g : File) (toggle : f .state .toggle ≡ g .state .toggle) where
+  -- they select the same rows of a kind
+  same-selects : (c : ℕ) (i : Index) → T (isBy c i) → decider f c ≡ decider g c → selects f i ≡ selects g i
+  unfolding isBy selects decider attributeIndex
+  same-selects c any t e = refl
+  same-selects c (sr n) t e = ap (λ (m : ℕ). eqb m n) (decided f g c 0 t e)
+  same-selects c (cr n) t e = ap (λ (m : ℕ). eqb m n) (decided f g c 1 t e)
+  same-selects c (gr n) t e = ap (λ (m : ℕ). eqb m n) (decided f g c 2 t e)
+  same-selects c (ar n) t e = ap (λ (m : ℕ). eqb m n) (decided f g c 3 t e)
+  same-selects c indexDue t e = ap not toggle
+  same-selects c (dataDue n) t e = ap₂ (λ (b : Bool) (m : ℕ). b && eqb m n) toggle (decided f g c 4 t e)
+
+  -- so they choose the same place among them
+  same-first : (c : ℕ) (rows : List Row) → T (every (λ (row : Row). isBy c (row .index)) rows) → decider f c ≡ decider g c
+      → first (λ (row : Row). selects f (row .index)) rows ≡ first (λ (row : Row). selects g (row .index)) rows
+  unfolding every first
+  same-first c [] t e = refl
+  same-first c (row ∷ rows) t e =
+      ap₂ (λ (b : Bool) (o : Option Row). cond b (some row) o)
+      (same-selects c (row .index) (left (isBy c (row .index)) (every (λ (row : Row). isBy c (row .index)) rows) t) e)
+      (same-first c rows (right (isBy c (row .index)) (every (λ (row : Row). isBy c (row .index)) rows) t) e)
+
+  -- and the same stands behind the port
+  same-behind : (c : ℕ) → c < 5 → decider f c ≡ decider g c → behindOf f c ≡ behindOf g c
+  unfolding behindOf decider
+  same-behind zero h e = ap (λ (n : ℕ). plainPlace (getD (behindPort 0x3C5 countSRX) n 0)) e
+  same-behind (suc zero) h e = ap (λ (n : ℕ). plainPlace (getD (behindPort 0x3B5 countCRX) n 0)) e
+  same-behind (suc (suc zero)) h e = ap (λ (n : ℕ). plainPlace (getD (behindPort 0x3CF countGRX) n 0)) e
+  same-behind (suc (suc (suc zero))) h e = ap (λ (n : ℕ). plainPlace (getD (behindPort 0x3C1 countARX) n 0)) e
+  same-behind (suc (suc (suc (suc zero)))) h e =
+      ap₂ (λ (b : Bool) (n : ℕ). attributePlace b (getD (behindPort 0x3C1 countARX) n 0)) toggle e
+  same-behind (suc (suc (suc (suc (suc c))))) h e = absurd (omega arith)
+
 -- ARX[4:0] of ARX[4:0]
-attribute-kept : (f : File) → bits 4 0 (attributeIndex f) ≡ attributeIndex f
+attribute-kept : (f : File) → attributeIndex f ≡ bits 4 0 (attributeIndex f)
 unfolding attributeIndex bits
 attribute-kept f = omega arith
 
--- it selects the same rows of its kind
-same-selects : (f : File) (c : ℕ) (i : Index) → T (isBy c i) → selects f i ≡ selects (standIn f c) i
-unfolding isBy selects seen decider toggling
-same-selects f c any t = refl
-same-selects f c (sr n) t = subst (λ (c : ℕ). selects f (sr n) ≡ selects (standIn f c) (sr n)) (sym (eqb→eq c 0 t)) refl
-same-selects f c (cr n) t = subst (λ (c : ℕ). selects f (cr n) ≡ selects (standIn f c) (cr n)) (sym (eqb→eq c 1 t)) refl
-same-selects f c (gr n) t = subst (λ (c : ℕ). selects f (gr n) ≡ selects (standIn f c) (gr n)) (sym (eqb→eq c 2 t)) refl
-same-selects f c (ar n) t =
-    subst (λ (c : ℕ). selects f (ar n) ≡ selects (standIn f c) (ar n)) (sym (eqb→eq c 3 t))
-    (ap (λ (m : ℕ). eqb m n) (sym (attribute-kept f)))
-same-selects f c indexDue t = refl
-same-selects f c (dataDue n) t =
-    subst (λ (c : ℕ). selects f (dataDue n) ≡ selects (standIn f c) (dataDue n)) (sym (eqb→eq c 4 t))
-    (ap (λ (m : ℕ). f .state .toggle && eqb m n) (sym (attribute-kept f)))
-
--- so it chooses the same place among them
-same-first : (f : File) (c : ℕ) (rows : List Row) → T (every (λ (row : Row). isBy c (row .index)) rows)
-    → first (λ (row : Row). selects f (row .index)) rows ≡ first (λ (row : Row). selects (standIn f c) (row .index)) rows
-unfolding every first
-same-first f c [] t = refl
-same-first f c (row ∷ rows) t =
-    ap₂ (λ (b : Bool) (o : Option Row). cond b (some row) o)
-    (same-selects f c (row .index) (left (isBy c (row .index)) (every (λ (row : Row). isBy c (row .index)) rows) t))
-    (same-first f c rows (right (isBy c (row .index)) (every (λ (row : Row). isBy c (row .index)) rows) t))
+-- in a file whose index registers all hold what decides in another, the same decides
+same-decides : (f : File) (state : State) (c : ℕ) → c < 5 → decider f c ≡ decider (seen (indicesAt (decider f c)) state) c
+unfolding decider seen register attributeIndex
+same-decides f state zero h = refl
+same-decides f state (suc zero) h = refl
+same-decides f state (suc (suc zero)) h = refl
+same-decides f state (suc (suc (suc zero))) h = attribute-kept f
+same-decides f state (suc (suc (suc (suc zero)))) h = attribute-kept f
+same-decides f state (suc (suc (suc (suc (suc c))))) h = absurd (omega arith)
 
 -- at an indexed port, with either toggle and each deciding number: the rows go by that kind of index, and the cell names the place chosen
-unfoldable pub opens : Bool → List Row → ℕ → ℕ → Bool
-opens toggle rows c n = samePlace (chosen (indexing toggle n) rows) (behindOf (indexing toggle n) c)
+unfoldable pub opens : State → List Row → ℕ → ℕ → Bool
+opens state rows c n = samePlace (chosen (seen (indicesAt n) state) rows) (behindOf (seen (indicesAt n) state) c)
 
 module _ (d : Door) where
   abbrev Rows : List Row
@@ -108,7 +128,7 @@ module _ (d : Door) where
   ByKind = every (λ (row : Row). isBy (d .cell - firstIndexed) (row .index)) Rows
 
   abbrev Opens : Bool → Bool
-  Opens toggle = everyBelow (opens toggle Rows (d .cell - firstIndexed)) (count (d .cell - firstIndexed))
+  Opens toggle = everyBelow (opens (toggling toggle initial) Rows (d .cell - firstIndexed)) (count (d .cell - firstIndexed))
 
   unfoldable pub opened : Bool
   opened = Within && (ByKind && (Opens true && Opens false))
@@ -120,17 +140,6 @@ allOpened (d ∷ ds) = opened d && allOpened ds
 doors-opened : T (allOpened doors)
 unfolding allOpened opened opens everyBelow count doors every isBy samePlace plainCell ofKind ofAddress rowsAt chosen cellsFrom behindPort behindOf seen initial toggling selects first placeOfRow places
 doors-opened = tt
-
--- the same stands behind it in a file and in its stand-in
-same-behind : (f : File) (c : ℕ) → c < 5 → behindOf (standIn f c) c ≡ behindOf f c
-unfolding behindOf seen toggling decider
-same-behind f zero h = refl
-same-behind f (suc zero) h = refl
-same-behind f (suc (suc zero)) h = refl
-same-behind f (suc (suc (suc zero))) h = ap (λ (n : ℕ). plainPlace (getD (behindPort 0x3C1 countARX) n 0)) (attribute-kept f)
-same-behind f (suc (suc (suc (suc zero)))) h =
-    ap (λ (n : ℕ). attributePlace (f .state .toggle) (getD (behindPort 0x3C1 countARX) n 0)) (attribute-kept f)
-same-behind f (suc (suc (suc (suc (suc c))))) h = absurd (omega arith)
 
 -- the index registers hold what their stored bits can hold
 abbrev pub Indexed : File → Type 0
@@ -158,15 +167,18 @@ module _ (f : File) (bound : Indexed f) (d : Door) (t : T (opened d)) where
   opens-at true = left (Opens d true) (Opens d false) (right (ByKind d) (Opens d true && Opens d false) (right (Within d) (ByKind d && (Opens d true && Opens d false)) t))
   opens-at false = right (Opens d true) (Opens d false) (right (ByKind d) (Opens d true && Opens d false) (right (Within d) (ByKind d && (Opens d true && Opens d false)) t))
 
-  at-stand-in : chosen (standIn f C) (Rows d) ≡ behindOf (standIn f C) C
-  unfolding opens
-  at-stand-in =
-      same-place (chosen (standIn f C) (Rows d)) (behindOf (standIn f C) C)
-      (below (opens (f .state .toggle) (Rows d) C) (count C) (opens-at (f .state .toggle)) (decider f C) (bound C (omega (arith, within .0, within .1))))
-
+  -- by the test at the number that decides, of which the file's toggle and registers alone are looked at
   door-place : chosen f (Rows d) ≡ behindOf f C
-  unfolding chosen
-  door-place = ap placeOfRow (same-first f C (Rows d) by-kind) ∙ at-stand-in ∙ same-behind f C (omega (arith, within .0, within .1))
+  unfolding chosen opens seen toggling
+  door-place =
+      let state : State = toggling (f .state .toggle) initial in
+      let g : File = seen (indicesAt (decider f C)) state in
+      let low : C < 5 = omega (arith, within .0, within .1) in
+      let same : decider f C ≡ decider g C = same-decides f state C low in
+      ap placeOfRow (same-first f g refl C (Rows d) by-kind same)
+      ∙ same-place (chosen g (Rows d)) (behindOf g C)
+      (below (opens state (Rows d) C) (count C) (opens-at (f .state .toggle)) (decider f C) (bound C low))
+      ∙ sym (same-behind f g refl C low same)
 
 -- an indexed port of the list is open
 door-of : (ds : List Door) (kind address cell : ℕ) → T (allOpened ds) → T (isDoor ds kind address cell) → T (opened (door kind address cell))

@@ -11,7 +11,7 @@ use Rattle.file.specs.declared.state.State.{State}
 use Rattle.file.specs.File.{register, seen}
 use Rattle.file.specs.Names.{SRX, CRX, GRX, ARX}
 use Rattle.file.specs.Registers.{registerCount}
-use Rattle.file.specs.State.{initial, toggling}
+use Rattle.file.specs.State.{initial}
 use Rattle.places.specs.declared.place.Place.{Place}
 use Rattle.places.specs.declared.place.Place.the-variants.{Register, Attribute, Fixed, ToggleState, AttributeIndex, PaletteState, ReadAddress, WriteAddress, PixelData, ToggleReset, Unnamed, UnnamedAttribute}
 use Rattle.places.specs.Lookup.{attributeIndex, selects, first, placeOfRow}
@@ -105,20 +105,20 @@ cellAt kind address = cellOf (rowsAt kind address)
 unfoldable pub chosen : File → List Row → Place
 chosen f rows = placeOfRow (first (λ (row : Row). selects f (row .index)) rows)
 
--- a file whose index registers all hold a number, with a toggle
-abbrev pub indexing : Bool → ℕ → File
-indexing toggle n = seen (0 ∷ n ∷ n ∷ n ∷ n ∷ []) (toggling toggle initial)
+-- registers of which SRX, CRX, GRX and ARX hold a number
+abbrev pub indicesAt : ℕ → List ℕ
+indicesAt n = 0 ∷ n ∷ n ∷ n ∷ n ∷ []
 
 -- so many cells, one for each number from n on that the index registers may hold
 unfoldable pub cellsFrom : List Row → ℕ → ℕ → List ℕ
 cellsFrom rows n zero = []
-cellsFrom rows n (suc count) = plainCell (chosen (indexing false n) rows) ∷ cellsFrom rows (n + 1) count
+cellsFrom rows n (suc count) = plainCell (chosen (seen (indicesAt n) initial) rows) ∷ cellsFrom rows (n + 1) count
 
 -- the cells behind an indexed port, by its index
 unfoldable pub behindPort : ℕ → ℕ → List ℕ
 behindPort address count = cellsFrom (rowsAt 2 address) 0 count
 
--- ---- the engine's one table, by sections
+-- ---- the engine's one table, by sections: each begins where the one before it ends
 
 -- port reads and port writes from 3B0h on
 abbrev pub firstPort : ℕ
@@ -128,36 +128,36 @@ abbrev pub portCount : ℕ
 portCount = 48
 
 abbrev pub portWrites : ℕ
-portWrites = 48
+portWrites = portCount
 
 -- what stands behind SRX, CRX, GRX and ARX, by as many numbers as these may hold
 abbrev pub behindSRX : ℕ
-behindSRX = 96
+behindSRX = portWrites + portCount
 
 abbrev pub countSRX : ℕ
 countSRX = 32
 
 abbrev pub behindCRX : ℕ
-behindCRX = 128
+behindCRX = behindSRX + countSRX
 
 abbrev pub countCRX : ℕ
 countCRX = 64
 
 abbrev pub behindGRX : ℕ
-behindGRX = 192
+behindGRX = behindCRX + countCRX
 
 abbrev pub countGRX : ℕ
 countGRX = 64
 
 abbrev pub behindARX : ℕ
-behindARX = 256
+behindARX = behindGRX + countGRX
 
 abbrev pub countARX : ℕ
 countARX = 32
 
 -- config space, which stands at 300h of MMIO too
 abbrev pub configSpace : ℕ
-configSpace = 288
+configSpace = behindARX + countARX
 
 abbrev pub configCount : ℕ
 configCount = 6
@@ -167,13 +167,13 @@ configInMmio = 0x300
 
 -- MMIO from 0 on
 abbrev pub mmioSpace : ℕ
-mmioSpace = 294
+mmioSpace = configSpace + configCount
 
 abbrev pub mmioCount : ℕ
 mmioCount = 0xF0
 
 abbrev pub cellCount : ℕ
-cellCount = 534
+cellCount = mmioSpace + mmioCount
 
 -- one section of a table: so many entries by a rule
 unfoldable pub tabled : ℕ → (ℕ → ℕ) → List ℕ

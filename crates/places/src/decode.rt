@@ -32,35 +32,35 @@ const FIRST_PORT: usize = 0x3B0;
 
 const PORTS: usize = 48;
 
-const PORT_WRITES: usize = 48;
+const PORT_WRITES: usize = PORTS;
 
-const BEHIND_SRX: usize = 96;
+const BEHIND_SRX: usize = PORT_WRITES + PORTS;
 
 const SRX_NUMBERS: u16 = 32;
 
-const BEHIND_CRX: usize = 128;
+const BEHIND_CRX: usize = BEHIND_SRX + SRX_NUMBERS as usize;
 
 const CRX_NUMBERS: u16 = 64;
 
-const BEHIND_GRX: usize = 192;
+const BEHIND_GRX: usize = BEHIND_CRX + CRX_NUMBERS as usize;
 
 const GRX_NUMBERS: u16 = 64;
 
-const BEHIND_ARX: usize = 256;
+const BEHIND_ARX: usize = BEHIND_GRX + GRX_NUMBERS as usize;
 
 const ARX_NUMBERS: u16 = 32;
 
-const CONFIG_SPACE: usize = 288;
+const CONFIG_SPACE: usize = BEHIND_ARX + ARX_NUMBERS as usize;
 
 const CONFIG: usize = 6;
 
 const CONFIG_IN_MMIO: usize = 0x300;
 
-const MMIO_SPACE: usize = 294;
+const MMIO_SPACE: usize = CONFIG_SPACE + CONFIG;
 
 const MMIO: usize = 0xF0;
 
-pub const CELLS: usize = 534;
+pub const CELLS: usize = MMIO_SPACE + MMIO;
 
 // 01's cells, sixteen to a row, section by section.
 const TABLE: [u8; CELLS] = *b"\

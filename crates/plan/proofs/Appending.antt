@@ -10,7 +10,7 @@ use lib.Seq.{sets, length-sets}
 use Rattle.access.specs.declared.record.Record.{Record}
 use Rattle.trace.specs.Records.{bytesOf}
 use Rattle.plan.specs.Appended.{Appended}
-use Rattle.plan.specs.Restores.{traceOf}
+use Rattle.roads.specs.Restores.{traceOf}
 
 -- ---- bytes of records
 

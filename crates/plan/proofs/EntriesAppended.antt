@@ -10,7 +10,7 @@ use Rattle.file.specs.declared.palette.Colour.{Colour}
 use Rattle.file.specs.File.{black}
 use Rattle.access.specs.declared.record.Record.{Record}
 use Rattle.plan.specs.Appended.{Appended}
-use Rattle.plan.specs.Plan.{mmioWrite, pixel, pixels, entries}
+use Rattle.roads.specs.Plan.{mmioWrite, pixel, pixels, entries}
 use Rattle.plan.proofs.Appending.{append-then, append-length, Left, less-left, room-left, none-left}
 
 -- so many entries are appended: with the others, the buffer holds them all

@@ -14,7 +14,7 @@ use Rattle.file.proofs.registers.File.{the-type}
 use Rattle.file.proofs.palette.Colour as C
 use Rattle.bits.proofs.Test.{both}
 use Rattle.file.proofs.Typed.{palette-count, bank-count, address-byte}
-use Rattle.plan.specs.Restores.{bytes, IsFile}
+use Rattle.roads.specs.Restores.{bytes, IsFile}
 
 -- a colour is three bytes
 colour-bytes : (c : Colour) (vs : List Val) → shadow (C.the-field .row .own (C.the-field .into c) vs)

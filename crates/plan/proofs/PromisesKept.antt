@@ -19,15 +19,15 @@ use Rattle.trace.specs.Run.{fileAfter, runCount, ran, run}
 use Rattle.plan.specs.declared.planning.Planned.{Planned}
 use Rattle.plan.specs.declared.restoring.Restored.{Restored}
 use Rattle.plan.specs.Appended.{Appended}
-use Rattle.plan.specs.Plan.{planRecords}
+use Rattle.roads.specs.Plan.{planRecords}
 use Rattle.plan.specs.Promises.{PlanKept, RestoreKept}
-use Rattle.plan.specs.Refusals.{planAnswer, restoreAnswer}
-use Rattle.plan.specs.Restores.{traceOf, IsFile, RunsInto, PlanWritten}
+use Rattle.roads.specs.Refusals.{planAnswer, restoreAnswer}
+use Rattle.roads.specs.Restores.{traceOf, IsFile, RunsInto, PlanWritten}
 use Rattle.plan.proofs.Appending.{trace-count}
-use Rattle.plan.proofs.PlanCount.{plan-room}
-use Rattle.plan.proofs.AcceptedFits.{trace-items}
-use Rattle.plan.proofs.RepliesAccepted.{codes-zero}
-use Rattle.plan.proofs.PlanServes.{plan-serves, planned-runs, never-fourteen}
+use Rattle.roads.proofs.PlanCount.{plan-room}
+use Rattle.roads.proofs.AcceptedFits.{trace-items}
+use Rattle.roads.proofs.RepliesAccepted.{codes-zero}
+use Rattle.roads.proofs.PlanServes.{plan-serves, planned-runs, never-fourteen}
 
 -- ---- a plan
 

@@ -10,12 +10,12 @@ use lib.ListN.{length, getD, take, drop}
 use lib.Seq.{drop-cons}
 use Rattle.bits.proofs.Test.{by-test}
 use Rattle.access.specs.declared.record.Record.{Record}
-use Rattle.trace.proofs.Positions.{part-left}
+use Rattle.trace.proofs.RecordBytes.{part-left}
 use Rattle.plan.specs.Appended.{Appended}
 use Rattle.plan.specs.EngineRows.{indexPort, indexBy, roadOf}
-use Rattle.plan.specs.Plan.{portWrite}
-use Rattle.plan.specs.RoadRecords.{selecting, along}
-use Rattle.plan.proofs.RegisterStageRuns.{along-behind}
+use Rattle.roads.specs.Plan.{portWrite}
+use Rattle.roads.specs.RoadRecords.{selecting, along}
+use Rattle.roads.proofs.RegisterStageRuns.{along-behind}
 use Rattle.plan.proofs.Appending.{Left, none-left}
 
 -- one record selects an index, by the port

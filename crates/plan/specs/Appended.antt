@@ -6,7 +6,7 @@ use mathlib.Core.Path.{_≡_}
 use lib.ListN.{length}
 use lib.Seq.{sets}
 use Rattle.access.specs.declared.record.Record.{Record}
-use Rattle.plan.specs.Restores.{traceOf}
+use Rattle.roads.specs.Restores.{traceOf}
 
 -- the records' bytes were stored from a place on, up to another
 pub record Appended (before : List ℕ) (at : ℕ) (records : List Record) (after : List ℕ) (end : ℕ) : Type 0 where

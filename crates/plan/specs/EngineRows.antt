@@ -4,7 +4,7 @@ use Prim.Native.Nat.{ℕ, _/_, _%_}
 use mathlib.Core.Bool.{Bool, cond, _||_}
 use lib.Dec.{eqb}
 use Rattle.places.specs.Places.{Index, any, sr, gr, dataDue}
-use Rattle.plan.specs.Roads.{Road}
+use Rattle.roads.specs.Roads.{Road}
 
 -- '3C4h/3C5h', '3CEh/3CFh', '3C0h .. index or data': a port that selects an index
 unfoldable pub indexPort : ℕ → Bool

@@ -11,8 +11,8 @@ use Rattle.trace.specs.Records.{items}
 use Rattle.trace.specs.Run.{fileAfter}
 use Rattle.plan.specs.declared.planning.Planned.{Planned}
 use Rattle.plan.specs.declared.restoring.Restored.{Restored}
-use Rattle.plan.specs.Refusals.{planAnswer, restoreAnswer}
-use Rattle.plan.specs.Restores.{PlanWritten}
+use Rattle.roads.specs.Refusals.{planAnswer, restoreAnswer}
+use Rattle.roads.specs.Restores.{PlanWritten}
 
 -- a plan, by what the buffer holds before and after: 'Plan: 12, 13, 11'; which plan it is stays open
 pub record PlanKept (w : File) (before after : List ℕ) (r : Planned) : Type 0 where

@@ -2,7 +2,7 @@ ghost use mathlib.Core.Path.{_≡_};
 ghost use Prim.Native.Nat.{_+_, _*_, _≤_};
 ghost use lib.ListN.{length};
 ghost use Rattle.plan.specs.Appended.{Appended};
-ghost use Rattle.plan.specs.Plan.{planRecords};
+ghost use Rattle.roads.specs.Plan.{planRecords};
 ghost use Rattle.plan.specs.Promises.{PlanKept};
 use crate::rows::put_registers;
 use crate::rows::register_rows;

@@ -7,7 +7,7 @@ ghost use lib.Dec.{eqb};
 ghost use lib.ListN.{length};
 ghost use Rattle.bits.specs.Store.{bit};
 ghost use Rattle.plan.specs.Appended.{Appended};
-ghost use Rattle.plan.specs.Plan.{configWrite, portWrite, portRead, mmioWrite};
+ghost use Rattle.roads.specs.Plan.{configWrite, portWrite, portRead, mmioWrite};
 use access::Record;
 use trace::record_bytes;
 

@@ -4,7 +4,7 @@ ghost use mathlib.Core.List.{[], _∷_};
 ghost use Prim.Native.Nat.{_+_, _*_, _≤_};
 ghost use lib.ListN.{length};
 ghost use Rattle.plan.specs.Appended.{Appended};
-ghost use Rattle.plan.specs.Plan.{opening, pixel, entries, colours, toggleRead, indices, pointerWrite, closing};
+ghost use Rattle.roads.specs.Plan.{opening, pixel, entries, colours, toggleRead, indices, pointerWrite, closing};
 use crate::records::by_half;
 use crate::records::config_write;
 use crate::records::mmio_write;

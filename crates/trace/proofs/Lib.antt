@@ -1,6 +1,4 @@
 pub mod RecordBytes
-pub mod Positions
-pub mod ThinWalks
 pub mod RunMore
 pub mod EffectsInParts
 pub mod ServedAccess

@@ -7,15 +7,13 @@ use native.Mathlib.Omega.{arith}
 use lib.Dec.{T}
 use lib.ListN.{take, drop}
 use lib.Seq.{drop-drop, take-at}
-use Rattle.bits.proofs.Test.{by-test, is-true}
+use Rattle.bits.proofs.Test.{is-true}
 use Rattle.file.specs.declared.registers.File.{File}
 use Rattle.file.specs.Sound.{sound}
 use Rattle.access.specs.declared.record.Item.{Item}
 use Rattle.access.specs.Access.{accessItem, recordIn, replyTo}
 use Rattle.trace.specs.Records.{itemOf, items, replyBytes}
 use Rattle.trace.specs.Run.{RunLeft, fileAfter, replies, runCount, ran, run, resumed, filled}
-use Rattle.trace.specs.Reader.{ranAt}
-use Rattle.trace.proofs.Positions.{left-past-many}
 use Rattle.trace.proofs.RunMore.{replies-length, items-length, run-sound}
 
 -- items, file and replies of a trace, part after part
@@ -74,12 +72,3 @@ module _ (f : File) (trace first second : List ℕ) where
       subst (λ (r : RunLeft). Same r (resumed (run f trace first) second)) (sym here)
       (subst (λ (q : RunLeft). Same (ran m f trace first) q) (sym there)
       (both m n .0, ap₂ (λ (x y : List ℕ). x ++ y) (filled-is m f trace first) (filled-is n (fileAfter f (items m trace)) rest second) ∙ both m n .1))
-
--- what a reader has left after its run is what the run leaves, also of a file that is not sound
-rest-by-count : (f : File) (trace buffer : List ℕ) → run f trace buffer .rest ≡ drop (8 * run f trace buffer .count) trace
-unfolding run ran
-rest-by-count f trace buffer = by-test (sound f) (λ e. rw e refl) (λ e. rw e refl)
-
-pub left-handed-back : (f : File) (trace : List ℕ) (at : ℕ) (buffer : List ℕ) → drop (ranAt f trace at buffer .at) trace ≡ run f (drop at trace) buffer .rest
-unfolding ranAt
-left-handed-back f trace at buffer = left-past-many trace at (run f (drop at trace) buffer .count) ∙ sym (rest-by-count f (drop at trace) buffer)

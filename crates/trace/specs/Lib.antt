@@ -1,4 +1,3 @@
 pub mod Records
 pub mod Run
-pub mod Reader
 pub mod EngineServed

@@ -176,12 +176,10 @@ fn run_whole(whole: File, trace: &[u8], replies: &mut [u8], count: usize) -> Fil
         let served = serve(&cells, &stored, &mut registers, state, asked);
         let mut value = served.value;
         if served.pixel {
-            value = component(
-                is_in_bank(&registers),
-                bank[bank_entry(state)],
-                palette[palette_entry(state)],
-                state,
-            );
+            let banked = is_in_bank(&registers);
+            let in_bank = bank[bank_entry(state)];
+            let in_palette = palette[palette_entry(state)];
+            value = component(banked, in_bank, in_palette, state);
         }
         put_reply(replies, 8 * n, asked, served.code, value);
         let colour = served.colour;

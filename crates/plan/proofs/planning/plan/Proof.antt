@@ -4,7 +4,7 @@ use native.Mathlib.Omega.{arith}
 use borrow.Author.Needs.{needs}
 use borrow.Author.Tests.{not-true, not-false}
 use denote.Ref.{now}
-use Rattle.plan.proofs.PlanCount.{plan-count}
+use Rattle.roads.proofs.PlanCount.{plan-count}
 use Rattle.plan.proofs.FileIsFile.{is-file}
 use Rattle.plan.proofs.PromisesKept.{plan-unsound, plan-not-red, plan-short, plan-made}
 use Rattle.plan.proofs.planning.plan.Statement.{statement}

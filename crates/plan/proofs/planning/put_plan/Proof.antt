@@ -3,11 +3,11 @@ use Prim.Native.Nat.{_+_}
 use native.Mathlib.Omega.{arith}
 use borrow.Author.Needs.{needs}
 use lib.ListN.{length}
-use Rattle.plan.specs.Plan.{opening, colours, indices, planRecords}
-use Rattle.plan.specs.RoadRecords.{selecting, along}
-use Rattle.plan.specs.Roads.{registerRoads, indexRoads}
+use Rattle.roads.specs.Plan.{opening, colours, indices, planRecords}
+use Rattle.roads.specs.RoadRecords.{selecting, along}
+use Rattle.roads.specs.Roads.{registerRoads, indexRoads}
 use Rattle.plan.proofs.Appending.{append-then, room-behind}
-use Rattle.plan.proofs.PlanCount.{plan-parts}
+use Rattle.roads.proofs.PlanCount.{plan-parts}
 use Rattle.plan.proofs.planning.put_plan.Statement.{statement}
 use Rattle.plan.proofs.planning.put_plan.Tie as tie
 

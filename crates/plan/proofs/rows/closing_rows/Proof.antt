@@ -1,7 +1,7 @@
 -- `closing_rows` meets its contract. Assumes nothing.
 use mathlib.Core.Path.{refl}
 use Rattle.plan.specs.EngineRows.{indexBy, roadOf}
-use Rattle.plan.specs.Roads.{closingRoads}
+use Rattle.roads.specs.Roads.{closingRoads}
 use Rattle.plan.proofs.rows.closing_rows.Statement.{statement}
 use Rattle.plan.proofs.rows.closing_rows.Tie as tie
 

@@ -3,7 +3,7 @@ use native.Mathlib.Omega.{arith}
 use borrow.Author.Needs.{needs}
 use lib.ListN.{length-append}
 use Rattle.plan.specs.EngineRows.{roadOf}
-use Rattle.plan.specs.RoadRecords.{along}
+use Rattle.roads.specs.RoadRecords.{along}
 use Rattle.plan.proofs.Appending.{append-then}
 use Rattle.plan.proofs.rows.put_register.Statement.{statement}
 use Rattle.plan.proofs.rows.put_register.Tie as tie

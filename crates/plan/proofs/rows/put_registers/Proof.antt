@@ -4,7 +4,7 @@ use native.Mathlib.Omega.{arith}
 use denote.Ref.{now}
 use lib.ListN.{length, getD, length-take, length-drop}
 use Rattle.plan.specs.EngineRows.{roadOf}
-use Rattle.plan.specs.RoadRecords.{along}
+use Rattle.roads.specs.RoadRecords.{along}
 use Rattle.plan.proofs.Appending.{Left, all-left, less-left, room-left}
 use Rattle.plan.proofs.RowsAsRoads.{others, first-left, no-row-left}
 use Rattle.plan.proofs.rows.put_registers.Statement.{statement}

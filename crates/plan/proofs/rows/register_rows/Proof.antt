@@ -2,7 +2,7 @@
 use Rattle.places.specs.Lookup.{isOneOf}
 use mathlib.Core.Path.{refl}
 use Rattle.plan.specs.EngineRows.{indexBy, roadOf}
-use Rattle.plan.specs.Roads.{eachRoad, but, registerRoads}
+use Rattle.roads.specs.Roads.{eachRoad, but, registerRoads}
 use Rattle.plan.proofs.rows.register_rows.Statement.{statement}
 use Rattle.plan.proofs.rows.register_rows.Tie as tie
 

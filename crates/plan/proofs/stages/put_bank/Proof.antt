@@ -3,7 +3,7 @@ use Prim.Native.Nat.{_-_}
 use mathlib.Core.Path.{_∙_}
 use native.Mathlib.Omega.{arith}
 use borrow.Author.Needs.{needs}
-use Rattle.plan.specs.Plan.{pixels, entries}
+use Rattle.roads.specs.Plan.{pixels, entries}
 use Rattle.plan.proofs.Appending.{append-length, all-left}
 use Rattle.plan.proofs.EntriesAppended.{Turns, turn-room, turn, turned}
 use Rattle.plan.proofs.stages.put_bank.Statement.{statement}

@@ -1,8 +1,8 @@
 -- `put_closing` meets its contract. Assumes nothing.
 use borrow.Author.Needs.{needs}
-use Rattle.plan.specs.Plan.{closing}
-use Rattle.plan.specs.RoadRecords.{selecting, along}
-use Rattle.plan.specs.Roads.{closingRoads}
+use Rattle.roads.specs.Plan.{closing}
+use Rattle.roads.specs.RoadRecords.{selecting, along}
+use Rattle.roads.specs.Roads.{closingRoads}
 use Rattle.plan.proofs.Appending.{append-then, room-behind}
 use Rattle.plan.proofs.stages.put_closing.Statement.{statement}
 use Rattle.plan.proofs.stages.put_closing.Tie as tie

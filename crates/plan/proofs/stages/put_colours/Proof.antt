@@ -3,9 +3,9 @@ use Prim.Native.Nat.{_+_}
 use native.Mathlib.Omega.{arith}
 use borrow.Author.Needs.{needs}
 use lib.ListN.{length}
-use Rattle.plan.specs.Plan.{openBank, entries, colours}
+use Rattle.roads.specs.Plan.{openBank, entries, colours}
 use Rattle.plan.proofs.Appending.{append-then, room-behind}
-use Rattle.plan.proofs.PlanCount.{colours-parts}
+use Rattle.roads.proofs.PlanCount.{colours-parts}
 use Rattle.plan.proofs.stages.put_colours.Statement.{statement}
 use Rattle.plan.proofs.stages.put_colours.Tie as tie
 

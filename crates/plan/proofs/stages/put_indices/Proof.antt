@@ -1,8 +1,8 @@
 -- `put_indices` meets its contract. Assumes nothing.
 use borrow.Author.Needs.{needs}
-use Rattle.plan.specs.Plan.{indices}
-use Rattle.plan.specs.RoadRecords.{selecting, along}
-use Rattle.plan.specs.Roads.{byHalf, indexRoads}
+use Rattle.roads.specs.Plan.{indices}
+use Rattle.roads.specs.RoadRecords.{selecting, along}
+use Rattle.roads.specs.Roads.{byHalf, indexRoads}
 use Rattle.plan.proofs.Appending.{append-then}
 use Rattle.plan.proofs.stages.put_indices.Statement.{statement}
 use Rattle.plan.proofs.stages.put_indices.Tie as tie

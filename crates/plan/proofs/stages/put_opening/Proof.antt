@@ -1,7 +1,7 @@
 -- `put_opening` meets its contract. Assumes nothing.
 use borrow.Author.Needs.{needs}
-use Rattle.plan.specs.Plan.{openSpaces, openLock, openPalette, opening}
-use Rattle.plan.specs.Roads.{byHalf}
+use Rattle.roads.specs.Plan.{openSpaces, openLock, openPalette, opening}
+use Rattle.roads.specs.Roads.{byHalf}
 use Rattle.plan.proofs.Appending.{append-then}
 use Rattle.plan.proofs.stages.put_opening.Statement.{statement}
 use Rattle.plan.proofs.stages.put_opening.Tie as tie

@@ -1,6 +1,6 @@
 -- `put_pixel` meets its contract. Assumes nothing.
 use borrow.Author.Needs.{needs}
-use Rattle.plan.specs.Plan.{pixel}
+use Rattle.roads.specs.Plan.{pixel}
 use Rattle.plan.proofs.Appending.{append-then}
 use Rattle.plan.proofs.stages.put_pixel.Statement.{statement}
 use Rattle.plan.proofs.stages.put_pixel.Tie as tie

@@ -1,6 +1,6 @@
 -- `put_toggle` meets its contract. Assumes nothing.
 use borrow.Author.Needs.{needs}
-use Rattle.plan.specs.Roads.{byHalf}
+use Rattle.roads.specs.Roads.{byHalf}
 use Rattle.plan.proofs.stages.put_toggle.Statement.{statement}
 use Rattle.plan.proofs.stages.put_toggle.Tie as tie
 

@@ -7,7 +7,7 @@ use Rattle.file.specs.Answers.{codeOf, valueOf}
 use Rattle.access.specs.declared.record.Record.{Record}
 use Rattle.access.specs.Access.{replyTo}
 use Rattle.trace.specs.Records.{recordOf, replyBytes}
-use Rattle.trace.proofs.Positions.{part-left}
+use Rattle.trace.proofs.RecordBytes.{part-left}
 use borrow.Author.Needs.{needs}
 use Rattle.trace.proofs.running.put_fragment.Statement.{statement}
 use Rattle.trace.proofs.running.put_fragment.Tie as tie

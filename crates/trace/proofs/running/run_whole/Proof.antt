@@ -35,17 +35,17 @@ serve-requires : tie.Need-serve-requires Inv-loop μ-loop
 unfolding sound seen
 serve-requires c κs = (c .before .before .before .before .before .before .before .cells .ensures, c .before .before .before .before .before .before .stored .ensures, subst (λ (f : File). T (sound f)) (sym (c .before .before .before .before .before .loop .inv .file)) (run-sound (c .before .before .before .before .before .before .before .before .before .before .before .before .before .before .args .whole) _ (c .before .before .before .before .before .before .before .before .before .before .before .before .before .before .pre .0)))
 
-mul-component : tie.Need-mul-component Inv-loop μ-loop
-mul-component c = record { fits = omega (arith, c .bank-entry .ensures .1) }
+mul-in-bank : tie.Need-mul-in-bank Inv-loop μ-loop
+mul-in-bank c = record { fits = omega (arith, c .bank-entry .ensures .1) }
 
-array-copy-out-component : tie.Need-array-copy-out-component Inv-loop μ-loop
-array-copy-out-component c = omega (arith, c .bank-entry .ensures .1)
+array-copy-out-in-bank : tie.Need-array-copy-out-in-bank Inv-loop μ-loop
+array-copy-out-in-bank c = omega (arith, c .bank-entry .ensures .1)
 
-mul-component-2 : tie.Need-mul-component-2 Inv-loop μ-loop
-mul-component-2 c = record { fits = omega (arith, c .palette-entry .ensures .1) }
+mul-in-palette : tie.Need-mul-in-palette Inv-loop μ-loop
+mul-in-palette c = record { fits = omega (arith, c .palette-entry .ensures .1) }
 
-array-copy-out-component-2 : tie.Need-array-copy-out-component-2 Inv-loop μ-loop
-array-copy-out-component-2 c = omega (arith, c .palette-entry .ensures .1)
+array-copy-out-in-palette : tie.Need-array-copy-out-in-palette Inv-loop μ-loop
+array-copy-out-in-palette c = omega (arith, c .palette-entry .ensures .1)
 
 mul-record-at : tie.Need-mul-record-at Inv-loop μ-loop
 mul-record-at c = search needs
@@ -115,6 +115,6 @@ pub run-whole-spec : {M : Type 1} → statement M
 run-whole-spec =
     tie.close
     (tie.spec Inv-loop μ-loop (λ c κs. search needs) (λ c κs. search needs) loop-holds (λ c. search needs) (λ c κs. search needs)
-    serve-requires (λ c κs. search needs) (λ c κs. search needs) mul-component array-copy-out-component (λ c κs. search needs) mul-component-2
-    array-copy-out-component-2 (λ c κs. search needs) mul-put-reply put-reply-requires (λ c κs. search needs) mul-bank array-set-from-bank
+    serve-requires (λ c κs. search needs) (λ c κs. search needs) mul-in-bank array-copy-out-in-bank (λ c κs. search needs) mul-in-palette
+    array-copy-out-in-palette (λ c κs. search needs) mul-put-reply put-reply-requires (λ c κs. search needs) mul-bank array-set-from-bank
     (λ c κs. search needs) mul-palette array-set-from-palette add-n loop-less loop-again same-length returns)

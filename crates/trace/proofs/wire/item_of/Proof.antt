@@ -1,5 +1,5 @@
 -- `item_of` meets its contract. Assumes nothing.
-use Rattle.trace.proofs.Positions.{whole-read, fragment-read}
+use Rattle.trace.proofs.RecordBytes.{whole-read, fragment-read}
 use borrow.Author.Needs.{needs}
 use Rattle.trace.proofs.wire.item_of.Statement.{statement}
 use Rattle.trace.proofs.wire.item_of.Tie as tie

@@ -1,5 +1,5 @@
 -- `record_of` meets its contract. Assumes nothing.
-use Rattle.trace.proofs.Positions.{record-read}
+use Rattle.trace.proofs.RecordBytes.{record-read}
 use borrow.Author.Needs.{needs}
 use Rattle.trace.proofs.wire.record_of.Statement.{statement}
 use Rattle.trace.proofs.wire.record_of.Tie as tie

@@ -1,0 +1,206 @@
+-- The plan's other stages, each from any file that is ready: colours, registers, indices, closing.
+-- Assumes nothing.
+use Prim.Native.Nat.{ℕ, _+_, _%_, _<_}
+use mathlib.Core.Path.{_≡_, refl, sym, ap, ap₂, _∙_, subst}
+use mathlib.Core.Bool.{Bool, true, false, cond, not, _&&_}
+use mathlib.Core.List.{List, [], _∷_}
+use native.Mathlib.Omega.{arith}
+use lib.Dec.{T, eqb, leb, le→leb, lit<, eqb→eq}
+use lib.ListN.{getD, length}
+use Rattle.bits.specs.Store.{bit, store, within}
+use Rattle.bits.proofs.Bit.{bit-lt}
+use Rattle.bits.proofs.Test.{left, right, both}
+use Rattle.file.specs.declared.palette.Colour.{Colour}
+use Rattle.file.specs.declared.palette.Pointer.{Pointer}
+use Rattle.file.specs.declared.registers.File.{File}
+use Rattle.file.specs.File.{register, withRegisters, withPalette, withBank, withPointer, withToggle}
+use Rattle.file.specs.Names.{MISC, ARX, PCI04, CR11, B0}
+use Rattle.file.specs.Palette.{addressed, pointerSound}
+use Rattle.file.specs.Registers.{storedBits, storedTable}
+use Rattle.file.specs.Sound.{allWithin, sound}
+use Rattle.file.proofs.Soundness.{registers-sound, sound-by, state-sound, pointing-sound, toggling-sound, addressed-sound}
+use Rattle.file.specs.State.{stateSound}
+use Rattle.places.specs.Lookup.{isOneOf}
+use Rattle.access.specs.Access.{paletteUp, inBank}
+use Rattle.roads.specs.Roads.{toPCI04, toCR11, toB0, toSRX, toGRX, toARX, toCRX, registerRoads, indexRoads, closingRoads, eachRoad, but, byHalf}
+use Rattle.roads.specs.Plan.{toggleRead, pointerWrite, openPalette, openBank, entries, colours, indices, closing}
+use Rattle.roads.specs.RoadRecords.{write, selecting, along}
+use Rattle.roads.specs.Restores.{RunsInto, bytes}
+use Rattle.roads.specs.RegisterStage.{withRegister, withFlip, indexFlips, everyRoad, SpacesOn, Ready, loose, selectable, brought, passable, Brings}
+use Rattle.roads.specs.ColourStage.{PaletteReady, entryCount, entriesIn, withEntries, painted, inRange, afterStretch}
+use Rattle.roads.specs.StageEnds.{coloured, indexed, closed}
+use Rattle.roads.proofs.RegisterStageRuns.{AllLead, roads-bring, arx-leads}
+use Rattle.roads.proofs.LookupBySelectors.{selectorsOf}
+use Rattle.roads.proofs.StretchRuns.{stretch-runs, address-runs}
+use Rattle.roads.proofs.RunsCompose.{runs-then}
+use Rattle.roads.proofs.ColourStageRuns.{sets-all}
+use Rattle.roads.proofs.RoadsLead.{withIndex, leads, leading, single-roads-lead, registers-lead, crx-leads}
+use Rattle.roads.proofs.OpeningRuns.{config-runs, open-fits}
+use Rattle.roads.proofs.ReadyRuns.{at-any, with-sound, wanted-within, ready-runs, ready-with, ready-flipped}
+use Rattle.roads.proofs.ToggleReads.{toggle-runs}
+
+-- ---- colours
+
+-- a ready file stays ready while its registers stay
+ready-as : (w : List ℕ) (f g : File) → g .registers ≡ f .registers → T (stateSound (g .state)) → Ready w f → Ready w g
+unfolding SpacesOn register
+ready-as w f g e p ready =
+    record {
+      isSound =
+          sound-by g (subst (λ (rs : List ℕ). T (allWithin storedTable rs)) (sym e) (registers-sound f (ready .isSound))) p;
+      on = ap (λ (rs : List ℕ). getD rs PCI04 0) e ∙ ready .on;
+      unlocked = ap (λ (rs : List ℕ). getD rs CR11 0) e ∙ ready .unlocked;
+      misc = ap (λ (rs : List ℕ). getD rs MISC 0) e ∙ ready .misc;
+    }
+
+-- B0 with the palette up, and the palette or the bank chosen
+abbrev choosing : Bool → ℕ
+choosing bank = cond bank openBank openPalette
+
+chosen-up : (w : List ℕ) (f : File) (bank : Bool) → Ready w f → register f B0 ≡ choosing bank → PaletteReady f bank
+unfolding openPalette openBank paletteUp inBank bit
+chosen-up w f true ready b0 = record { isSound = ready .isSound; on = ready .on; up = rw b0; chosen = rw b0 }
+chosen-up w f false ready b0 = record { isSound = ready .isSound; on = ready .on; up = rw b0; chosen = rw b0 }
+
+-- all entries, from the first on
+all-run : (w : List ℕ) (f : File) (bank : Bool) (new : List Colour) → Ready w f → register f B0 ≡ choosing bank
+    → length (entriesIn bank f) ≡ entryCount bank → length new ≡ entryCount bank → T (bytes new)
+    → RunsInto f (entries 0 new) (withPointer (addressed false (entryCount bank % 256)) (withEntries bank new f))
+unfolding afterStretch painted inRange
+all-run w f bank new ready b0 old many t =
+    subst (λ (g : File). RunsInto f (entries 0 new) g)
+    (ap₂ (λ (a : ℕ) (l : List Colour). withPointer (addressed false (a % 256)) (withEntries bank l f)) total
+    (sets-all (entriesIn bank f) new (old ∙ sym many)))
+    (stretch-runs (record { first = 0; colours = new }) f bank (ready .isSound) (chosen-up w f bank ready b0)
+    (both (leb (0 + length new) (entryCount bank)) (bytes new) (le→leb (0 + length new) (entryCount bank) (omega (arith, many))) t))
+  where
+    total : 0 + length new ≡ entryCount bank
+    total = omega (arith, many)
+
+module _ (w : List ℕ) (palette bank : List Colour) (f : File) (all : length palette ≡ 256) (allBytes : T (bytes palette))
+    (sixteen : length bank ≡ 16) (bankBytes : T (bytes bank)) (ready : Ready w f) (b0 : register f B0 ≡ openPalette)
+    (many : length (f .palette) ≡ 256) (few : length (f .bank) ≡ 16) where
+  -- between the two
+  abbrev half : File
+  half = withPointer (addressed false 0) (withPalette palette f)
+
+  half-ready : Ready w half
+  unfolding withPointer withPalette addressed pointerSound
+  half-ready = ready-as w f half refl (pointing-sound (addressed false 0) (f .state) (addressed-sound false 0) (state-sound f (ready .isSound))) ready
+
+  switched-ready : Ready w (withRegister B0 openBank half)
+  unfolding loose isOneOf
+  switched-ready = ready-with w half B0 openBank half-ready tt (open-fits .bank)
+
+  -- the stage
+  pub colours-run : RunsInto f (colours palette bank) (coloured palette bank f)
+  unfolding colours coloured indexFlips withFlip withRegister withRegisters withPointer withPalette withBank
+  colours-run =
+      runs-then (entries 0 palette) (write toB0 openBank ∷ entries 0 bank) f half (coloured palette bank f)
+      (all-run w f false palette ready b0 many all allBytes)
+      (runs-then (write toB0 openBank ∷ []) (entries 0 bank) half (withRegister B0 openBank half) (coloured palette bank f)
+      (ready-runs w half toB0 openBank half-ready (single-roads-lead (selectorsOf half) .b0) (open-fits .bank))
+      (all-run w (withRegister B0 openBank half) true bank switched-ready (at-any half B0 openBank B0 (half-ready .isSound) (lit< tt)) few
+      sixteen bankBytes))
+
+  pub coloured-ready : Ready w (coloured palette bank f)
+  unfolding coloured withRegister withRegisters withPointer withPalette addressed pointerSound withBank
+  coloured-ready =
+      ready-as w (withRegister B0 openBank half) (coloured palette bank f) refl
+      (pointing-sound (addressed false 16) (f .state) (addressed-sound false 16) (state-sound f (ready .isSound))) switched-ready
+
+-- ---- registers
+
+-- a ready file may go every road, by one computed test
+registers-open : T (everyRoad passable registerRoads)
+unfolding everyRoad passable selectable loose isOneOf registerRoads storedBits storedTable within store
+registers-open = tt
+
+-- the stage
+pub registers-bring : (w : List ℕ) (f : File) → T (allWithin storedTable w) → Ready w f → f .state .toggle ≡ false → Brings w f registerRoads
+registers-bring w f s ready t = roads-bring w s registerRoads f ready t registers-open (λ v e. registers-lead v)
+
+-- ---- indices
+
+indices-open : (misc : ℕ) → T (everyRoad passable (indexRoads misc))
+unfolding everyRoad passable selectable loose isOneOf indexRoads
+indices-open misc = tt
+
+indices-lead : (w : List ℕ) → AllLead w (indexRoads (getD w MISC 0))
+unfolding leading everyRoad withIndex indexRoads byHalf
+indices-lead w v e =
+    both (leads v toSRX) (leads v toGRX && (leads v (toCRX (getD w MISC 0)) && true)) (single-roads-lead v .srx)
+    (both (leads v toGRX) (leads v (toCRX (getD w MISC 0)) && true) (single-roads-lead v .grx)
+    (both (leads v (toCRX (getD w MISC 0))) true (crx-leads v (bit 0 (getD w MISC 0)) (bit-lt 0 (getD w MISC 0)) (ap (bit 0) e)) tt))
+
+module _ (w : List ℕ) (toggle : Bool) (f : File) (s : T (allWithin storedTable w)) (ready : Ready w f) (t : f .state .toggle ≡ false) where
+  -- SRX, GRX and CRX
+  three : Brings w f (indexRoads (getD w MISC 0))
+  three = roads-bring w s (indexRoads (getD w MISC 0)) f ready t (indices-open (getD w MISC 0)) (indices-lead w)
+
+  -- ARX too: data is due then
+  four-ready : Ready w (withFlip true (withRegister ARX (getD w ARX 0) (brought w (indexRoads (getD w MISC 0)) f)))
+  unfolding loose isOneOf
+  four-ready =
+      ready-flipped w (withRegister ARX (getD w ARX 0) (brought w (indexRoads (getD w MISC 0)) f)) true
+      (ready-with w (brought w (indexRoads (getD w MISC 0)) f) ARX (getD w ARX 0) (three .ready) tt (wanted-within w ARX s))
+
+  -- the stage
+  pub indices-run : RunsInto f (indices w toggle) (indexed w toggle f)
+  unfolding indices indexed indexFlips withFlip brought withRegister withRegisters withToggle
+  indices-run =
+      runs-then (along w (indexRoads (getD w MISC 0))) (write toARX (getD w ARX 0) ∷ toggleRead (getD w MISC 0) toggle ∷ [])
+      f (brought w (indexRoads (getD w MISC 0)) f) (indexed w toggle f) (three .runs)
+      (runs-then (write toARX (getD w ARX 0) ∷ []) (toggleRead (getD w MISC 0) toggle ∷ [])
+      (brought w (indexRoads (getD w MISC 0)) f) (withFlip true (withRegister ARX (getD w ARX 0) (brought w (indexRoads (getD w MISC 0)) f))) (indexed w toggle f)
+      (ready-runs w (brought w (indexRoads (getD w MISC 0)) f) toARX (getD w ARX 0) (three .ready) (arx-leads (brought w (indexRoads (getD w MISC 0)) f) t) (wanted-within w ARX s))
+      (toggle-runs w (withFlip true (withRegister ARX (getD w ARX 0) (brought w (indexRoads (getD w MISC 0)) f))) toggle four-ready (ap not t)))
+
+  pub indexed-ready : Ready w (indexed w toggle f)
+  unfolding indexed withFlip withToggle
+  indexed-ready =
+      ready-as w (withFlip true (withRegister ARX (getD w ARX 0) (brought w (indexRoads (getD w MISC 0)) f))) (indexed w toggle f) refl
+      (toggling-sound toggle _ (state-sound _ (four-ready .isSound))) four-ready
+
+-- ---- closing
+
+-- a sound pointer before red holds nothing
+before-red : (p : Pointer) → T (pointerSound p) → p .next ≡ 0 → addressed (p .reading) (p .address) ≡ p
+unfolding addressed pointerSound
+before-red p s e =
+    let nothing : T (eqb (p .green) 0 && eqb (p .red) 0) = rw e at s in
+    let red = eqb→eq (p .red) 0 (right (eqb (p .green) 0) (eqb (p .red) 0) nothing) in
+    let green = eqb→eq (p .green) 0 (left (eqb (p .green) 0) (eqb (p .red) 0) nothing) in
+    λ i. record { address = p .address; reading = p .reading; next = sym e i; red = sym red i; green = sym green i }
+
+module _ (w : List ℕ) (p : Pointer) (f : File) (s : T (allWithin storedTable w)) (ps : T (pointerSound p)) (red : p .next ≡ 0) (small : p .address < 256)
+    (ready : Ready w f) where
+  abbrev pointed : File
+  pointed = withPointer p f
+
+  pointed-ready : Ready w pointed
+  unfolding withPointer
+  pointed-ready = ready-as w f pointed refl (pointing-sound p (f .state) ps (state-sound f (ready .isSound))) ready
+
+  b0-ready : Ready w (withRegister B0 (getD w B0 0) pointed)
+  unfolding loose isOneOf
+  b0-ready = ready-with w pointed B0 (getD w B0 0) pointed-ready tt (wanted-within w B0 s)
+
+  -- the stage
+  pub closing-runs : RunsInto f (closing w p) (closed w p f)
+  unfolding closing closed closingRoads along selecting indexFlips withFlip
+  closing-runs =
+      runs-then (pointerWrite p ∷ []) (along w closingRoads)
+      f pointed (closed w p f)
+      (subst (λ (q : Pointer). RunsInto f (pointerWrite p ∷ []) (withPointer q f)) (before-red p ps red)
+      (address-runs f (p .reading) (p .address) (ready .isSound) (ready .on) small))
+      (runs-then (write toB0 (getD w B0 0) ∷ []) (write toCR11 (getD w CR11 0) ∷ write toPCI04 (getD w PCI04 0) ∷ [])
+      pointed (withRegister B0 (getD w B0 0) pointed) (closed w p f)
+      (ready-runs w pointed toB0 (getD w B0 0) pointed-ready (single-roads-lead (selectorsOf pointed) .b0) (wanted-within w B0 s))
+      (runs-then (write toCR11 (getD w CR11 0) ∷ []) (write toPCI04 (getD w PCI04 0) ∷ [])
+      (withRegister B0 (getD w B0 0) pointed) (withRegister CR11 (getD w CR11 0) (withRegister B0 (getD w B0 0) pointed)) (closed w p f)
+      (ready-runs w (withRegister B0 (getD w B0 0) pointed) toCR11 (getD w CR11 0) b0-ready
+      (single-roads-lead (selectorsOf (withRegister B0 (getD w B0 0) pointed)) .cr11) (wanted-within w CR11 s))
+      (config-runs (withRegister CR11 (getD w CR11 0) (withRegister B0 (getD w B0 0) pointed)) (getD w PCI04 0)
+      (with-sound (withRegister B0 (getD w B0 0) pointed) CR11 (getD w CR11 0) (b0-ready .isSound) (wanted-within w CR11 s))
+      (wanted-within w PCI04 s))))

@@ -1,0 +1,16 @@
+pub mod RunsCompose
+pub mod ChecksPassed
+pub mod LookupBySelectors
+pub mod RoadsLead
+pub mod RoadStores
+pub mod ReadyRuns
+pub mod RegisterStageRuns
+pub mod StretchRuns
+pub mod ColourStageRuns
+pub mod ToggleReads
+pub mod OpeningRuns
+pub mod LaterStagesRun
+pub mod PlanServes
+pub mod PlanCount
+pub mod AcceptedFits
+pub mod RepliesAccepted

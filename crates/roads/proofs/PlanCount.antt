@@ -1,0 +1,47 @@
+-- How many records a plan has: 973 for every wanted file, within 01's 1,024.
+-- Assumes nothing.
+use Prim.Native.Nat.{ℕ, _+_, _*_, _≤_}
+use mathlib.Core.Path.{_≡_, refl, _∙_}
+use mathlib.Core.List.{List, [], _∷_}
+use native.Mathlib.Omega.{arith}
+use lib.ListN.{length, length-append}
+use Rattle.places.specs.Lookup.{isOneOf}
+use Rattle.file.specs.declared.palette.Colour.{Colour}
+use Rattle.file.specs.declared.registers.File.{File}
+use Rattle.roads.specs.Roads.{toB0, eachRoad, but, registerRoads, indexRoads, closingRoads}
+use Rattle.roads.specs.Plan.{openBank, opening, pixel, pixels, entries, colours, indices, closing, planRecords}
+use Rattle.roads.specs.RoadRecords.{write, selecting, along}
+use Rattle.roads.specs.Restores.{IsFile}
+
+pixels-count : (cs : List Colour) → length (pixels cs) ≡ 3 * length cs
+unfolding pixels pixel
+pixels-count [] = refl
+pixels-count (c ∷ cs) = omega (arith, pixels-count cs)
+
+-- 769 records for the palette, 50 for the bank
+colour-records : (palette bank : List Colour) → length palette ≡ 256 → length bank ≡ 16 → length (colours palette bank) ≡ 819
+unfolding colours entries
+colour-records palette bank p b = rw (length-append, pixels-count palette, pixels-count bank, p, b)
+
+-- one or two records for each register
+register-records : (w : List ℕ) → length (along w registerRoads) ≡ 140
+unfolding along selecting registerRoads
+register-records w = refl
+
+-- the stages one behind the other
+pub colours-parts : (palette bank : List Colour) → length (colours palette bank) ≡ length (entries 0 palette) + (1 + length (entries 0 bank))
+unfolding colours
+colours-parts palette bank = omega (arith, length-append (entries 0 palette) (write toB0 openBank ∷ entries 0 bank))
+
+pub plan-parts : (w : File)
+    → length (planRecords w) ≡ 5 + length (colours (w .palette) (w .bank)) + length (along (w .registers) registerRoads) + 5 + 4
+unfolding planRecords opening indices closing closingRoads along selecting indexRoads
+plan-parts w = simp length-append
+
+pub plan-count : (w : File) → IsFile w → length (planRecords w) ≡ 973
+plan-count w wf =
+    plan-parts w ∙ simp (colour-records (w .palette) (w .bank) (wf .palette) (wf .bank), register-records (w .registers))
+
+-- 'at most 1,024 records'
+pub plan-room : (w : File) → IsFile w → length (planRecords w) ≤ 1024
+plan-room w wf = omega (arith, plan-count w wf)

@@ -1,0 +1,183 @@
+-- Demand 3: from every sound start, each record of the plan is accepted and the run ends in the wanted file.
+-- Assumes nothing.
+use Prim.Native.Nat.{ℕ, _*_, _<_}
+use mathlib.Core.Path.{_≡_, refl, sym, ap, ap₂, _∙_, subst}
+use mathlib.Core.Bool.{Bool, cond, not}
+use mathlib.Core.List.{List, _∷_, _++_, map}
+use native.Mathlib.Omega.{arith}
+use lib.Dec.{T, eqb, leb, T-not, eqb→eq}
+use lib.ListN.{getD, length, drop}
+use lib.Seq.{ext-getD}
+use Rattle.bits.proofs.Test.{by-test, passes, is-true, chosen, everyBelow, below}
+use Rattle.file.specs.declared.answer.Answer.{Answer}
+use Rattle.file.specs.declared.answer.Answer.the-variants.{Done, ShortBuffer, NotSound, NotBeforeRed}
+use Rattle.file.specs.declared.registers.File.{File}
+use Rattle.file.specs.File.{register, withRegisters, withPointer, withToggle, withPalette, withBank}
+use Rattle.file.specs.Names.{MISC, B0}
+use Rattle.file.specs.Registers.{registerCount, storedTable, sequencer, crtc, graphics, attribute, pipeline}
+use Rattle.file.specs.Answers.{codeOf, refused}
+use Rattle.file.specs.Sound.{allWithin, sound}
+use Rattle.file.proofs.Soundness.{registers-sound, pointer-sound, sound-count}
+use Rattle.places.specs.Lookup.{isOneOf}
+use Rattle.access.specs.declared.record.Item.{Item}
+use Rattle.access.specs.declared.record.Item.the-variants.{Whole}
+use Rattle.access.specs.declared.record.Record.{Record}
+use Rattle.trace.specs.Records.{items}
+use Rattle.trace.specs.Run.{fileAfter, answers}
+use Rattle.roads.specs.Roads.{Road, toARX, eachRoad, but, registerRoads, indexRoads, closingRoads}
+use Rattle.roads.specs.Plan.{openPalette, opening, colours, indices, closing, planRecords}
+use Rattle.roads.specs.RoadRecords.{along}
+use Rattle.roads.specs.Refusals.{planAnswer, restoreAnswer, answerByRun}
+use Rattle.roads.specs.Restores.{allAccepted, RunsInto, IsFile, Plans, PlanWritten}
+use Rattle.roads.specs.RegisterStage.{withRegister, Ready, afterSelecting, afterRoads, brought, moves, endsWanted, Brings}
+use Rattle.roads.specs.StageEnds.{opened, coloured, indexed, closed}
+use Rattle.roads.proofs.RegisterStageRuns.{ends-wanted, after-length, after-append}
+use Rattle.roads.proofs.RunsCompose.{runs-then}
+use Rattle.roads.proofs.PlanCount.{plan-room}
+use Rattle.roads.proofs.AcceptedFits.{run-fits, trace-items}
+use Rattle.roads.proofs.OpeningRuns.{opening-runs, opened-ready, opened-up}
+use Rattle.roads.proofs.LaterStagesRun.{colours-run, coloured-ready, registers-bring, indices-run, indexed-ready, closing-runs}
+
+-- ---- every register is named
+
+-- the roads of the last two stages
+unfoldable pub lastRoads : ℕ → List Road
+lastRoads misc = indexRoads misc ++ toARX ∷ closingRoads
+
+-- the roads after the colours, in the plan's order
+unfoldable pub planRoads : ℕ → List Road
+planRoads misc = registerRoads ++ lastRoads misc
+
+-- after them every register holds its wanted value, if MISC did before
+all-end-wanted : (misc : ℕ) → T (everyBelow (λ (n : ℕ). endsWanted (planRoads misc) n (eqb n MISC)) registerCount)
+unfolding everyBelow endsWanted planRoads lastRoads closingRoads moves registerRoads indexRoads eachRoad but isOneOf sequencer crtc graphics attribute pipeline
+all-end-wanted misc = tt
+
+-- the registers that the stages after the colours leave are the wanted ones
+registers-as-wanted : (w xs : List ℕ) (misc : ℕ) → T (allWithin storedTable w) → length xs ≡ length w → length w ≡ registerCount → getD xs MISC 0 ≡ getD w MISC 0
+    → afterRoads w (planRoads misc) xs ≡ w
+registers-as-wanted w xs misc s many all same =
+    ext-getD 0 (afterRoads w (planRoads misc) xs) w (after-length w (planRoads misc) xs ∙ many)
+    (λ n h.
+    let small : n < registerCount = omega (arith, after-length w (planRoads misc) xs) in
+    ends-wanted w (planRoads misc) xs n (eqb n MISC) (omega arith)
+    (λ t. subst (λ (m : ℕ). getD xs m 0 ≡ getD w m 0) (sym (eqb→eq n MISC t)) same)
+    (below (λ (m : ℕ). endsWanted (planRoads misc) m (eqb m MISC)) registerCount (all-end-wanted misc) n small))
+
+-- ---- demand 3
+
+module _ (w f : File) (ws : T (sound w)) (fs : T (sound f)) (wf : IsFile w) (red : w .state .pointer .next ≡ 0)
+    (many : length (f .palette) ≡ 256) (few : length (f .bank) ≡ 16) where
+  within-bits : T (allWithin storedTable (w .registers))
+  within-bits = registers-sound w ws
+
+  -- the file between the stages
+  abbrev afterOpening : File
+  afterOpening = opened (w .registers) f
+
+  abbrev afterColours : File
+  afterColours = coloured (w .palette) (w .bank) afterOpening
+
+  abbrev afterRegisters : File
+  afterRegisters = brought (w .registers) registerRoads afterColours
+
+  abbrev afterIndices : File
+  afterIndices = indexed (w .registers) (w .state .toggle) afterRegisters
+
+  opening-ready : Ready (w .registers) afterOpening
+  opening-ready = opened-ready (w .registers) f within-bits fs
+
+  opening-up : register afterOpening B0 ≡ openPalette
+  opening-up = opened-up (w .registers) f within-bits fs
+
+  second-runs : RunsInto afterOpening (colours (w .palette) (w .bank)) afterColours
+  unfolding opened withToggle withRegister withRegisters
+  second-runs =
+      colours-run (w .registers) (w .palette) (w .bank) afterOpening (wf .palette) (wf .paletteBytes) (wf .bank) (wf .bankBytes)
+      opening-ready opening-up many few
+
+  colours-ready : Ready (w .registers) afterColours
+  unfolding opened withToggle withRegister withRegisters
+  colours-ready =
+      coloured-ready (w .registers) (w .palette) (w .bank) afterOpening (wf .palette) (wf .paletteBytes) (wf .bank) (wf .bankBytes)
+      opening-ready opening-up many few
+
+  third-brings : Brings (w .registers) afterColours registerRoads
+  unfolding coloured opened withToggle withPointer withBank withPalette withRegister withRegisters
+  third-brings = registers-bring (w .registers) afterColours within-bits colours-ready refl
+
+  ends-in : closed (w .registers) (w .state .pointer) afterIndices ≡ w
+  unfolding closed indexed brought coloured withRegister withRegisters withToggle withPointer planRoads lastRoads closingRoads indexRoads afterRoads afterSelecting register withBank withPalette
+  ends-in =
+      ap (λ (rs : List ℕ). withRegisters rs w)
+      (sym (after-append (w .registers) registerRoads (lastRoads (getD (w .registers) MISC 0)) (afterColours .registers))
+      ∙ registers-as-wanted (w .registers) (afterColours .registers) (getD (w .registers) MISC 0) within-bits
+      (sound-count afterColours (colours-ready .isSound) ∙ sym (sound-count w ws)) (sound-count w ws) (colours-ready .misc))
+
+  pub plan-restores : RunsInto f (planRecords w) w
+  unfolding planRecords brought withRegisters coloured opened withToggle withPointer withBank withPalette withRegister
+  plan-restores =
+      subst (λ (g : File). RunsInto f (planRecords w) g) ends-in
+      (runs-then (opening (w .registers) ++ colours (w .palette) (w .bank) ++ along (w .registers) registerRoads ++ indices (w .registers) (w .state .toggle))
+      (closing (w .registers) (w .state .pointer)) f afterIndices (closed (w .registers) (w .state .pointer) afterIndices)
+      (runs-then (opening (w .registers) ++ colours (w .palette) (w .bank) ++ along (w .registers) registerRoads) (indices (w .registers) (w .state .toggle))
+      f afterRegisters afterIndices
+      (runs-then (opening (w .registers) ++ colours (w .palette) (w .bank)) (along (w .registers) registerRoads) f afterColours afterRegisters
+      (runs-then (opening (w .registers)) (colours (w .palette) (w .bank)) f afterOpening afterColours (opening-runs (w .registers) f within-bits fs)
+      second-runs)
+      (third-brings .runs))
+      (indices-run (w .registers) (w .state .toggle) afterRegisters within-bits (third-brings .ready) refl))
+      (closing-runs (w .registers) (w .state .pointer) afterIndices within-bits (pointer-sound w ws) red (wf .address)
+      (indexed-ready (w .registers) (w .state .toggle) afterRegisters within-bits (third-brings .ready) refl)))
+
+-- demand 3, as a plan's definition says it
+pub plan-serves : (w : File) → IsFile w → T (sound w) → w .state .pointer .next ≡ 0 → Plans w (planRecords w)
+plan-serves w wf ws red =
+    record {
+      room = plan-room w wf;
+      whole = run-fits (planRecords w) w (plan-restores w w ws ws wf red (wf .palette) (wf .bank) .allDone);
+      restores = λ f ff fs. plan-restores w f ws fs wf red (ff .palette) (ff .bank);
+    }
+
+-- a buffer that holds a plan is read as its records
+pub written-items : (w : File) (before after : List ℕ) (count : ℕ) (p : PlanWritten w before after count) → items count after ≡ map Whole (p .records)
+written-items w before after count p =
+    ap₂ items (p .counted) (p .filled) ∙ trace-items (p .records) (drop (8 * count) before)
+
+-- run over: every record is accepted, and the run ends in the wanted file
+pub planned-runs : (w : File) (before after : List ℕ) (count : ℕ) → PlanWritten w before after count → (f : File) → IsFile f → T (sound f)
+    → T (allAccepted (answers f (items count after))) × (fileAfter f (items count after) ≡ w)
+planned-runs w before after count p f ff fs =
+    let runs = p .plans .restores f ff fs in
+    let same = written-items w before after count p in
+    (subst (λ (is : List Item). T (allAccepted (answers f is))) (sym same) (runs .allDone), ap (fileAfter f) same ∙ runs .ends)
+
+-- ---- code 14
+
+-- a plan's own record is never refused: what 01 says of a restore with 14 is what is said without it
+pub restore-answers : (f w : File) (room : ℕ) (records : List Record) → IsFile f → Plans w records
+    → answerByRun f w room records ≡ restoreAnswer f w room
+unfolding answerByRun restoreAnswer planAnswer refused codeOf
+restore-answers f w room records ff plans =
+    by-test (sound f)
+    (λ s.
+    let all = is-true (allAccepted (answers f (map Whole records))) (plans .restores f ff (passes (sound f) s) .allDone) in
+    rw (s, all)
+    (by-test (sound w)
+    (λ t. rw t (by-test (eqb (w .state .pointer .next) 0) (λ e. rw e (by-test (leb 8192 room) (λ l. rw l) (λ l. rw l))) (λ e. rw e)))
+    (λ t. rw t)))
+    (λ s. rw s)
+
+-- so code 14 is never answered
+pub never-fourteen : (f w : File) (room : ℕ) → codeOf (restoreAnswer f w room) ≡ 14 → ⊥
+unfolding restoreAnswer planAnswer codeOf
+never-fourteen f w room e =
+    T-not (eqb (codeOf (restoreAnswer f w room)) 14)
+    (chosen other (sound f) (planAnswer w room) NotSound
+    (chosen other (sound w) (cond (eqb (w .state .pointer .next) 0) (cond (leb 8192 room) (Done 0) ShortBuffer) NotBeforeRed) NotSound
+    (chosen other (eqb (w .state .pointer .next) 0) (cond (leb 8192 room) (Done 0) ShortBuffer) NotBeforeRed
+    (chosen other (leb 8192 room) (Done 0) ShortBuffer tt tt) tt) tt) tt)
+    (rw e tt)
+  where
+    other : Answer → Bool
+    other a = not (eqb (codeOf a) 14)

@@ -1,0 +1,44 @@
+-- The file after each stage of a plan, from the file before it.
+-- Assumes nothing.
+use Prim.Native.Nat.{ℕ}
+use mathlib.Core.Bool.{Bool, false}
+use mathlib.Core.List.{List}
+use lib.ListN.{getD}
+use Rattle.file.specs.declared.palette.Colour.{Colour}
+use Rattle.file.specs.declared.palette.Pointer.{Pointer}
+use Rattle.file.specs.declared.registers.File.{File}
+use Rattle.file.specs.File.{withPalette, withBank, withPointer, withToggle}
+use Rattle.file.specs.Names.{MISC, ARX, PCI04, CR11, B0}
+use Rattle.file.specs.Palette.{addressed}
+use Rattle.roads.specs.Roads.{indexRoads}
+use Rattle.roads.specs.Plan.{openSpaces, openLock, openPalette, openBank}
+use Rattle.roads.specs.RegisterStage.{withRegister, brought}
+
+-- what the opening leaves, record by record
+abbrev pub withSpacesOn : File → File
+withSpacesOn f = withRegister PCI04 openSpaces f
+
+abbrev pub withLockOff : File → File
+withLockOff f = withRegister CR11 openLock (withSpacesOn f)
+
+abbrev pub withPaletteUp : File → File
+withPaletteUp f = withRegister B0 openPalette (withLockOff f)
+
+abbrev pub withMISC : List ℕ → File → File
+withMISC w f = withRegister MISC (getD w MISC 0) (withPaletteUp f)
+
+unfoldable pub opened : List ℕ → File → File
+opened w f = withToggle false (withMISC w f)
+
+-- the file with all colours as wanted, the pointer behind the bank's
+unfoldable pub coloured : List Colour → List Colour → File → File
+coloured palette bank f = withPointer (addressed false 16) (withBank bank (withPalette palette (withRegister B0 openBank f)))
+
+-- the file with the index registers and the toggle as wanted
+unfoldable pub indexed : List ℕ → Bool → File → File
+indexed w toggle f = withToggle toggle (withRegister ARX (getD w ARX 0) (brought w (indexRoads (getD w MISC 0)) f))
+
+-- the file with the pointer and what was open as wanted
+unfoldable pub closed : List ℕ → Pointer → File → File
+closed w p f =
+    withRegister PCI04 (getD w PCI04 0) (withRegister CR11 (getD w CR11 0) (withRegister B0 (getD w B0 0) (withPointer p f)))
