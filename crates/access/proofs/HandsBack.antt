@@ -1,5 +1,5 @@
 -- What the contract of `Record::access` tells of what it hands back, for every file and every record. Assumes nothing.
-use mathlib.Core.Path.{_≡_, sym, ap, _∙_, subst}
+use mathlib.Core.Path.{_≡_, refl, sym, ap, _∙_, subst}
 use lib.Dec.{T}
 use mathlib.Core.Bool.{false}
 use Rattle.file.specs.declared.answer.Answer.the-variants.{NotSound}
@@ -8,7 +8,9 @@ use Rattle.file.specs.Answers.{refused}
 use Rattle.file.specs.Sound.{sound}
 use Rattle.access.specs.declared.access.Accessed.{Accessed}
 use Rattle.access.specs.declared.record.Record.{Record}
-use Rattle.access.specs.Access.{access}
+use Rattle.access.specs.declared.record.Item.{Item}
+use Rattle.access.specs.declared.record.Item.the-variants.{Whole, Fragment}
+use Rattle.access.specs.Access.{access, accessItem, recordIn, replyTo}
 use Rattle.access.specs.Promises.{accessCode}
 use Rattle.access.proofs.Codes.{access-code}
 use Rattle.access.proofs.Refusals.{refusal-leaves, unsound-answer}
@@ -35,3 +37,9 @@ module _ (whole : File) (asked : Record) (r : Accessed) (met : r ≡ access whol
   pub unsound-refused : sound whole ≡ false → r .answer ≡ NotSound
   unfolding access
   unsound-refused e = ap (λ (x : Accessed). x .answer) met ∙ unsound-answer whole asked e
+
+-- the reply handed back says the answer, of a whole record and of a fragment
+pub reply-says : (f : File) (i : Item) → accessItem f i .reply ≡ replyTo (recordIn i) (accessItem f i .answer)
+unfolding accessItem access recordIn
+reply-says f (Whole r) = refl
+reply-says f (Fragment r) = refl
