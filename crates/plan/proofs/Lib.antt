@@ -3,3 +3,4 @@ pub mod Appending
 pub mod RowsAsRoads
 pub mod EntriesAppended
 pub mod PromisesKept
+pub mod DemandThree
