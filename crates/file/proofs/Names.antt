@@ -2,14 +2,14 @@
 use mathlib.Core.Path.{_≡_, refl}
 use lib.Dec.{T}
 use lib.ListN.{length}
+use Rattle.file.specs.Named.{nameOf, allNamed, names}
 use Rattle.file.specs.Registers.{registerCount, registers}
-use Rattle.file.specs.Named.{nameOf, agree, numbers, names}
 
--- and the table has as many registers as the file
+-- the table has as many registers as the file
 pub registers-counted : length registers ≡ registerCount
 unfolding registers
 registers-counted = refl
 
-pub named : T (agree numbers names)
-unfolding agree numbers names nameOf registers
+pub named : T (allNamed names)
+unfolding allNamed names nameOf registers
 named = tt

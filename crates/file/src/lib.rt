@@ -35,6 +35,7 @@ pub use numbered::GRX;
 pub use numbered::MISC;
 pub use numbered::PCI04;
 pub use numbered::SRX;
+pub use numbered::named_numbers;
 pub use palette::Colour;
 pub use palette::Pointer;
 pub use pointer::read_pixel;
