@@ -42,6 +42,7 @@ pub use pointer::read_pixel;
 pub use pointer::write_address;
 pub use pointer::write_pixel;
 pub use readers::EntryRead;
+pub use readers::NumberRead;
 pub use readers::PointerRead;
 pub use readers::ToggleRead;
 pub use registers::BANK;
