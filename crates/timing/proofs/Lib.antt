@@ -3,3 +3,4 @@ pub mod Cases
 pub mod Kept
 pub mod Writer
 pub mod Ranges
+pub mod HandsBack
