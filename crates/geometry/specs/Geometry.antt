@@ -14,6 +14,8 @@ use Rattle.timing.specs.declared.Scanlines.{Scanlines}
 use Rattle.timing.specs.declared.Timing.{Timing}
 use Rattle.timing.specs.Timing.{timingIn}
 use Rattle.geometry.specs.declared.Pixels.{Pixels}
+use Rattle.geometry.specs.declared.SignedPixels.{SignedPixels}
+use Rattle.geometry.specs.declared.SignedScanlines.{SignedScanlines}
 use Rattle.geometry.specs.declared.Cursor.{Cursor}
 use Rattle.geometry.specs.declared.Window.{Window}
 use Rattle.geometry.specs.declared.Geometry.{Geometry}
@@ -23,6 +25,12 @@ pixels n = record { 0 = n }
 
 abbrev scanlines : ℕ → Scanlines
 scanlines n = record { 0 = n }
+
+abbrev signedPixels : ℤ → SignedPixels
+signedPixels n = record { 0 = n }
+
+abbrev signedScanlines : ℤ → SignedScanlines
+signedScanlines n = record { 0 = n }
 
 -- one bit as a mark
 unfoldable pub mark : ℕ → ℕ → Bool
@@ -34,10 +42,10 @@ unfoldable pub cursorIn : File → Cursor
 cursorIn f =
     record {
       enabled = mark 0 (register f E6);
-      left = subℕ (register f E0) (bits 14 8 (register f E4));
-      top = subℕ (register f E2) (bits 6 0 (register f E4));
-      width = 64 - bits 14 8 (register f E4);
-      height = 64 - bits 6 0 (register f E4);
+      left = signedPixels (subℕ (register f E0) (bits 14 8 (register f E4)));
+      top = signedScanlines (subℕ (register f E2) (bits 6 0 (register f E4)));
+      width = pixels (64 - bits 14 8 (register f E4));
+      height = scanlines (64 - bits 6 0 (register f E4));
       address = bits 14 2 (register f E8) * 1024;
     }
 
@@ -64,7 +72,15 @@ windowIn f =
 
 -- 'Timing, geometry and all other readers of a file answer 12 with all numbers 0, marks off, window empty.'
 unfoldable pub noCursor : Cursor
-noCursor = record { enabled = false; left = pos 0; top = pos 0; width = 0; height = 0; address = 0 }
+noCursor =
+    record {
+      enabled = false;
+      left = signedPixels (pos 0);
+      top = signedScanlines (pos 0);
+      width = pixels 0;
+      height = scanlines 0;
+      address = 0;
+    }
 
 unfoldable pub noWindow : Window
 noWindow =
