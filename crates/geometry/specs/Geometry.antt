@@ -1,9 +1,10 @@
 -- 01, 'Cursor and window 2'.
 -- Assumes nothing.
 use Prim.Native.Nat.{ℕ, _-_, _*_, min}
-use mathlib.Core.Bool.{Bool, true, false, cond, _||_}
+use mathlib.Core.Bool.{Bool, true, false, cond, _&&_, _||_}
 use lib.Dec.{eqb, leb, ltb}
-use lib.IntN.{ℤ, pos, subℕ}
+use lib.IntN.{ℤ, pos, negℤ, subℕ}
+use lib.Signed.{leZ}
 use Rattle.bits.specs.Store.{bit, bits}
 use Rattle.file.specs.declared.answer.Answer.the-variants.{Done, NotSound}
 use Rattle.file.specs.declared.registers.File.{File}
@@ -48,6 +49,13 @@ cursorIn f =
       height = scanlines (64 - bits 6 0 (register f E4));
       address = bits 14 2 (register f E8) * 1024;
     }
+
+-- left and top: 'signed, -127 to 4095'
+unfoldable pub edgeInRange : ℤ → Bool
+edgeInRange n = leZ (negℤ (pos 127)) n && leZ n (pos 4095)
+
+unfoldable pub cursorInRange : Cursor → Bool
+cursorInRange c = edgeInRange (c .left .0) && edgeInRange (c .top .0)
 
 -- 'bottom the smaller of D2 and V display'
 unfoldable pub bottom : File → ℕ
