@@ -1,2 +1,4 @@
 pub mod Signed
 pub mod Twelve
+pub mod CursorRange
+pub mod HandsBack

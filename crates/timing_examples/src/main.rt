@@ -97,9 +97,9 @@ fn print_signed(n: i16) {
 // The cursor's left edge and shown width.
 fn print_cursor(file: File) {
     let cursor = geometry::read_geometry(file).cursor;
-    print_signed(cursor.left);
+    print_signed(cursor.left.0);
     io::write_all(STDOUT_FILENO, b" ");
-    io::print_decimal(STDOUT_FILENO, cursor.width as u64);
+    io::print_decimal(STDOUT_FILENO, cursor.width.0 as u64);
     io::write_all(STDOUT_FILENO, b"\n");
 }
 

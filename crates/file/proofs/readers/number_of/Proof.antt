@@ -1,4 +1,4 @@
--- `number_named` meets its contract. Invariant: the rows from the number on decide. Assumes nothing.
+-- `number_of` meets its contract. Invariant: the rows from the number on decide. Assumes nothing.
 use Prim.Native.Nat.{_+_, _-_, _≤_}
 use mathlib.Core.Path.{_≡_, sym, _∙_}
 use native.Mathlib.Omega.{arith}
@@ -7,8 +7,8 @@ use lib.ListN.{drop}
 use Rattle.file.specs.Registers.{registerCount}
 use Rattle.file.specs.Readers.{nameTable, numberOf, position}
 use Rattle.file.proofs.Named.{found, passed, ended, rows-count}
-use Rattle.file.proofs.readers.number_named.Statement.{statement}
-use Rattle.file.proofs.readers.number_named.Tie as tie
+use Rattle.file.proofs.readers.number_of.Statement.{statement}
+use Rattle.file.proofs.readers.number_of.Tie as tie
 
 abbrev Inv-loop : tie.InvT-loop
 Inv-loop name number₀ number = (number ≤ registerCount) × (number + position name (drop number nameTable) ≡ numberOf name)
@@ -37,7 +37,7 @@ returns-2 c =
     omega
     (arith, c .before .loop .inv .0, c .before .loop .inv .1, c .loop-test .left, ended nameTable (c .before .before .before .args .name .now) (c .before .loop .number) (omega (arith, rows-count, c .loop-test .left)))
 
-pub number-named-spec : {M : Type 1} → statement M
-number-named-spec =
+pub number-of-spec : {M : Type 1} → statement M
+number-of-spec =
     tie.close
     (tie.spec Inv-loop μ-loop loop-holds (λ c κs. search needs) returns (λ c. search needs) (λ c. search needs) loop-again returns-2)
