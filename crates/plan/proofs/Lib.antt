@@ -4,3 +4,4 @@ pub mod RowsAsRoads
 pub mod EntriesAppended
 pub mod PromisesKept
 pub mod DemandThree
+pub mod Codes
