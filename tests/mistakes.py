@@ -154,7 +154,7 @@ GEOMETRY_MISTAKES = [
      "c->top = f->pipe[SC_E2] < y_preset ? 0 : (int32_t)(f->pipe[SC_E2] - y_preset);"),
     ("one column shown at preset 64", "preset < 64 ? 64 - preset : 0", "preset < 64 ? 64 - preset : 1"),
     ("a preset of six bits", "f->pipe[SC_E4] >> 8 & 0x7F", "f->pipe[SC_E4] >> 8 & 0x3F"),
-    ("the image by E8[15:2]", "f->pipe[SC_E8] >> 2 & 0x1FFF", "f->pipe[SC_E8] >> 2 & 0x3FFF"),
+    ("the image by E8[13:2]", "f->pipe[SC_E8] >> 2 & 0x1FFF", "f->pipe[SC_E8] >> 2 & 0x0FFF"),
     ("the image by E8[14:0]", "(f->pipe[SC_E8] >> 2 & 0x1FFF)", "(f->pipe[SC_E8] & 0x7FFF)"),
     ("enabled by E6[1]", "f->pipe[SC_E6] & 1", "f->pipe[SC_E6] & 2"),
     ("bottom D2 alone", "d2 < t.number[SC_V_DISPLAY] ? d2 : t.number[SC_V_DISPLAY]", "d2"),

@@ -388,12 +388,12 @@ def timing(chance):
 
 
 def near(chance, value, top):
-    """A number beside another, or far from it."""
-    return chance.below(top) if chance.one_in(3) else (value + chance.below(3) - 1) % top
+    """A number, one beside it, or one far from it."""
+    return chance.below(top) if chance.one_in(5) else (value + chance.pick((-1, 0, 0, 1))) % top
 
 
 def geometry(chance):
-    """writes that bear on cursor and window 2, their edges close to each other; short traces tell most"""
+    """rounds of 16 writes that bear on cursor and window 2, edges close to each other; best as many short traces"""
     yield OPEN
     while True:
         lines = chance.below(0x400)
@@ -403,7 +403,7 @@ def geometry(chance):
                     | (lines >> 9 & 1) << 6)
         yield write(MMIO, 0x18, near(chance, lines & 0xFF, 0x100))
         yield write(MMIO, 0x48, lines & 0xFF)
-        left, top = chance.below(0x1000), near(chance, lines, 0x1000)
+        left, top = chance.below(0x1000), near(chance, lines // 2, 0x1000)
         yield write(MMIO, 0xCC, left, 2)
         yield write(MMIO, 0xCE, top, 2)
         yield write(MMIO, 0xD0, near(chance, left, 0x1000), 2)
