@@ -1,22 +1,24 @@
 -- 01, 'The replay program': the text that it prints, as bytes.
 -- Assumes nothing.
 use Prim.Native.Nat.{ℕ, zero, suc, _+_, _*_, _/_, _%_}
-use mathlib.Core.Bool.{Bool, true, false, cond, _&&_}
+use mathlib.Core.Bool.{Bool, true, false, cond}
 use mathlib.Core.List.{List, [], _∷_, _++_}
 use lib.Dec.{leb, ltb}
-use lib.ListN.{getD, drop}
+use lib.ListN.{length, getD, drop}
 use Rattle.io.specs.Digits.{digits}
 use Rattle.access.specs.declared.record.Item.{Item}
 use Rattle.access.specs.Access.{accessItem}
 use Rattle.trace.specs.Records.{items, itemCount, two}
 use Rattle.trace.specs.Run.{fileAfter}
 use Rattle.file.specs.declared.answer.Answer.{Answer}
+use Rattle.file.specs.declared.answer.Answer.the-variants.{OutOfRange}
 use Rattle.file.specs.declared.registers.File.{File}
 use Rattle.file.specs.Answers.{codeOf, valueOf}
 use Rattle.file.specs.File.{powerOn}
 use Rattle.file.specs.Readers.{ascii}
 use Rattle.timing.specs.declared.Timing.{Timing}
 use Rattle.timing.specs.Timing.{numbersOf, timingIn}
+use Rattle.text.specs.Lent.{roomAnswer}
 
 -- how many decimal digits a number has; the first argument bounds how far it is looked at
 unfoldable pub decimalPlaces : ℕ → ℕ → ℕ
@@ -52,9 +54,18 @@ unfoldable pub replyLines : ℕ → ℕ → List ℕ → List ℕ
 replyLines zero number replies = []
 replyLines (suc count) number replies = lineOf number (getD replies 0 0) (two replies 4) ++ replyLines count (suc number) (drop 8 replies)
 
--- a line has at most 30 bytes: 20 and 3 decimal digits, four hex digits, two spaces, a newline. So many have room, and numbers of 64 bits
-unfoldable pub linesFit : ℕ → ℕ → ℕ → ℕ → Bool
-linesFit room at number count = leb (at + 30 * count) room && ltb (number + count) 18446744073709551616
+-- the lines of all of them that are whole
+unfoldable pub allLines : ℕ → List ℕ → List ℕ
+allLines number replies = replyLines (length replies / 8) number replies
+
+-- so many lines have numbers of 64 bits, from a number on
+unfoldable pub numbersFit : ℕ → ℕ → Bool
+numbersFit number count = leb (number + count) 18446744073709551616
+
+-- 01's table of codes: 10, a number out of range, and then 11
+unfoldable pub linesAnswer : List ℕ → ℕ → ℕ → List ℕ → Answer
+linesAnswer buffer at number replies =
+    cond (numbersFit number (length replies / 8)) (roomAnswer buffer at (allLines number replies)) OutOfRange
 
 unfoldable pub spaced : List ℕ → List ℕ
 spaced [] = []

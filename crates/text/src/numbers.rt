@@ -3,38 +3,42 @@ ghost use mathlib.Core.Path.{_≡_};
 ghost use mathlib.Core.List.{_++_};
 ghost use Prim.Native.Nat.{_+_, _≤_};
 ghost use lib.ListN.{length};
-ghost use Rattle.text.specs.Lent.{Wrote, placed, behind};
+ghost use Rattle.text.specs.Lent.{Lined, Wrote, roomAnswer};
 ghost use Rattle.text.specs.Text.{decimal, decimalPlaces, numbersLine, space, spaced, timingLine};
 use crate::number::byte;
 use crate::number::places;
 use crate::number::spell;
+use crate::placed::Placed;
+use crate::placed::has_room;
+use file::Answer;
 use timing::Timing;
 
-// The word timing and the fifteen numbers, from a place of the buffer on, and the place behind the line; nothing is stored where there is no room.
-pub fn timing_line(buffer: &mut [u8], at: usize, timing: Timing) -> usize
-    ensures { λ r. ⌜ now (buffer .exit) ≡ placed (now (buffer .entry)) at (timingLine timing) ⌝ }
-    ensures { λ r. ⌜ r ≡ behind (now (buffer .entry)) at (timingLine timing) ⌝ }
+// The word timing and the fifteen numbers, from a place of the buffer on; code 11 where the line has no room.
+pub fn timing_line(buffer: &mut [u8], at: usize, timing: Timing) -> Placed
+    ensures { λ r. ⌜ Lined (roomAnswer (now (buffer .entry)) at (timingLine timing)) at (timingLine timing) (now (buffer .entry)) (now (buffer .exit)) r ⌝ }
 {
     let numbers = timing.numbers();
     numbers_line(buffer, at, &numbers)
 }
 
 // The line of fifteen numbers.
-fn numbers_line(buffer: &mut [u8], at: usize, numbers: &[u32; 15]) -> usize
+fn numbers_line(buffer: &mut [u8], at: usize, numbers: &[u32; 15]) -> Placed
     requires { ⌜ length (now numbers) ≡ 15 ⌝ }
-    ensures { λ r. ⌜ now (buffer .exit) ≡ placed (now (buffer .entry)) at (numbersLine (now (numbers .entry))) ⌝ }
-    ensures { λ r. ⌜ r ≡ behind (now (buffer .entry)) at (numbersLine (now (numbers .entry))) ⌝ }
+    ensures { λ r. ⌜ Lined (roomAnswer (now (buffer .entry)) at (numbersLine (now (numbers .entry)))) at (numbersLine (now (numbers .entry))) (now (buffer .entry)) (now (buffer .exit)) r ⌝ }
 {
     let size = 7 + spaced_size(numbers);
-    if buffer.len() < size {
-        return at;
-    }
-    if buffer.len() - size < at {
-        return at;
+    if !has_room(buffer.len(), at, size) {
+        return Placed {
+            answer: Answer::ShortBuffer,
+            end: at,
+        };
     }
     let at = copy(b"timing", buffer, at);
     let at = spell_each(numbers, buffer, at);
-    byte(b'\n', buffer, at)
+    Placed {
+        answer: Answer::Done(0),
+        end: byte(b'\n', buffer, at),
+    }
 }
 
 // How many bytes the numbers take, each behind a space.

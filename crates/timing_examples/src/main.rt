@@ -63,7 +63,7 @@ fn blanked(clocks: u16) -> Timing
 
 fn print_timing(file: File) {
     let mut line = [0u8; 512];
-    let end = text::timing_line(&mut line, 0, read_timing(file).timing);
+    let end = text::timing_line(&mut line, 0, read_timing(file).timing).end;
     io::write_all(STDOUT_FILENO, &line[..end]);
 }
 
