@@ -4,6 +4,7 @@ mod edge;
 mod reader;
 
 use file::Answer;
+pub use edge::magnitude;
 pub use reader::read_geometry;
 use timing::Scanlines;
 
