@@ -1,6 +1,6 @@
 -- A part of a trace: the run leaves its file and its replies, and the lines of the replies are those that 01 gives its records. Assumes nothing.
 use Prim.Native.Nat.{ℕ, suc, _+_, _*_, _/_, _≤_, _<_, min}
-use mathlib.Core.Bool.{Bool, cond, true, false}
+use mathlib.Core.Bool.{cond, true, false}
 use mathlib.Core.List.{List, [], _∷_, _++_, append-nil}
 use mathlib.Core.Path.{_≡_, refl, sym, ap, ap₂, _∙_}
 use native.Mathlib.Nat.{min-eq-left, zero-add}
@@ -23,10 +23,9 @@ use Rattle.trace.specs.Run.{replies, run, ran, runCount}
 use Rattle.trace.specs.Run.{RunLeft as LeftBy}
 use Rattle.trace.proofs.RunMore.{items-length, replies-length}
 use Rattle.text.specs.declared.placed.Placed.{Placed}
-use Rattle.text.specs.declared.replaying.Part.{Part}
 use Rattle.text.specs.Lent.{Lined, behindBy, fits, placedBy, roomAnswer}
 use Rattle.text.specs.Replay.{PartReplayed, afterPart, partAnswer, partLines, partReplies, recordsFit}
-use Rattle.text.specs.Text.{allLines, lineOf, linesAnswer, numbersFit, recordLine, recordLines, replyLines}
+use Rattle.text.specs.Text.{allLines, linesAnswer, numbersFit, recordLine, recordLines, replyLines}
 use Rattle.text.proofs.Lines.{line-most}
 use Rattle.text.proofs.Pieces.{lines-of-run}
 

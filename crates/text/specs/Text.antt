@@ -1,6 +1,6 @@
 -- 01, 'The replay program': the text that it prints, as bytes.
 -- Assumes nothing.
-use Prim.Native.Nat.{ℕ, zero, suc, _+_, _*_, _/_, _%_}
+use Prim.Native.Nat.{ℕ, zero, suc, _+_, _/_, _%_}
 use mathlib.Core.Bool.{Bool, true, false, cond}
 use mathlib.Core.List.{List, [], _∷_, _++_}
 use lib.Dec.{leb, ltb}
@@ -67,17 +67,30 @@ unfoldable pub linesAnswer : List ℕ → ℕ → ℕ → List ℕ → Answer
 linesAnswer buffer at number replies =
     cond (numbersFit number (length replies / 8)) (roomAnswer buffer at (allLines number replies)) OutOfRange
 
-unfoldable pub spaced : List ℕ → List ℕ
-spaced [] = []
-spaced (n ∷ ns) = space ++ decimal n ++ spaced ns
+-- a number in decimal, with a minus before it if it is marked
+unfoldable pub signed : Bool → ℕ → List ℕ
+signed minus n = cond minus (0x2D ∷ []) [] ++ decimal n
+
+-- numbers, each behind a space; a mark that is missing is off
+unfoldable pub spaced : List Bool → List ℕ → List ℕ
+spaced minus [] = []
+spaced minus (n ∷ ns) = (space ++ signed (getD minus 0 false) n) ++ spaced (drop 1 minus) ns
+
+-- a line of a word and numbers
+unfoldable pub numbersLine : List ℕ → List Bool → List ℕ → List ℕ
+numbersLine word minus numbers = word ++ spaced minus numbers ++ newline
 
 -- 'Last comes one line: the word timing, then the fifteen numbers in table order, decimal.'
-unfoldable pub numbersLine : List ℕ → List ℕ
-numbersLine numbers = ascii "timing" ++ spaced numbers ++ newline
-
--- the line of a timing
 unfoldable pub timingLine : Timing → List ℕ
-timingLine t = numbersLine (numbersOf t)
+timingLine t = numbersLine (ascii "timing") [] (numbersOf t)
+
+-- 01, 'Cursor and window 2': enabled, left, top, width, height and image address, left and top signed
+unfoldable pub cursorLine : Bool → Bool → List ℕ → List ℕ
+cursorLine leftMinus topMinus numbers = numbersLine (ascii "cursor") (false ∷ leftMinus ∷ topMinus ∷ []) numbers
+
+-- and enabled, video format, left, top, right, bottom, empty, the fault mark and the two BLT scanlines
+unfoldable pub window2Line : List ℕ → List ℕ
+window2Line numbers = numbersLine (ascii "window2") [] numbers
 
 -- the lines of items, from a number on
 unfoldable pub recordLines : ℕ → File → List Item → List ℕ

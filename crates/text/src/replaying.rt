@@ -1,7 +1,6 @@
 // A trace replayed from lent bytes to lent bytes: its records are run, and their lines stored. The replies stand in a buffer lent for them.
 ghost use mathlib.Core.Bool.{cond};
 ghost use mathlib.Core.Path.{_≡_};
-ghost use lib.ListN.{length};
 ghost use Rattle.file.specs.declared.answer.Answer.the-variants.{NotSound as NotSoundAnswer};
 ghost use Rattle.file.specs.File.{powerOn};
 ghost use Rattle.file.specs.Sound.{sound};
