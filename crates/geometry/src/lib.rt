@@ -3,8 +3,8 @@
 mod edge;
 mod reader;
 
-use file::Answer;
 pub use edge::magnitude;
+use file::Answer;
 pub use reader::read_geometry;
 use timing::Scanlines;
 
