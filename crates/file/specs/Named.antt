@@ -26,52 +26,14 @@ name is number = record { name = name; number = number }
 -- every name of `Names`
 unfoldable pub names : List Named
 names =
-    "MISC" is MISC
-    ∷ "SRX" is SRX
-    ∷ "CRX" is CRX
-    ∷ "GRX" is GRX
-    ∷ "ARX" is ARX
-    ∷ "pixel mask" is pixelMask
-    ∷ "PCI04" is PCI04
-    ∷ "SR0" is SR0
-    ∷ "SR0E" is SR0E
-    ∷ "SR1E" is SR1E
-    ∷ "CR0" is CR0
-    ∷ "CR1" is CR1
-    ∷ "CR2" is CR2
-    ∷ "CR3" is CR3
-    ∷ "CR4" is CR4
-    ∷ "CR5" is CR5
-    ∷ "CR6" is CR6
-    ∷ "CR7" is CR7
-    ∷ "CR9" is CR9
-    ∷ "CRC" is CRC
-    ∷ "CRD" is CRD
-    ∷ "CR10" is CR10
-    ∷ "CR11" is CR11
-    ∷ "CR12" is CR12
-    ∷ "CR13" is CR13
-    ∷ "CR15" is CR15
-    ∷ "CR16" is CR16
-    ∷ "CR18" is CR18
-    ∷ "CR1A" is CR1A
-    ∷ "CR1B" is CR1B
-    ∷ "CR1D" is CR1D
-    ∷ "CR1E" is CR1E
-    ∷ "GR0" is GR0
-    ∷ "AR0" is AR0
-    ∷ "B0" is B0
-    ∷ "CC" is CC
-    ∷ "CE" is CE
-    ∷ "D0" is D0
-    ∷ "D2" is D2
-    ∷ "D4" is D4
-    ∷ "D5" is D5
-    ∷ "E0" is E0
-    ∷ "E2" is E2
-    ∷ "E4" is E4
-    ∷ "E6" is E6
-    ∷ "E8" is E8
+    "MISC" is MISC ∷ "SRX" is SRX ∷ "CRX" is CRX ∷ "GRX" is GRX ∷ "ARX" is ARX
+    ∷ "pixel mask" is pixelMask ∷ "PCI04" is PCI04 ∷ "SR0" is SR0 ∷ "SR0E" is SR0E ∷ "SR1E" is SR1E
+    ∷ "CR0" is CR0 ∷ "CR1" is CR1 ∷ "CR2" is CR2 ∷ "CR3" is CR3 ∷ "CR4" is CR4 ∷ "CR5" is CR5 ∷ "CR6" is CR6 ∷ "CR7" is CR7
+    ∷ "CR9" is CR9 ∷ "CRC" is CRC ∷ "CRD" is CRD ∷ "CR10" is CR10 ∷ "CR11" is CR11 ∷ "CR12" is CR12 ∷ "CR13" is CR13 ∷ "CR15" is CR15 ∷ "CR16" is CR16 ∷ "CR18" is CR18
+    ∷ "CR1A" is CR1A ∷ "CR1B" is CR1B ∷ "CR1D" is CR1D ∷ "CR1E" is CR1E
+    ∷ "GR0" is GR0 ∷ "AR0" is AR0
+    ∷ "B0" is B0 ∷ "CC" is CC ∷ "CE" is CE ∷ "D0" is D0 ∷ "D2" is D2 ∷ "D4" is D4 ∷ "D5" is D5
+    ∷ "E0" is E0 ∷ "E2" is E2 ∷ "E4" is E4 ∷ "E6" is E6 ∷ "E8" is E8
     ∷ []
 
 -- each is the table's at its number

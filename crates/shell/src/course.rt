@@ -14,8 +14,8 @@ use crate::telling::tell;
 use crate::telling::tell_failure;
 use crate::telling::write_out;
 use file::File;
-use text::Part;
-use text::replay_part;
+use text::replaying::Part;
+use text::replaying::replay_part;
 
 // The last number at which a whole buffer of records still has numbers.
 const LAST: u64 = u64::MAX - 1024;

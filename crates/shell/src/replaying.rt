@@ -12,7 +12,7 @@ ghost use Rattle.text.specs.Text.{timingLine};
 use crate::course::run_input;
 use crate::telling::write_out;
 use file::File;
-use text::TIMING_MOST;
+use text::replaying::TIMING_MOST;
 
 // The timing line of a file, from the start of a buffer on, and where it ends.
 fn timing_end(file: File, line: &mut [u8]) -> usize

@@ -1,9 +1,9 @@
-// The lines that replay prints, as bytes in a lent buffer.
+// The lines that the programs print, as bytes in a lent buffer, and replay from lent bytes to lent bytes.
 mod line;
 mod number;
 mod numbers;
 mod placed;
-mod replaying;
+pub mod replaying;
 
 pub use line::record_line;
 pub use line::reply_lines;
@@ -11,7 +11,3 @@ pub use numbers::cursor_line;
 pub use numbers::timing_line;
 pub use numbers::window2_line;
 pub use placed::Placed;
-pub use replaying::Part;
-pub use replaying::TIMING_MOST;
-pub use replaying::replay;
-pub use replaying::replay_part;
