@@ -99,32 +99,25 @@ handed {prints} {before} {part} {replies₀} {replies} {lines₀} {lines} {r} t 
 
 module _ (before : Course) (prints : Bool) where
   -- nothing was read: a failure
-  pub turn-unread : (trace replies lines : List ℕ) (course : Course)
-      → course ≡ record { file = before .file; number = before .number; more = false; failed = true }
-      → Turned before prints (take 0 trace) replies replies lines lines (record { size = 0; end = 0; course = course })
+  pub turn-unread : (trace replies lines : List ℕ)
+      → Turned before prints (take 0 trace) replies replies lines lines (record { size = 0; end = 0; course = record { file = before .file; number = before .number; more = false; failed = true } })
   unfolding courseAfter partReplies itemCount items replies
-  turn-unread trace replies lines course e =
+  turn-unread trace replies lines =
       let no = none-asked prints (before .number) (before .file) in
-      record {
-        end = rw no refl;
-        replied = refl;
-        printed = rw no refl;
-        course = rw e refl;
-      }
+      record { end = rw no refl; replied = refl; printed = rw no refl; course = refl }
 
   module _ (part replies₀ replies lines₀ lines : List ℕ) (p : Part)
       (parted : Parted (before .file) (before .number) prints part replies₀ replies lines₀ lines p) where
     -- the lines were not written: a failure
-    pub turn-unwritten : (size end : ℕ) → end ≡ p .end → (course : Course)
-        → course ≡ record { file = before .file; number = before .number; more = false; failed = true }
-        → Turned before prints part replies₀ replies lines₀ lines (record { size = size; end = end; course = course })
+    pub turn-unwritten : (size end : ℕ) → end ≡ p .end
+        → Turned before prints part replies₀ replies lines₀ lines (record { size = size; end = end; course = record { file = before .file; number = before .number; more = false; failed = true } })
     unfolding courseAfter
-    turn-unwritten size end same course e =
+    turn-unwritten size end same =
         record {
           end = same ∙ parted .end;
           replied = parted .replied;
           printed = parted .printed ∙ ap (λ (k : ℕ). asked prints (before .number) (before .file) part ++ drop k lines₀) (sym same);
-          course = rw e refl;
+          course = refl;
         }
 
     -- a part that was read, run and handed to be written

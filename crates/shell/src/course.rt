@@ -64,14 +64,14 @@ fn run_part(
     }
 }
 
-// The end of a course at a failure.
-fn failed(before: Course) -> Course
-    ensures { λ r. ⌜ r ≡ record { file = before .file; number = before .number; more = false; failed = true } ⌝ }
+// A turn that fails ends the course.
+fn failed(before: Course, size: usize, end: usize) -> Turn
+    ensures { λ r. ⌜ r ≡ record { size = size; end = end; course = record { file = before .file; number = before .number; more = false; failed = true } } ⌝ }
 {
-    let mut after = before;
-    after.more = false;
-    after.failed = true;
-    after
+    let mut course = before;
+    course.more = false;
+    course.failed = true;
+    Turn { size, end, course }
 }
 
 // The next buffer of a trace, of which so many records came before; what goes wrong is told.
@@ -109,11 +109,7 @@ fn run_some(
     let number = before.number;
     let read = read_some(program, number, trace);
     if read.failed {
-        return Turn {
-            size: 0,
-            end: 0,
-            course: failed(before),
-        };
+        return failed(before, 0, 0);
     }
     let size = read.count;
     let trace: &[u8] = trace;
@@ -123,11 +119,7 @@ fn run_some(
     let handed = write_out(program, &lines[..end]);
     let end = handed.count;
     if handed.failed {
-        return Turn {
-            size,
-            end,
-            course: failed(before),
-        };
+        return failed(before, size, end);
     }
     let file = part.file;
     Turn {

@@ -10,7 +10,8 @@ use Rattle.shell.proofs.course.run_some.Tie as tie
 
 returns : tie.Need-returns
 returns c =
-    (counts (c .before .before .read-some .last .1 .1 .0) 0 (omega arith), turn-unread (c .before .before .before .before .before .args .before) (c .before .before .before .before .before .args .prints) (c .before .before .read-some .last .1 .1 .0) _ _ (c .failed .result) (c .failed .ensures))
+    let trace = c .before .before .read-some .last .1 .1 .0 in
+    rw (c .failed .ensures) (counts trace 0 (omega arith), turn-unread (c .before .before .before .before .before .args .before) (c .before .before .before .before .before .args .prints) trace _ _)
 
 run-part-requires : tie.Need-run-part-requires
 run-part-requires c κs =
@@ -25,13 +26,14 @@ slice-aggregate-write-out c =
 returns-2 : tie.Need-returns-2
 returns-2 c =
     let start = c .before .before .before .before .before .before .before .before .before .before .before .before .before .before .before .before in
-    let part = c .before .before .before .before .before .before .run-part in (
+    let part = c .before .before .before .before .before .before .run-part in
+    rw (c .failed2 .ensures) (
       c .before .before .before .before .before .before .before .before .before .before .before .before .before .read-some .ensures .0,
-      turn-unwritten (start .args .before) (start .args .prints) _ _ _ _ _ (part .result) (part .ensures) (c .before .before .before .before .before .before .before .before .before .before .before .before .before .read-some .result .count) (c .before .before .write-out .result .count) (c .before .before .write-out .ensures ∙ sym (lines-within (part .ensures) .1)) (c .failed2 .result) (c .failed2 .ensures),
+      turn-unwritten (start .args .before) (start .args .prints) _ _ _ _ _ (part .result) (part .ensures) (c .before .before .before .before .before .before .before .before .before .before .before .before .before .read-some .result .count) (c .before .before .write-out .result .count) (c .before .before .write-out .ensures ∙ sym (lines-within (part .ensures) .1)),
     )
 
-add-t33 : tie.Need-add-t33
-add-t33 c =
+add-t31 : tie.Need-add-t31
+add-t31 c =
     let few = part-within (c .before .before .before .before .before .before .before .before .before .before .before .before .before .read-some .last .1 .1 .0) (c .before .before .before .before .before .before .before .before .before .before .before .before .before .read-some .result .count) (omega (arith, c .before .before .before .before .before .before .before .before .before .before .before .before .before .read-some .kept .1 .1 .0)) in
     omega (arith, few, c .before .before .before .before .before .before .before .before .before .before .before .before .before .read-some .ensures .1 (c .before .before .before .before .before .before .before .before .before .before .before .before .if1 .left), c .before .before .before .before .before .before .run-part .ensures .count)
 
@@ -47,4 +49,4 @@ pub run-some-spec : {M : Type 1} → statement M
 run-some-spec =
     tie.close
     (tie.spec (λ c κs. search needs) (λ c κs. search needs) returns (λ c. search needs) run-part-requires slice-aggregate-write-out
-    (λ c κs. search needs) (λ c κs. search needs) returns-2 add-t33 returns-3)
+    (λ c κs. search needs) (λ c κs. search needs) returns-2 add-t31 returns-3)
