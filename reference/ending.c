@@ -1,6 +1,7 @@
 /*
- * What a trace on standard input ends in, from power-on: every part of the file, a line each, or
- * with the word `plan` the bytes of a plan of it, if the pointer is before red.
+ * What a trace on standard input ends in, from power-on: every part of the file, a line each; with
+ * the word `plan` the bytes of a plan of it, if the pointer is before red; with the word `geometry`
+ * its cursor and its window 2.
  */
 #include <stdio.h>
 #include <string.h>
@@ -78,6 +79,21 @@ static bool write_plan(const struct sc_file *f)
     return fwrite(buffer, SC_RECORD_BYTES, count, stdout) == count;
 }
 
+static void print_geometry(const struct sc_file *f)
+{
+    struct sc_cursor c;
+    struct sc_window2 w;
+
+    sc_cursor_read(f, &c);
+    sc_window2_read(f, &w);
+    printf("cursor %d %ld %ld %lu %lu %lu\n", c.enabled, (long)c.left, (long)c.top,
+           (unsigned long)c.width, (unsigned long)c.height, (unsigned long)c.image);
+    printf("window2 %d %d %lu %lu %lu %lu %d %d %lu %lu\n", w.enabled, w.format,
+           (unsigned long)w.left, (unsigned long)w.top, (unsigned long)w.right,
+           (unsigned long)w.bottom, w.empty, w.fault,
+           (unsigned long)w.blt_scanlines[0], (unsigned long)w.blt_scanlines[1]);
+}
+
 int main(int words, char **word)
 {
     struct sc_file f;
@@ -85,6 +101,8 @@ int main(int words, char **word)
 
     if (words > 1 && strcmp(word[1], "plan") == 0)
         good = write_plan(&f) && good;
+    else if (words > 1 && strcmp(word[1], "geometry") == 0)
+        print_geometry(&f);
     else
         print_file(&f);
     if (good && fflush(stdout) == 0)

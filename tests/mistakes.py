@@ -147,6 +147,26 @@ MISTAKES = [
     ("screen start's top bits from CR1D[7:6]", "{ 0x1D, 3, 2 }", "{ 0x1D, 6, 2 }"),
 ]
 
+GEOMETRY_MISTAKES = [
+    ("the cursor's left by the other preset", "f->pipe[SC_E0] - (int32_t)x_preset",
+     "f->pipe[SC_E0] - (int32_t)y_preset"),
+    ("an edge that stops at 0", "c->top = (int32_t)f->pipe[SC_E2] - (int32_t)y_preset;",
+     "c->top = f->pipe[SC_E2] < y_preset ? 0 : (int32_t)(f->pipe[SC_E2] - y_preset);"),
+    ("one column shown at preset 64", "preset < 64 ? 64 - preset : 0", "preset < 64 ? 64 - preset : 1"),
+    ("a preset of six bits", "f->pipe[SC_E4] >> 8 & 0x7F", "f->pipe[SC_E4] >> 8 & 0x3F"),
+    ("the image by E8[13:2]", "f->pipe[SC_E8] >> 2 & 0x1FFF", "f->pipe[SC_E8] >> 2 & 0x0FFF"),
+    ("the image by E8[14:0]", "(f->pipe[SC_E8] >> 2 & 0x1FFF)", "(f->pipe[SC_E8] & 0x7FFF)"),
+    ("enabled by E6[1]", "f->pipe[SC_E6] & 1", "f->pipe[SC_E6] & 2"),
+    ("bottom D2 alone", "d2 < t.number[SC_V_DISPLAY] ? d2 : t.number[SC_V_DISPLAY]", "d2"),
+    ("a fault where D2 is V total", "d2 > t.number[SC_V_TOTAL]", "d2 >= t.number[SC_V_TOTAL]"),
+    ("a fault by V display", "d2 > t.number[SC_V_TOTAL]", "d2 > t.number[SC_V_DISPLAY]"),
+    ("a column at right equal to left", "w->right <= w->left ||", "w->right < w->left ||"),
+    ("a line at bottom equal to top", "w->bottom <= w->top;", "w->bottom < w->top;"),
+    ("enabled and format exchanged", "w->enabled = f->pipe[SC_D4] & 0x80;", "w->enabled = f->pipe[SC_D4] & 0x40;"),
+    ("BLT scanlines in steps of 32", "w->blt_scanlines[1] = 64 *", "w->blt_scanlines[1] = 32 *"),
+    ("stop by D4", "(f->pipe[SC_D5] & 0x3F)", "(f->pipe[SC_D4] & 0x3F)"),
+]
+
 PLAN_MISTAKES = [
     ("the palette written under the start's B0",
      "    end = put_mmio(end, 0xB0, b0);\n",

@@ -387,6 +387,37 @@ def timing(chance):
             yield write(MMIO, 4 * number, value)
 
 
+def near(chance, value, top):
+    """A number, one beside it, or one far from it."""
+    return chance.below(top) if chance.one_in(5) else (value + chance.pick((-1, 0, 0, 1))) % top
+
+
+def geometry(chance):
+    """rounds of 16 writes that bear on cursor and window 2, edges close to each other; best as many short traces"""
+    yield OPEN
+    while True:
+        lines = chance.below(0x400)
+        yield write(MMIO, 0x44, 0)
+        yield write(MMIO, 0x78, 0)
+        yield write(MMIO, 0x1C, lines >> 8 & 1 | (lines >> 9 & 1) << 5 | (lines >> 8 & 1) << 1
+                    | (lines >> 9 & 1) << 6)
+        yield write(MMIO, 0x18, near(chance, lines & 0xFF, 0x100))
+        yield write(MMIO, 0x48, lines & 0xFF)
+        left, top = chance.below(0x1000), near(chance, lines // 2, 0x1000)
+        yield write(MMIO, 0xCC, left, 2)
+        yield write(MMIO, 0xCE, top, 2)
+        yield write(MMIO, 0xD0, near(chance, left, 0x1000), 2)
+        yield write(MMIO, 0xD2, near(chance, chance.pick((top, lines, lines + 1, lines + 2)), 0x1000), 2)
+        for address in (0xD4, 0xD5):
+            yield write(MMIO, address, chance.fitting(1))
+        for address in (0xE0, 0xE2):
+            yield write(MMIO, address, near(chance, chance.below(0x80), 0x1000), 2)
+        preset = chance.pick((0x3F, 0x40, 0x41, chance.below(0x80)))
+        yield write(MMIO, 0xE4, chance.pick((0x3F, 0x40, chance.below(0x80))) << 8 | preset, 2)
+        for address in (0xE6, 0xE8):
+            yield write(MMIO, address, chance.fitting(2), 2)
+
+
 def fragment(chance):
     """valid records, then 1 to 7 bytes of one more"""
     return kept_open(chance, iter(lambda: valid(chance), None))
@@ -402,7 +433,7 @@ def tail(chance, seed):
 
 def long(chance):
     """stretches of all the other kinds"""
-    streams = [make(chance) for make in (noise, mixed, index, toggles, palette, timing, sweep)]
+    streams = [make(chance) for make in (noise, mixed, index, toggles, palette, timing, geometry, sweep)]
     yield OPEN
     while True:
         yield from itertools.islice(chance.pick(streams), 20 + chance.below(1500))
@@ -421,6 +452,7 @@ KINDS = {
     "palette": palette,
     "ports": ports,
     "timing": timing,
+    "geometry": geometry,
     "fragment": fragment,
     "long": long,
 }

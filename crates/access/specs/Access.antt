@@ -23,6 +23,7 @@ use Rattle.places.specs.declared.place.Place.{Place}
 use Rattle.places.specs.Lookup.{placeAt}
 use Rattle.places.specs.Profile.{Reading, givesHeld, givesFixed, givesToggle, givesPaletteState, givesDacState, givesAddress, givesPixel, resetsToggle, namesNothing, Writing, storesTo, readOnly, setsAddress, writesPixel, storesNothing, profile}
 use Rattle.access.specs.declared.access.Accessed.{Accessed}
+use Rattle.access.specs.declared.access.ReachRead.{ReachRead}
 use Rattle.access.specs.declared.record.Item.{Item}
 use Rattle.access.specs.declared.record.Item.the-variants.{Whole, Fragment}
 use Rattle.access.specs.declared.record.Record.{Record}
@@ -137,19 +138,29 @@ effect f r = cond (refused (answer f r)) Nothing (effectAt (isWrite r) f (placeO
 unfoldable pub reach : File → Record → Reach
 reach f r = reachOf (effect f r)
 
--- one access
-unfoldable pub access : File → Record → Accessed
-access f r = record { file = apply (effect f r) f; answer = answer f r }
-
--- 'the fragment has code 2'
-unfoldable pub accessItem : File → Item → Accessed
-accessItem f (Whole r) = access f r
-accessItem f (Fragment r) = record { file = f; answer = cond (sound f) Malformed NotSound }
-
-unfoldable pub recordIn : Item → Record
-recordIn (Whole r) = r
-recordIn (Fragment r) = r
+-- 'all other readers of a file answer 12': what a host is told of it
+unfoldable pub readReach : File → Record → ReachRead
+readReach f r = cond (sound f) (record { answer = Done 0; reach = reach f r }) (record { answer = NotSound; reach = reachOf Nothing })
 
 -- 'A reply is 8 bytes: code, kind and address copied, value'
 unfoldable pub replyTo : Record → Answer → Reply
 replyTo r a = record { code = codeOf a; kind = r .kind; address = r .address; value = valueOf a }
+
+-- a file handed back with an answer to a record, and the reply to it
+unfoldable pub handed : Record → File → Answer → Accessed
+handed r f a = record { file = f; answer = a; reply = replyTo r a }
+
+-- one access
+unfoldable pub access : File → Record → Accessed
+unfolding handed
+access f r = handed r (apply (effect f r) f) (answer f r)
+
+-- 'the fragment has code 2'
+unfoldable pub accessItem : File → Item → Accessed
+unfolding handed
+accessItem f (Whole r) = access f r
+accessItem f (Fragment r) = handed r f (cond (sound f) Malformed NotSound)
+
+unfoldable pub recordIn : Item → Record
+recordIn (Whole r) = r
+recordIn (Fragment r) = r

@@ -1,20 +1,45 @@
 ghost use mathlib.Core.Path.{_≡_};
 ghost use lib.Dec.{T};
 ghost use Rattle.file.specs.Sound.{sound};
-ghost use Rattle.access.specs.Access.{shownIn};
+ghost use Rattle.access.specs.Access.{access as accessOf, accessItem, handed, readReach, shownIn};
 ghost use Rattle.access.specs.Engine.{decision};
-ghost use Rattle.access.specs.Access.{access as accessOf, reach as reachOfAccess};
 use crate::engine;
+use crate::record::Item;
 use crate::record::Record;
+use crate::record::Reply;
 use file::Answer;
 use file::File;
 use file::Reach;
 use file::is_sound;
 
-// What an access hands back: the file after it, and its answer.
+// What an access hands back: the file after it, its answer, and the reply that says it.
 pub struct Accessed {
     pub file: File,
     pub answer: Answer,
+    pub reply: Reply,
+}
+
+// What a reader of an access's reach hands back.
+pub struct ReachRead {
+    pub answer: Answer,
+    pub reach: Reach,
+}
+
+// A file handed back with an answer to a record, and the reply to it.
+fn handed_back(asked: Record, file: File, answer: Answer) -> Accessed
+    ensures { λ r. ⌜ r ≡ handed asked file answer ⌝ }
+{
+    let reply = Reply {
+        code: answer.code(),
+        kind: asked.kind,
+        address: asked.address,
+        value: answer.value(),
+    };
+    Accessed {
+        file,
+        answer,
+        reply,
+    }
 }
 
 // The component of the next colour, in the entry that the pointer names.
@@ -56,34 +81,52 @@ fn decide_in(asked: Record, whole: File) -> engine::Decision
 }
 
 impl Record {
-    // One access: takes the file and hands back the new one with the answer. A refusal hands back the file as given.
+    // One access: takes the file and hands back the new one with its reply. A refusal hands back the file as given.
     pub fn access(self, whole: File) -> Accessed
         ensures { λ r. ⌜ r ≡ accessOf whole self ⌝ }
     {
         if !is_sound(whole) {
-            return Accessed {
-                file: whole,
-                answer: Answer::NotSound,
-            };
+            return handed_back(self, whole, Answer::NotSound);
         }
         let decision = decide_in(self, whole);
         let effect = decision.effect;
         let answer = decision.answer;
-        Accessed {
-            file: effect.apply(whole),
-            answer,
-        }
+        handed_back(self, effect.apply(whole), answer)
     }
 
     // What this access may change in the file: nothing for a refusal and for a plain read.
-    pub fn reach(self, whole: File) -> Reach
-        ensures { λ r. ⌜ r ≡ reachOfAccess whole self ⌝ }
+    pub fn reach(self, whole: File) -> ReachRead
+        ensures { λ r. ⌜ r ≡ readReach whole self ⌝ }
     {
         if !is_sound(whole) {
-            return Reach::none();
+            return ReachRead {
+                answer: Answer::NotSound,
+                reach: Reach::none(),
+            };
         }
         let decision = decide_in(self, whole);
         let effect = decision.effect;
-        effect.reach()
+        ReachRead {
+            answer: Answer::Done(0),
+            reach: effect.reach(),
+        }
+    }
+}
+
+impl Item {
+    // The access of a whole record; a fragment is refused, and an unsound file before it.
+    pub fn access(self, whole: File) -> Accessed
+        ensures { λ r. ⌜ r ≡ accessItem whole self ⌝ }
+    {
+        match self {
+            Item::Whole(asked) => asked.access(whole),
+            Item::Fragment(asked) => {
+                if is_sound(whole) {
+                    handed_back(asked, whole, Answer::Malformed)
+                } else {
+                    handed_back(asked, whole, Answer::NotSound)
+                }
+            }
+        }
     }
 }

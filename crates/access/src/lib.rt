@@ -4,6 +4,7 @@ mod engine;
 mod record;
 
 pub use access::Accessed;
+pub use access::ReachRead;
 pub use engine::Decision;
 pub use engine::decide;
 pub use engine::entry_number;

@@ -38,6 +38,20 @@ part-bit : (p : Piece) (value i : ℕ) → i < p .width → bit i (part p value)
 unfolding part
 part-bit p value i h = bit-mod i (p .width) (value / 2 ^ p .low) h ∙ bit-shr i (p .low) value
 
+-- a bit in the reach is one of the piece's
+reach-low : (p : Piece) (i : ℕ) → bit i (pieceReach p) ≡ 1 → p .low ≤ i
+unfolding pieceReach
+reach-low p i e =
+    by-test (ltb i (p .low))
+    (λ t. let z : _≡_ {A = ℕ} 0 1 = sym (bit-below i (p .low) _ (ltb-true i (p .low) t)) ∙ e in omega arith)
+    (λ t. ltb-false i (p .low) t)
+
+reach-high : (p : Piece) (j : ℕ) → bit (p .low + j) (pieceReach p) ≡ 1 → j < p .width
+unfolding pieceReach
+reach-high p j e =
+    by-test (ltb j (p .width)) (λ t. ltb-true j (p .width) t)
+    (λ t. let z : _≡_ {A = ℕ} 0 1 = sym (bit-shl j (p .low) (2 ^ p .width - 1) ∙ bit-above j (p .width) (2 ^ p .width - 1) (ones-lt (p .width)) (ltb-false j (p .width) t)) ∙ e in omega arith)
+
 -- the bits of a piece are in its reach
 reach-in : (p : Piece) (i : ℕ) → i < p .width → bit (p .low + i) (pieceReach p) ≡ 1
 unfolding pieceReach
@@ -94,20 +108,6 @@ pub held-same : (p : Piece) (a b : List ℕ)
     → ((i : ℕ) → bit i (pieceReach p) ≡ 1 → bit i (getD a (p .register) 0) ≡ bit i (getD b (p .register) 0)) → held a p ≡ held b p
 unfolding held part
 held-same p a b h = part-same p (getD a (p .register) 0) (getD b (p .register) 0) h
-
--- a bit in the reach is one of the piece's
-reach-low : (p : Piece) (i : ℕ) → bit i (pieceReach p) ≡ 1 → p .low ≤ i
-unfolding pieceReach
-reach-low p i e =
-    by-test (ltb i (p .low))
-    (λ t. let z : _≡_ {A = ℕ} 0 1 = sym (bit-below i (p .low) (2 ^ p .width - 1) (ltb-true i (p .low) t)) ∙ e in omega arith)
-    (λ t. ltb-false i (p .low) t)
-
-reach-high : (p : Piece) (j : ℕ) → bit (p .low + j) (pieceReach p) ≡ 1 → j < p .width
-unfolding pieceReach
-reach-high p j e =
-    by-test (ltb j (p .width)) (λ t. ltb-true j (p .width) t)
-    (λ t. let z : _≡_ {A = ℕ} 0 1 = sym (bit-shl j (p .low) (2 ^ p .width - 1) ∙ bit-above j (p .width) (2 ^ p .width - 1) (ones-lt (p .width)) (ltb-false j (p .width) t)) ∙ e in omega arith)
 
 -- a value's own part, put back where it lies, is the value inside the reach
 part-back : (p : Piece) (value i : ℕ) → bit i (pieceReach p) ≡ 1 → bit i (part p value % 2 ^ p .width * 2 ^ p .low) ≡ bit i value

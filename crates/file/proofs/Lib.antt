@@ -4,3 +4,4 @@ pub mod Reached
 pub mod Typed
 pub mod Colours
 pub mod Named
+pub mod Codes

@@ -1,8 +1,9 @@
 -- 01, 'Accesses and replies': the number and the value of each answer.
 -- Assumes nothing.
 use Prim.Native.Nat.{ℕ}
-use mathlib.Core.Bool.{Bool}
-use lib.Dec.{leb}
+use mathlib.Core.Bool.{Bool, false, _||_}
+use mathlib.Core.List.{List, [], _∷_}
+use lib.Dec.{eqb, leb}
 use Rattle.file.specs.declared.answer.Answer.{Answer}
 use Rattle.file.specs.declared.answer.Answer.the-variants.{Done, NoRegister, Malformed, SpaceOff, NotHeld, OtherHalf, WrongWidth, ReadOnly, Locked, PaletteDown, OutOfRange, ShortBuffer, NotSound, NotBeforeRed, PlanRefused}
 
@@ -45,3 +46,15 @@ valueOf PlanRefused = 0
 -- 'Codes from 2 up leave the file as given and lent bytes as found'; 'Code 1 is no refusal'
 unfoldable pub refused : Answer → Bool
 refused a = leb 2 (codeOf a)
+
+-- an answer's code is one of these
+unfoldable pub oneOf : List ℕ → Answer → Bool
+oneOf [] a = false
+oneOf (code ∷ codes) a = eqb (codeOf a) code || oneOf codes a
+
+-- the fixed list: 01's table of codes
+unfoldable pub listed : List ℕ
+listed = 0 ∷ 1 ∷ 2 ∷ 3 ∷ 4 ∷ 5 ∷ 6 ∷ 7 ∷ 8 ∷ 9 ∷ 10 ∷ 11 ∷ 12 ∷ 13 ∷ 14 ∷ []
+
+unfoldable pub isListed : Answer → Bool
+isListed a = oneOf listed a

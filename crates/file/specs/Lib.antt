@@ -1,7 +1,6 @@
 pub mod Answers
 pub mod Registers
 pub mod Names
-pub mod Named
 pub mod Palette
 pub mod State
 pub mod File
@@ -9,3 +8,4 @@ pub mod Sound
 pub mod Effects
 pub mod Reached
 pub mod Readers
+pub mod Named

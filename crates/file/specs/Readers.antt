@@ -11,6 +11,7 @@ use Rattle.file.specs.declared.answer.Answer.{Answer}
 use Rattle.file.specs.declared.answer.Answer.the-variants.{Done, NoRegister, NotSound}
 use Rattle.file.specs.declared.palette.Colour.{Colour}
 use Rattle.file.specs.declared.readers.EntryRead.{EntryRead}
+use Rattle.file.specs.declared.readers.NumberRead.{NumberRead}
 use Rattle.file.specs.declared.readers.PointerRead.{PointerRead}
 use Rattle.file.specs.declared.readers.ToggleRead.{ToggleRead}
 use Rattle.file.specs.declared.registers.File.{File}
@@ -50,6 +51,11 @@ readRegister f number = cond (sound f) (cond (ltb number registerCount) (Done (r
 -- and by its name
 unfoldable pub readNamed : File → List ℕ → Answer
 readNamed f name = readRegister f (numberOf name)
+
+-- 01, 'Stored bits': a register's number by its name. No file is asked, so no 12
+unfoldable pub readNumber : List ℕ → NumberRead
+readNumber name =
+    cond (ltb (numberOf name) registerCount) (record { answer = Done 0; number = numberOf name }) (record { answer = NoRegister; number = 0 })
 
 unfoldable pub noEntry : Answer → EntryRead
 noEntry a = record { answer = a; colour = black }

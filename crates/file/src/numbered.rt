@@ -1,4 +1,7 @@
 // The numbers of the registers that the code names, 01's names.
+ghost use mathlib.Core.Path.{_≡_};
+ghost use Rattle.file.specs.Named.{numbersInCode};
+
 pub const MISC: usize = 0;
 
 pub const SRX: usize = 1;
@@ -44,3 +47,34 @@ pub const E4: usize = 97;
 pub const E6: usize = 98;
 
 pub const E8: usize = 99;
+
+// All of them in the order above: each is the number that its name has in 01's table.
+pub fn named_numbers() -> [usize; 23]
+    ensures { λ r. ⌜ r ≡ numbersInCode ⌝ }
+{
+    [
+        MISC,
+        SRX,
+        CRX,
+        GRX,
+        ARX,
+        PCI04,
+        CR0,
+        CR6,
+        CR7,
+        CR11,
+        CR1B,
+        B0,
+        CC,
+        CE,
+        D0,
+        D2,
+        D4,
+        D5,
+        E0,
+        E2,
+        E4,
+        E6,
+        E8,
+    ]
+}

@@ -5,7 +5,7 @@ ghost use Prim.Native.Nat.{_<_};
 ghost use lib.Dec.{eqb};
 ghost use lib.ListN.{getD, length};
 ghost use Rattle.file.specs.Registers.{registerCount};
-ghost use Rattle.file.specs.Readers.{nameTable, numberOf, same, readRegister, readNamed, readPalette, readBank, readPointer, readToggle, noEntry, entryTold};
+ghost use Rattle.file.specs.Readers.{nameTable, numberOf, same, readRegister, readNamed, readNumber, readPalette, readBank, readPointer, readToggle, noEntry, entryTold};
 use crate::answer::Answer;
 use crate::palette::Colour;
 use crate::palette::Pointer;
@@ -31,6 +31,12 @@ pub struct PointerRead {
 pub struct ToggleRead {
     pub answer: Answer,
     pub toggle: bool,
+}
+
+// A register's number; 0 where the answer is not 0.
+pub struct NumberRead {
+    pub answer: Answer,
+    pub number: usize,
 }
 
 // The registers' names, each between dots, twelve bytes to a row.
@@ -171,7 +177,7 @@ fn is_name(number: usize, name: &[u8]) -> bool
 }
 
 // The number of the register of a name; that of none if there is none.
-fn number_named(name: &[u8]) -> usize
+fn number_of(name: &[u8]) -> usize
     ensures { λ r. ⌜ r ≡ numberOf (now (name .entry)) ⌝ }
 {
     let mut number = 0;
@@ -237,7 +243,25 @@ impl File {
     pub fn register_named(self, name: &[u8]) -> Answer
         ensures { λ r. ⌜ r ≡ readNamed self (now (name .entry)) ⌝ }
     {
-        self.register(number_named(name))
+        self.register(number_of(name))
+    }
+
+    // A register's number in the table of stored bits, by its name. It asks no file, so it never answers 12.
+    pub fn number_named(name: &[u8]) -> NumberRead
+        ensures { λ r. ⌜ r ≡ readNumber (now (name .entry)) ⌝ }
+    {
+        let number = number_of(name);
+        if number < REGISTERS {
+            NumberRead {
+                answer: Answer::Done(0),
+                number,
+            }
+        } else {
+            NumberRead {
+                answer: Answer::NoRegister,
+                number: 0,
+            }
+        }
     }
 
     // An entry of the palette. Past the last one another is looked up, and not told.

@@ -1,9 +1,10 @@
 -- 01, 'Cursor and window 2'.
 -- Assumes nothing.
 use Prim.Native.Nat.{ℕ, _-_, _*_, min}
-use mathlib.Core.Bool.{Bool, true, false, cond, _||_}
+use mathlib.Core.Bool.{Bool, true, false, cond, _&&_, _||_}
 use lib.Dec.{eqb, leb, ltb}
-use lib.IntN.{ℤ, pos, subℕ}
+use lib.IntN.{ℤ, pos, negℤ, subℕ}
+use lib.Signed.{leZ}
 use Rattle.bits.specs.Store.{bit, bits}
 use Rattle.file.specs.declared.answer.Answer.the-variants.{Done, NotSound}
 use Rattle.file.specs.declared.registers.File.{File}
@@ -14,6 +15,8 @@ use Rattle.timing.specs.declared.Scanlines.{Scanlines}
 use Rattle.timing.specs.declared.Timing.{Timing}
 use Rattle.timing.specs.Timing.{timingIn}
 use Rattle.geometry.specs.declared.Pixels.{Pixels}
+use Rattle.geometry.specs.declared.SignedPixels.{SignedPixels}
+use Rattle.geometry.specs.declared.SignedScanlines.{SignedScanlines}
 use Rattle.geometry.specs.declared.Cursor.{Cursor}
 use Rattle.geometry.specs.declared.Window.{Window}
 use Rattle.geometry.specs.declared.Geometry.{Geometry}
@@ -23,6 +26,12 @@ pixels n = record { 0 = n }
 
 abbrev scanlines : ℕ → Scanlines
 scanlines n = record { 0 = n }
+
+abbrev signedPixels : ℤ → SignedPixels
+signedPixels n = record { 0 = n }
+
+abbrev signedScanlines : ℤ → SignedScanlines
+signedScanlines n = record { 0 = n }
 
 -- one bit as a mark
 unfoldable pub mark : ℕ → ℕ → Bool
@@ -34,12 +43,19 @@ unfoldable pub cursorIn : File → Cursor
 cursorIn f =
     record {
       enabled = mark 0 (register f E6);
-      left = subℕ (register f E0) (bits 14 8 (register f E4));
-      top = subℕ (register f E2) (bits 6 0 (register f E4));
-      width = 64 - bits 14 8 (register f E4);
-      height = 64 - bits 6 0 (register f E4);
+      left = signedPixels (subℕ (register f E0) (bits 14 8 (register f E4)));
+      top = signedScanlines (subℕ (register f E2) (bits 6 0 (register f E4)));
+      width = pixels (64 - bits 14 8 (register f E4));
+      height = scanlines (64 - bits 6 0 (register f E4));
       address = bits 14 2 (register f E8) * 1024;
     }
+
+-- left and top: 'signed, -127 to 4095'
+unfoldable pub edgeInRange : ℤ → Bool
+edgeInRange n = leZ (negℤ (pos 127)) n && leZ n (pos 4095)
+
+unfoldable pub cursorInRange : Cursor → Bool
+cursorInRange c = edgeInRange (c .left .0) && edgeInRange (c .top .0)
 
 -- 'bottom the smaller of D2 and V display'
 unfoldable pub bottom : File → ℕ
@@ -64,7 +80,15 @@ windowIn f =
 
 -- 'Timing, geometry and all other readers of a file answer 12 with all numbers 0, marks off, window empty.'
 unfoldable pub noCursor : Cursor
-noCursor = record { enabled = false; left = pos 0; top = pos 0; width = 0; height = 0; address = 0 }
+noCursor =
+    record {
+      enabled = false;
+      left = signedPixels (pos 0);
+      top = signedScanlines (pos 0);
+      width = pixels 0;
+      height = scanlines 0;
+      address = 0;
+    }
 
 unfoldable pub noWindow : Window
 noWindow =

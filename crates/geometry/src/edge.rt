@@ -4,7 +4,7 @@ ghost use mathlib.Core.Path.{_≡_};
 ghost use Prim.Native.Nat.{_-_, _<_};
 ghost use Prim.Native.Nat.{min as smallerOf};
 ghost use lib.Dec.{leb};
-ghost use lib.IntN.{subℕ};
+ghost use lib.IntN.{natAbs, subℕ};
 
 // A cursor edge less its preset, signed.
 pub fn less_preset(edge: u16, preset: u16) -> i16
@@ -12,6 +12,17 @@ pub fn less_preset(edge: u16, preset: u16) -> i16
     ensures { λ r. ⌜ r ≡ subℕ edge preset ⌝ }
 {
     edge as i16 - preset as i16
+}
+
+// How far a number is from 0.
+pub fn magnitude(n: i16) -> u32
+    ensures { λ r. ⌜ r ≡ natAbs n ⌝ }
+{
+    if n < 0 {
+        (0 - n as i32) as u32
+    } else {
+        n as u32
+    }
 }
 
 // What a preset leaves of 64 pixels.

@@ -1,20 +1,26 @@
 // The hardware cursor and window 2 of a register file. Horizontal places are pixels, a third kind beside clocks and scanlines.
+// Where a place may lie before the first pixel or scanline its unit is a signed one.
 mod edge;
 mod reader;
 
+pub use edge::magnitude;
 use file::Answer;
 pub use reader::read_geometry;
 use timing::Scanlines;
 
 pub struct Pixels(pub u16);
 
+pub struct SignedPixels(pub i16);
+
+pub struct SignedScanlines(pub i16);
+
 // The cursor: left and top may be negative, as 01 has them.
 pub struct Cursor {
     pub enabled: bool,
-    pub left: i16,
-    pub top: i16,
-    pub width: u16,
-    pub height: u16,
+    pub left: SignedPixels,
+    pub top: SignedScanlines,
+    pub width: Pixels,
+    pub height: Scanlines,
     pub address: u32,
 }
 

@@ -7,6 +7,8 @@ ghost use Rattle.timing.specs.Timing.{timingIn};
 use crate::Cursor;
 use crate::Geometry;
 use crate::Pixels;
+use crate::SignedPixels;
+use crate::SignedScanlines;
 use crate::Window;
 use crate::edge::is_empty;
 use crate::edge::less_preset;
@@ -57,10 +59,10 @@ fn cursor_in(file: File) -> Cursor
     let down = file.registers[E4] % 128;
     Cursor {
         enabled: file.registers[E6] % 2 == 1,
-        left: less_preset(file.registers[E0], across),
-        top: less_preset(file.registers[E2], down),
-        width: shown(across),
-        height: shown(down),
+        left: SignedPixels(less_preset(file.registers[E0], across)),
+        top: SignedScanlines(less_preset(file.registers[E2], down)),
+        width: Pixels(shown(across)),
+        height: Scanlines(shown(down)),
         address: (file.registers[E8] / 4 % 8192) as u32 * 1024,
     }
 }
@@ -71,10 +73,10 @@ fn no_cursor() -> Cursor
 {
     Cursor {
         enabled: false,
-        left: 0,
-        top: 0,
-        width: 0,
-        height: 0,
+        left: SignedPixels(0),
+        top: SignedScanlines(0),
+        width: Pixels(0),
+        height: Scanlines(0),
         address: 0,
     }
 }

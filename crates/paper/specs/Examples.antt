@@ -173,7 +173,7 @@ lookHolds f nothing = true
 lookHolds f (entryIs n red green blue) = colourIs (getD (f .palette) n black) red green blue
 lookHolds f (timingIs numbers) = sameNumbers (numbersOf (readTiming f .timing)) numbers
 lookHolds f (writing numbers code) = writingHolds f numbers code
-lookHolds f (cursorIs left width) = sameInteger (readGeometry f .cursor .left) left && eqb (readGeometry f .cursor .width) width
+lookHolds f (cursorIs left width) = sameInteger (readGeometry f .cursor .left .0) left && eqb (readGeometry f .cursor .width .0) width
 
 unfoldable pub holds : Example → Bool
 holds e = stepsHold (started (e .start)) (e .steps) && lookHolds (afterSteps (started (e .start)) (e .steps)) (e .look)

@@ -6,10 +6,6 @@ mod printing;
 mod same;
 mod stored;
 
-use access::Item;
-use access::Record;
-use access::Reply;
-use file::Answer;
 use file::File;
 use file::Pointer;
 use libc::STDOUT_FILENO;
@@ -24,6 +20,7 @@ use reader::unread;
 use same::same_bytes;
 use same::same_files;
 use stored::TRACE;
+use trace::Replied;
 use trace::reply_bytes;
 
 // One run; how many replies there are, and how many bytes are left unread.
@@ -66,51 +63,22 @@ fn in_pieces(trace: &[u8], replies: &mut [u8]) -> File {
     file
 }
 
-// The file after an access, and the bytes of its reply.
-struct Replied {
-    file: File,
-    bytes: [u8; 8],
-}
-
-fn bytes_of(asked: Record, answer: Answer) -> [u8; 8] {
-    let reply = Reply {
-        code: answer.code(),
-        kind: asked.kind,
-        address: asked.address,
-        value: answer.value(),
-    };
-    reply_bytes(reply)
-}
-
-// The access of a record; a fragment is refused.
-fn answered(item: Item, file: File) -> Replied {
-    match item {
-        Item::Whole(asked) => {
-            let done = asked.access(file);
-            let after = done.file;
-            let answer = done.answer;
-            Replied {
-                file: after,
-                bytes: bytes_of(asked, answer),
-            }
-        }
-        Item::Fragment(asked) => Replied {
-            file,
-            bytes: bytes_of(asked, Answer::Malformed),
-        },
-    }
-}
-
-// The same of what stands next, which is printed.
+// What the access of what stands next leaves, which is printed; its end leaves the file.
 fn stepped(next: Next, file: File) -> Replied {
     match next {
         Next::Item(item) => {
             print_item(item);
-            answered(item, file)
+            let done = item.access(file);
+            let after = done.file;
+            let said = done.reply;
+            Replied {
+                file: after,
+                reply: reply_bytes(said),
+            }
         }
         Next::End => Replied {
             file,
-            bytes: [0; 8],
+            reply: [0; 8],
         },
     }
 }
@@ -135,7 +103,7 @@ fn item_by_item(trace: &[u8], replies: &mut [u8]) -> File {
         let step = next_from(trace, at);
         let next = step.next;
         let after = stepped(next, file);
-        let reply = after.bytes;
+        let reply = after.reply;
         put(replies, at, reply);
         let left = after.file;
         file = left;

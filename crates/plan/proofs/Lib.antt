@@ -3,3 +3,5 @@ pub mod Appending
 pub mod RowsAsRoads
 pub mod EntriesAppended
 pub mod PromisesKept
+pub mod DemandThree
+pub mod Codes

@@ -108,17 +108,26 @@ module _ {w : File} {before after : List ℕ} {count : ℕ} (p : PlanWritten w b
       ap₂ items (p .counted) (alone ∙ sym (append-nil (traceOf (p .records)))) ∙ trace-items (p .records) []
 
   -- a run over them answers each, where there are places enough
-  all-read : (places : List ℕ) → length places ≡ 8192 → runCount (take (8 * count) after) places ≡ count
+  all-read : (places : List ℕ) → 8 * count ≤ length places → runCount (take (8 * count) after) places ≡ count
   unfolding runCount itemCount
-  all-read places h = omega (arith, ap length alone, trace-count (p .records), p .counted, p .plans .room)
+  all-read places h = omega (arith, h, ap length alone, trace-count (p .records), p .counted)
 
-  module _ (f : File) (ff : IsFile f) (s : sound f ≡ true) (places : List ℕ) (h : length places ≡ 8192) where
+  module _ (f : File) (ff : IsFile f) (s : sound f ≡ true) (places : List ℕ) (h : 8 * count ≤ length places) where
     runs : RunsInto f (p .records) w
     runs = p .plans .restores f ff (passes (sound f) s)
 
     run-is : run f (take (8 * count) after) places ≡ ran count f (take (8 * count) after) places
     unfolding run
     run-is = rw (s, all-read places h)
+
+    -- its answer and its count
+    pub run-answers : run f (take (8 * count) after) places .answer ≡ Done 0
+    unfolding ran
+    run-answers = rw run-is
+
+    pub run-counts : run f (take (8 * count) after) places .count ≡ count
+    unfolding ran
+    run-counts = rw run-is
 
     -- it ends in the wanted file
     pub run-ends : run f (take (8 * count) after) places .file ≡ w

@@ -1,14 +1,16 @@
 -- What a plan and a restore promise, for every input.
 -- Assumes nothing.
-use Prim.Native.Nat.{ℕ}
+use Prim.Native.Nat.{ℕ, _*_, _<_}
 use mathlib.Core.Path.{_≡_}
 use mathlib.Core.Bool.{true, false}
 use mathlib.Core.List.{List}
-use lib.ListN.{length}
+use lib.ListN.{length, getD}
+use Rattle.file.specs.declared.answer.Answer.the-variants.{Done}
 use Rattle.file.specs.declared.registers.File.{File}
 use Rattle.file.specs.Answers.{refused}
+use Rattle.trace.specs.declared.running.Ran.{Ran}
 use Rattle.trace.specs.Records.{items}
-use Rattle.trace.specs.Run.{fileAfter}
+use Rattle.trace.specs.Run.{fileAfter, run}
 use Rattle.plan.specs.declared.planning.Planned.{Planned}
 use Rattle.plan.specs.declared.restoring.Restored.{Restored}
 use Rattle.roads.specs.Refusals.{planAnswer, restoreAnswer}
@@ -30,3 +32,17 @@ pub record RestoreKept (f w : File) (before after : List ℕ) (r : Restored) : T
   pub none : refused (r .answer) ≡ true → r .count ≡ 0
   pub back : refused (r .answer) ≡ true → r .file ≡ f
   pub kept : refused (r .answer) ≡ true → after ≡ before
+
+-- what `run` promises of a trace and a reply buffer, by what the buffer holds before and after
+pub record RunKept (f : File) (trace before after : List ℕ) (r : Ran) : Type 0 where
+  pub answered : r .answer ≡ run f trace before .answer
+  pub ended : r .file ≡ run f trace before .file
+  pub counted : r .count ≡ run f trace before .count
+  pub replied : after ≡ run f trace before .buffer
+
+-- demand 3 of a run over so many records: 'accepted at each access and ends in exactly the wanted file'
+pub record RunServes (w : File) (count : ℕ) (replies : List ℕ) (r : Ran) : Type 0 where
+  pub answered : r .answer ≡ Done 0
+  pub counted : r .count ≡ count
+  pub accepted : (k : ℕ) → k < count → getD replies (8 * k) 0 ≡ 0
+  pub ended : r .file ≡ w

@@ -12,7 +12,10 @@ use crate::records::port_write;
 use crate::records::put;
 use access::Record;
 
-const REGISTER_ROWS: [u64; 92] = [
+// How many registers nothing else waits for.
+const PLAIN: usize = 92;
+
+const REGISTER_ROWS: [u64; PLAIN] = [
     0x5_1_0A0_000_00_05, // pixel mask
     0x5_1_000_000_00_19, // CR0
     0x5_1_004_000_00_1A, // CR1
@@ -114,7 +117,7 @@ const CLOSING_ROWS: [u64; 3] = [
 ];
 
 // The registers that nothing else waits for.
-pub fn register_rows() -> [u64; 92]
+pub fn register_rows() -> [u64; PLAIN]
     ensures { λ r. ⌜ map roadOf r ≡ registerRoads ⌝ }
 {
     REGISTER_ROWS

@@ -1,73 +1,48 @@
--- The timing line of a file has at most 172 bytes: the word, and fifteen numbers of ten digits, each behind a space. Assumes nothing.
-use Prim.Native.Nat.{ℕ, _+_, _*_, _^_, _≤_, _<_}
-use mathlib.Core.Bool.{Bool, true, false, _&&_}
-use mathlib.Core.List.{List, [], _∷_, map}
-use mathlib.Core.Path.{_≡_, refl, ap, ap₂, _∙_}
+-- The timing line of a file stands in a buffer that is long enough. Assumes nothing.
+use Prim.Native.Nat.{ℕ, _+_, _≤_}
+use mathlib.Core.List.{List, _++_}
+use mathlib.Core.Path.{_≡_, sym, ap, _∙_}
+use native.Mathlib.Nat.{zero-add}
 use native.Mathlib.Omega.{arith}
-use lib.Dec.{T, ltb, ltb→lt}
-use lib.ListN.{length, getD, take, length-append}
 use borrow.Author.Tests.{le-leb}
-use Rattle.bits.specs.Numbers.{readFrom, readNumbers}
-use Rattle.bits.proofs.Bounded.{read-below}
-use Rattle.bits.proofs.Test.{is-true, left, right}
-use Rattle.file.specs.declared.registers.File.{File}
-use Rattle.file.specs.Sound.{sound}
+use lib.Dec.{T}
+use lib.ListN.{length, drop, length-append}
 use Rattle.io.specs.Counts.{Counts}
+use Rattle.file.specs.declared.answer.Answer.the-variants.{Done}
+use Rattle.file.specs.declared.registers.File.{File}
+use Rattle.file.specs.Answers.{codeOf, refused}
+use Rattle.file.specs.Sound.{sound}
 use Rattle.timing.specs.declared.Read.{Read}
-use Rattle.timing.specs.Table.{table, wide}
-use Rattle.timing.specs.Timing.{numbersOf, readTiming, timingIn, timingOf}
-use Rattle.timing.proofs.Computed.{table-bounded}
-use Rattle.text.specs.Lent.{behind, fits, placed}
-use Rattle.text.specs.Text.{decimalPlaces, spaced, timingLine}
-use Rattle.text.proofs.Places.{most-places}
-use Rattle.text.proofs.Spaced.{behind-length, numbers-length}
+use Rattle.timing.specs.Timing.{readTiming, timingIn}
+use Rattle.text.specs.declared.placed.Placed.{Placed}
+use Rattle.text.specs.Lent.{Lined, behindBy, fits, placedBy, roomAnswer}
+use Rattle.text.specs.Replay.{timingMost}
+use Rattle.text.specs.Text.{timingLine}
+use Rattle.text.proofs.Timed.{line-short}
+use Rattle.text.proofs.Whole.{timing-read}
 use Rattle.shell.proofs.Bounds.{counts}
-use Rattle.shell.proofs.Printed.{text-taken, text-within}
 
--- the table's numbers have at most ten digits
-table-long : (w : Bool) → length (table w) ≡ 15
-unfolding table
-table-long true = refl
-table-long false = refl
+module _ (f : File) (s : T (sound f)) (t : Read) (e : t ≡ readTiming f) (before after : List ℕ) (room : timingMost ≤ length before) (r : Placed)
+    (lined : Lined (roomAnswer before 0 (timingLine (t .timing))) 0 (timingLine (t .timing)) before after r) where
+  abbrev Line : List ℕ
+  Line = timingLine (timingIn f)
 
-few-digits : (w : Bool) (registers : List ℕ) (k : ℕ) → k < 15 → decimalPlaces (getD (readNumbers (table w) registers) k 0) (getD (readNumbers (table w) registers) k 0) ≤ 10
-unfolding readNumbers
-few-digits w registers k h =
-    let low : getD (readFrom 0 (table w) registers) k 0 < 2 ^ 31 = read-below (2 ^ 31) 0 (table w) registers (table-bounded w) k (omega (arith, table-long w)) in
-    most-places 9 (getD (readFrom 0 (table w) registers) k 0) (getD (readFrom 0 (table w) registers) k 0) (omega (arith, low))
+  short : length Line ≤ length before
+  short = omega (arith, line-short f, room)
 
-unfoldable below : List ℕ → Bool
-below [] = true
-below (k ∷ ks) = ltb k 15 && below ks
+  said : Lined (Done 0) 0 Line before after r
+  unfolding roomAnswer fits
+  said =
+      rw (le-leb (0 + length Line) (length before) (omega (arith, short))) at
+      (rw (timing-read f s t e) at lined)
 
--- so many of them, each behind a space
-spaced-short : (ns : List ℕ) → ((k : ℕ) → k < 15 → decimalPlaces (getD ns k 0) (getD ns k 0) ≤ 10)
-    → (ks : List ℕ) → T (below ks) → length (spaced (map (λ (k : ℕ). getD ns k 0) ks)) ≤ 11 * length ks
-unfolding spaced below
-spaced-short ns few [] t = omega arith
-spaced-short ns few (k ∷ ks) t =
-    let rest = spaced-short ns few ks (right (ltb k 15) (below ks) t) in
-    let one = few k (ltb→lt k 15 (left (ltb k 15) (below ks) t)) in
-    simp length-append (omega (arith, rest, one, simp length-append at (behind-length (getD ns k 0))))
+  ended : r .end ≡ length Line
+  unfolding behindBy refused codeOf
+  ended = said .ended ∙ zero-add _
 
-module _ (f : File) where
-  line-short : length (timingLine (timingIn f)) ≤ 172
-  unfolding timingLine timingIn numbersOf timingOf below
-  line-short =
-      let few = spaced-short (readNumbers (table (wide f)) (f .registers)) (few-digits (wide f) (f .registers))
-      (0 ∷ 1 ∷ 2 ∷ 3 ∷ 4 ∷ 5 ∷ 6 ∷ 7 ∷ 8 ∷ 9 ∷ 10 ∷ 11 ∷ 12 ∷ 13 ∷ 14 ∷ []) tt in
-      rw numbers-length (omega (arith, few))
+  stored : after ≡ Line ++ drop (r .end) before
+  unfolding placedBy behindBy refused codeOf
+  stored = said .bytes ∙ ap (λ (k : ℕ). Line ++ drop k before) (sym (said .ended))
 
-  -- so it stands in a buffer that long
-  pub timing-taken : T (sound f) → (r : Read) → r ≡ readTiming f → (before after : List ℕ) (end : ℕ) → 172 ≤ length before
-      → (after ≡ placed before 0 (timingLine (r .timing))) × (end ≡ behind before 0 (timingLine (r .timing)))
-      → Counts end after × (take end after ≡ timingLine (timingIn f))
-  unfolding behind placed fits readTiming
-  timing-taken s r said before after end room stored =
-      let line = timingLine (r .timing) in
-      let same : r .timing ≡ timingIn f = ap (λ (x : Read). x .timing) said ∙ rw (is-true (sound f) s) refl in
-      let text : line ≡ timingLine (timingIn f) = ap timingLine same in
-      let fit : fits before 0 line ≡ true = le-leb (0 + length line) (length before) (omega (arith, ap length text, line-short, room)) in (
-        counts after end (rw (stored .0, stored .1) (text-within (fits before 0 line) before line)),
-        ap₂ take (stored .1) (stored .0) ∙ text-taken (fits before 0 line) before line ∙ rw fit text,
-      )
+  pub timing-stands : Counts (r .end) after × ((r .end ≡ length Line) × (after ≡ Line ++ drop (r .end) before))
+  timing-stands = (counts after (r .end) (omega (arith, ended, ap length stored ∙ length-append Line (drop (r .end) before))), (ended, stored))

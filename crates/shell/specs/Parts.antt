@@ -1,65 +1,66 @@
--- 01, 'The replay program': what a part of a trace leaves and prints.
+-- 01, 'The replay program': what a part of a trace leaves and prints, a turn, and the course of turns.
 -- Assumes nothing.
-use Prim.Native.Nat.{ℕ, _+_, _%_}
-use mathlib.Core.Bool.{Bool, true, false, cond, _&&_}
-use mathlib.Core.List.{List, [], _∷_, _++_}
+use Prim.Native.Nat.{ℕ, _+_, _*_}
+use mathlib.Core.Bool.{Bool, true, false, cond}
+use mathlib.Core.List.{List, [], _++_}
 use mathlib.Core.Path.{_≡_}
 use lib.Dec.{eqb}
-use lib.ListN.{length, take}
-use Rattle.io.specs.Counts.{Counts}
+use lib.ListN.{length, take, drop}
+use Rattle.file.specs.declared.answer.Answer.the-variants.{Done}
 use Rattle.file.specs.declared.registers.File.{File}
 use Rattle.file.specs.File.{powerOn}
-use Rattle.trace.specs.Records.{items, itemCount}
-use Rattle.trace.specs.Run.{fileAfter}
-use Rattle.timing.specs.Timing.{timingIn}
-use Rattle.text.specs.Text.{recordLines, timingLine}
+use Rattle.trace.specs.Records.{itemCount}
+use Rattle.text.specs.declared.replaying.Part.{Part}
+use Rattle.text.specs.Replay.{afterPart, partLines, partReplies}
 use Rattle.shell.specs.declared.course.Course.{Course}
-use Rattle.shell.specs.declared.course.Part.{Part}
+use Rattle.shell.specs.declared.course.Turn.{Turn}
 
--- the file after a part of a trace
-unfoldable pub afterPart : File → List ℕ → File
-afterPart f part = fileAfter f (items (itemCount part) part)
+-- the lines of a part, if they are asked for
+unfoldable pub asked : Bool → ℕ → File → List ℕ → List ℕ
+asked prints number f part = cond prints (partLines number f part) []
 
--- the lines of its records, numbered from a number on
-unfoldable pub partLines : ℕ → File → List ℕ → List ℕ
-partLines number f part = recordLines number f (items (itemCount part) part)
-
--- a part that was run from a file, by what the buffer for its lines holds afterwards
-pub record Parted (f : File) (number : ℕ) (prints : Bool) (part after : List ℕ) (r : Part) : Type 0 where
+-- a part that was run from a file: what comes back, and what both buffers hold
+pub record Parted (f : File) (number : ℕ) (prints : Bool) (part replies₀ replies lines₀ lines : List ℕ) (r : Part) : Type 0 where
+  pub answered : r .answer ≡ Done 0
   pub file : r .file ≡ afterPart f part
   pub count : r .count ≡ itemCount part
-  pub end : Counts (r .end) after
-  pub lines : take (r .end) after ≡ cond prints (partLines number f part) []
+  pub end : r .end ≡ length (asked prints number f part)
+  pub replied : replies ≡ partReplies f part ++ drop (8 * itemCount part) replies₀
+  pub printed : lines ≡ asked prints number f part ++ drop (r .end) lines₀
 
--- one turn: a part at the start of the buffer it was read into, and its lines at the start of theirs; a failure leaves nothing and ends the course
-pub record Turned (before : Course) (prints : Bool) (trace lines : List ℕ) (r : Course) : Type 0 where
-  pub part : List ℕ
-  pub end : ℕ
-  pub read : part ≡ take (length part) trace
-  pub printed : take end lines ≡ cond prints (partLines (before .number) (before .file) part) []
-  pub file : r .file ≡ afterPart (before .file) part
-  pub number : r .number ≡ before .number + itemCount part
-  pub more : r .more ≡ eqb (length part) 8192
-  pub ends : r .failed ≡ true → r .more ≡ false
+-- the course after a part that was read; a failure leaves what was there and ends the course
+unfoldable pub courseAfter : Bool → Course → List ℕ → Course
+courseAfter failed before part =
+    cond failed
+    (record { file = before .file; number = before .number; more = false; failed = true })
+    (record {
+      file = afterPart (before .file) part;
+      number = before .number + itemCount part;
+      more = eqb (length part) 8192;
+      failed = false;
+    })
 
--- 'It reads a trace on standard input from power-on': a course after a trace that was read; while there is more, whole records
-pub record Came (r : Course) : Type 0 where
+-- one turn, by the part that it read: what it handed to be written, what both buffers hold, and the course after it
+pub record Turned (before : Course) (prints : Bool) (part replies₀ replies lines₀ lines : List ℕ) (r : Turn) : Type 0 where
+  pub end : r .end ≡ length (asked prints (before .number) (before .file) part)
+  pub replied : replies ≡ partReplies (before .file) part ++ drop (8 * itemCount part) replies₀
+  pub printed : lines ≡ asked prints (before .number) (before .file) part ++ drop (r .end) lines₀
+  pub course : r .course ≡ courseAfter (r .course .failed) before part
+
+-- 'It reads a trace on standard input from power-on'
+unfoldable pub beginning : Course
+beginning = record { file = powerOn; number = 0; more = true; failed = false }
+
+-- a course that turns led to, each from the one before, with the trace that they read and the text that they handed to be written
+pub data Turns (prints : Bool) : List ℕ → List ℕ → Course → Type 0 where
+  none : Turns prints [] [] beginning
+  then : {trace text : List ℕ} {before : Course} (part replies₀ replies lines₀ lines : List ℕ) (r : Turn)
+      → Turns prints trace text before → before .more ≡ true → Turned before prints part replies₀ replies lines₀ lines r
+      → Turns prints (trace ++ part) (text ++ take (r .end) lines) (r .course)
+
+-- the course that a run comes to: by some turns, until there is no more to read. Which bytes the system reads and writes no contract says
+pub record Came (prints : Bool) (r : Course) : Type 0 where
   pub trace : List ℕ
-  pub file : r .file ≡ afterPart powerOn trace
-  pub number : r .number ≡ itemCount trace
-  pub whole : r .more ≡ true → length trace % 8 ≡ 0
-
--- 'Last comes one line': what is printed of a trace that comes in parts, from a number and a file on
-unfoldable pub inParts : ℕ → File → List (List ℕ) → List ℕ
-inParts number f [] = timingLine (timingIn f)
-inParts number f (part ∷ parts) = partLines number f part ++ inParts (number + itemCount part) (afterPart f part) parts
-
-unfoldable pub joined : List (List ℕ) → List ℕ
-joined [] = []
-joined (part ∷ parts) = part ++ joined parts
-
--- only the last part may end in a fragment
-unfoldable pub wholeButLast : List (List ℕ) → Bool
-wholeButLast [] = true
-wholeButLast (part ∷ []) = true
-wholeButLast (part ∷ next ∷ parts) = eqb (length part % 8) 0 && wholeButLast (next ∷ parts)
+  pub text : List ℕ
+  pub turns : Turns prints trace text r
+  pub ended : r .more ≡ false

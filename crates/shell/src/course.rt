@@ -3,7 +3,7 @@ ghost use mathlib.Core.Path.{_≡_};
 ghost use mathlib.Core.Bool.{true, false};
 ghost use Prim.Native.Nat.{_+_, _*_, _^_, _≤_, _<_};
 ghost use lib.Dec.{T};
-ghost use lib.ListN.{length};
+ghost use lib.ListN.{length, take};
 ghost use Rattle.io.specs.Counts.{Counts};
 ghost use Rattle.file.specs.Sound.{sound};
 ghost use Rattle.trace.specs.Records.{itemCount};
@@ -14,23 +14,25 @@ use crate::telling::tell;
 use crate::telling::tell_failure;
 use crate::telling::write_out;
 use file::File;
+use text::replaying::Part;
+use text::replaying::replay_part;
 
 // The last number at which a whole buffer of records still has numbers.
 const LAST: u64 = u64::MAX - 1024;
 
-// How far a run has come: the file after the records so far, their number, whether there is more to read, and whether something failed.
+// How far a run has come: how many records there were, whether there is more to read, whether something failed, and the file after them.
 pub struct Course {
-    pub file: File,
     pub number: u64,
     pub more: bool,
     pub failed: bool,
+    pub file: File,
 }
 
-// What a part of a trace leaves: the file after it, the count of its records, and where its lines end.
-struct Part {
-    file: File,
-    count: usize,
+// One turn: how many bytes it read, none where that failed, how many it handed to be written, and the course after it.
+struct Turn {
+    size: usize,
     end: usize,
+    course: Course,
 }
 
 // A part of a trace, run, and the lines of its records, if they are asked for, from the start of a buffer on.
@@ -45,32 +47,31 @@ fn run_part(
     requires { ⌜ T (sound before) ⌝ }
     requires { ⌜ 8 * itemCount (now trace) ≤ length (now replies) ⌝ }
     requires { ⌜ 30 * itemCount (now trace) ≤ length (now lines) ⌝ }
-    requires { ⌜ number + itemCount (now trace) < 2 ^ 64 ⌝ }
-    ensures { λ r. ⌜ Parted before number prints (now (trace .entry)) (now (lines .exit)) r ⌝ }
+    requires { ⌜ number + itemCount (now trace) ≤ 2 ^ 64 ⌝ }
+    ensures { λ r. ⌜ Parted before number prints (now (trace .entry)) (now (replies .entry)) (now (replies .exit)) (now (lines .entry)) (now (lines .exit)) r ⌝ }
 {
-    let ran = trace::run(before, trace, replies);
-    let file = ran.file;
-    let count = ran.count;
     if prints {
-        let size = 8 * count;
-        let end = text::reply_lines(lines, 0, number, &replies[..size]);
-        return Part { file, count, end };
+        return replay_part(before, number, trace, replies, lines);
     }
+    let ran = trace::run(before, trace, replies);
+    let answer = ran.answer;
+    let file = ran.file;
     Part {
+        answer,
         file,
-        count,
+        count: ran.count,
         end: 0,
     }
 }
 
-// The end of a course at a failure.
-fn failed(before: Course) -> Course
-    ensures { λ r. ⌜ r ≡ record { file = before .file; number = before .number; more = false; failed = true } ⌝ }
+// A turn that fails ends the course.
+fn failed(before: Course, size: usize, end: usize) -> Turn
+    ensures { λ r. ⌜ r ≡ record { size = size; end = end; course = record { file = before .file; number = before .number; more = false; failed = true } } ⌝ }
 {
-    let mut after = before;
-    after.more = false;
-    after.failed = true;
-    after
+    let mut course = before;
+    course.more = false;
+    course.failed = true;
+    Turn { size, end, course }
 }
 
 // The next buffer of a trace, of which so many records came before; what goes wrong is told.
@@ -100,49 +101,55 @@ fn run_some(
     trace: &mut [u8; 8192],
     replies: &mut [u8; 8192],
     lines: &mut [u8; 32768],
-) -> Course
+) -> Turn
     requires { ⌜ T (sound (before .file)) ⌝ }
-    ensures { λ r. ⌜ Turned before prints (now (trace .exit)) (now (lines .exit)) r ⌝ }
+    ensures { λ r. ⌜ Counts (r .size) (now (trace .exit)) ⌝ }
+    ensures { λ r. ⌜ Turned before prints (take (r .size) (now (trace .exit))) (now (replies .entry)) (now (replies .exit)) (now (lines .entry)) (now (lines .exit)) r ⌝ }
 {
     let number = before.number;
     let read = read_some(program, number, trace);
     if read.failed {
-        return failed(before);
+        return failed(before, 0, 0);
     }
     let size = read.count;
     let trace: &[u8] = trace;
     let part = run_part(before.file, number, prints, &trace[..size], replies, lines);
     let end = part.end;
     let lines: &[u8] = lines;
-    let is_written = write_out(program, &lines[..end]);
-    if !is_written {
-        return failed(before);
+    let handed = write_out(program, &lines[..end]);
+    let end = handed.count;
+    if handed.failed {
+        return failed(before, size, end);
     }
     let file = part.file;
-    Course {
-        file,
-        number: number + part.count as u64,
-        more: size == 8192,
-        failed: false,
+    Turn {
+        size,
+        end,
+        course: Course {
+            number: number + part.count as u64,
+            more: size == 8192,
+            failed: false,
+            file,
+        },
     }
 }
 
 // The whole of a trace. A proved loop has to end, so this one counts its turns down, from a number that no run uses up.
 pub fn run_input(program: &[u8], prints: bool) -> Course
-    ensures { λ r. ⌜ Came r ⌝ }
+    ensures { λ r. ⌜ Came prints r ⌝ }
 {
     let mut trace = [0u8; 8192];
     let mut replies = [0u8; 8192];
     let mut lines = [0u8; 32768];
     let mut course = Course {
-        file: File::power_on(),
         number: 0,
         more: true,
         failed: false,
+        file: File::power_on(),
     };
     let mut turns = u64::MAX;
     while turns > 0 && course.more {
-        let next = run_some(
+        let turn = run_some(
             program,
             prints,
             course,
@@ -150,7 +157,7 @@ pub fn run_input(program: &[u8], prints: bool) -> Course
             &mut replies,
             &mut lines,
         );
-        course = next;
+        course = turn.course;
         turns -= 1;
     }
     course

@@ -1,6 +1,7 @@
 // Standard input, by buffers.
+ghost use mathlib.Core.Path.{_≡_};
 ghost use Prim.Native.Nat.{_+_, _≤_};
-ghost use lib.ListN.{length};
+ghost use lib.ListN.{length, take};
 ghost use Rattle.io.specs.Counts.{Counts};
 use libc::STDIN_FILENO;
 
@@ -10,10 +11,11 @@ pub struct Filled {
     pub failed: bool,
 }
 
-// One read into what is left of a buffer from a place on; no bytes where the input ends or the read fails.
+// One read into what is left of a buffer from a place on; no bytes where the input ends or the read fails. What stands before the place stays.
 fn read_on(buffer: &mut [u8], at: usize) -> Filled
     requires { ⌜ at ≤ length (now buffer) ⌝ }
     ensures { λ r. ⌜ at + r .count ≤ length (now (buffer .exit)) ⌝ }
+    ensures { λ _. ⌜ take at (now (buffer .exit)) ≡ take at (now (buffer .entry)) ⌝ }
 {
     let rest = &mut buffer[at..];
     let got = libc::read(STDIN_FILENO, rest);

@@ -1,4 +1,6 @@
 // Standard output, and what goes wrong on standard error: a program has no exit status.
+ghost use mathlib.Core.Path.{_≡_};
+ghost use lib.ListN.{length};
 use libc::STDERR_FILENO;
 use libc::STDOUT_FILENO;
 
@@ -15,11 +17,22 @@ pub fn tell(program: &[u8], what: &[u8]) {
     io::write_all(STDERR_FILENO, b"\n");
 }
 
-// Writes bytes, tells it if that fails, and answers whether they were written.
-pub fn write_out(program: &[u8], bytes: &[u8]) -> bool {
+// How many bytes were handed to be written, and whether writing them failed.
+pub struct Handed {
+    pub count: usize,
+    pub failed: bool,
+}
+
+// Writes bytes, and tells it if that fails.
+pub fn write_out(program: &[u8], bytes: &[u8]) -> Handed
+    ensures { λ r. ⌜ r .count ≡ length (now (bytes .entry)) ⌝ }
+{
     let is_written = io::write_all(STDOUT_FILENO, bytes);
     if !is_written {
         tell_failure(program, b": standard output");
     }
-    is_written
+    Handed {
+        count: bytes.len(),
+        failed: !is_written,
+    }
 }

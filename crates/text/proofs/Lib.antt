@@ -1,3 +1,4 @@
+pub mod Tests
 pub mod Places
 pub mod Stores
 pub mod Spelled
@@ -5,3 +6,7 @@ pub mod Lines
 pub mod Spaced
 pub mod Replies
 pub mod Pieces
+pub mod PartRuns
+pub mod Timed
+pub mod Whole
+pub mod Codes

@@ -15,6 +15,7 @@ use Rattle.trace.proofs.RunMore.{items-length}
 use Rattle.file.specs.declared.registers.File.{File}
 use Rattle.file.specs.Answers.{codeOf, valueOf}
 use Rattle.file.specs.File.{powerOn}
+use Rattle.text.specs.Replay.{afterPart, partLines}
 use Rattle.text.specs.Text.{lineOf, recordLine, recordLines, replayed, replayedFrom, replyLines}
 
 two-bytes : (value : ℕ) → value % 256 + 256 * (value / 256) ≡ value
@@ -76,3 +77,25 @@ pub replayed-cut : (n : ℕ) (a b : List ℕ) → length a ≡ 8 * n
     → replayed (a ++ b) ≡ recordLines 0 powerOn (items n a) ++ replayedFrom n (fileAfter powerOn (items n a)) b
 unfolding replayed
 replayed-cut n a b whole = replayed-in-pieces n a b whole 0 powerOn ∙ rw zero-add
+
+-- a part of whole records, and what follows it: the count, the file and the lines
+module _ (part rest : List ℕ) (whole : length part % 8 ≡ 0) where
+  pub parts-count : itemCount (part ++ rest) ≡ itemCount part + itemCount rest
+  unfolding itemCount
+  parts-count = rw length-append (omega (arith, whole))
+
+  all-bytes : length part ≡ 8 * itemCount part
+  unfolding itemCount
+  all-bytes = omega (arith, whole)
+
+  pub file-parts : (f : File) → afterPart f (part ++ rest) ≡ afterPart (afterPart f part) rest
+  unfolding afterPart
+  file-parts f =
+      ap (fileAfter f) (trace-cut (itemCount part) part rest all-bytes)
+      ∙ file-in-parts f (items (itemCount part) part) (items (itemCount rest) rest)
+
+  pub lines-parts : (number : ℕ) (f : File)
+      → partLines number f (part ++ rest) ≡ partLines number f part ++ partLines (number + itemCount part) (afterPart f part) rest
+  unfolding partLines afterPart
+  lines-parts number f =
+      rw (trace-cut (itemCount part) part rest all-bytes, lines-in-parts number f (items (itemCount part) part) (items (itemCount rest) rest), items-length)

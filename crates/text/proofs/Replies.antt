@@ -1,17 +1,14 @@
--- The lines of replies: one after the other, and the room for them. Assumes nothing.
-use Prim.Native.Nat.{ℕ, suc, _+_, _-_, _*_, _≤_, _<_}
+-- The lines of replies: one after the other, and how long they are at most. Assumes nothing.
+use Prim.Native.Nat.{ℕ, zero, suc, _+_, _-_, _*_, _≤_, _<_}
 use mathlib.Core.Path.{_≡_, sym, ap, ap₂, _∙_}
-use mathlib.Core.Bool.{true}
 use mathlib.Core.List.{List, [], _++_}
 use native.Mathlib.Nat.{add-zero, add-assoc, sub-zero}
 use native.Mathlib.Omega.{arith}
-use borrow.Author.Tests.{le-leb, lt-leb, lt-ltb, ltb-true, ltb-false}
-use lib.Dec.{leb, ltb, leb→le, ltb→lt}
 use lib.ListN.{length, getD, drop, length-append}
 use lib.Seq.{drop-drop, getD-drop}
 use Rattle.trace.specs.Records.{two}
-use Rattle.bits.proofs.Test.{by-test, left, right, passes}
-use Rattle.text.specs.Text.{lineOf, linesFit, replyLines}
+use Rattle.text.specs.Text.{lineOf, replyLines}
+use Rattle.text.proofs.Lines.{line-most}
 
 module _ (replies : List ℕ) (from : ℕ) where
   code-there : getD (drop from replies) 0 0 ≡ getD replies from 0
@@ -53,23 +50,12 @@ pub no-line-left : (count number : ℕ) (replies : List ℕ) (n : ℕ) → count
 unfolding replyLines
 no-line-left count number replies n h = let none : count - n ≡ 0 = omega arith in rw none
 
--- numbers that a difference leaves room for
-pub numbers-left : (count number most : ℕ) → number ≤ most → leb count (most - number) ≡ ltb (number + count) (suc most)
-numbers-left count number most h =
-    by-test (ltb (number + count) (suc most))
-    (λ e. let l : number + count < suc most = ltb-true _ _ e in le-leb count (most - number) (omega arith) ∙ sym e)
-    (λ e. let l : suc most ≤ number + count = ltb-false _ _ e in lt-leb count (most - number) (omega arith) ∙ sym e)
-
-module _ (room at number count : ℕ) where
-  -- what the test says
-  pub lines-room : linesFit room at number count ≡ true → (at + 30 * count ≤ room) × (number + count < 18446744073709551616)
-  unfolding linesFit
-  lines-room e =
-      let both = passes (linesFit room at number count) e in (
-        leb→le _ _ (left (leb (at + 30 * count) room) (ltb (number + count) 18446744073709551616) both),
-        ltb→lt _ _ (right (leb (at + 30 * count) room) (ltb (number + count) 18446744073709551616) both),
-      )
-
-  pub room-lines : at + 30 * count ≤ room → number + count < 18446744073709551616 → linesFit room at number count ≡ true
-  unfolding linesFit
-  room-lines h l = rw (le-leb _ _ h, lt-ltb _ _ l)
+-- a line has at most 30 bytes: a number of 64 bits has 20 digits, a code of 8 bits three
+pub lines-most : (count number : ℕ) (replies : List ℕ) → number + count ≤ 18446744073709551616 → ((k : ℕ) → getD replies k 0 < 256)
+    → length (replyLines count number replies) ≤ 30 * count
+unfolding replyLines
+lines-most zero number replies low bytes = omega arith
+lines-most (suc count) number replies low bytes =
+    let one = line-most number (getD replies 0 0) (two replies 4) (omega arith) (bytes 0) in
+    let rest = lines-most count (suc number) (drop 8 replies) (omega arith) (λ k. rw getD-drop (bytes (8 + k))) in
+    rw length-append (omega arith)

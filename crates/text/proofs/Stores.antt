@@ -1,15 +1,20 @@
 -- Text stored byte by byte: one after the other, and from the back. Assumes nothing.
 use Prim.Native.Nat.{ℕ, suc, _+_, _≤_, _<_}
-use mathlib.Core.Path.{_≡_, refl, ap, _∙_}
+use mathlib.Core.Path.{_≡_, refl, sym, ap, _∙_}
 use mathlib.Core.Bool.{Bool, true, false}
 use mathlib.Core.List.{List, [], _∷_, _++_}
 use native.Mathlib.Nat.{add-zero, add-suc, suc-add, add-assoc}
 use native.Mathlib.Omega.{arith}
 use native.Mathlib.Numerals.{add-one}
 use lib.ListN.{length, set, drop, getD, length-append}
-use borrow.Author.Tests.{le-leb, lt-leb}
+use borrow.Author.Tests.{leb-true}
+use lib.Dec.{leb}
 use lib.Seq.{sets, sets-eq, set-comm, drop-cons}
-use Rattle.text.specs.Lent.{Wrote, fits, placed, placedIf, behind, behindIf}
+use Rattle.file.specs.declared.answer.Answer.{Answer}
+use Rattle.file.specs.declared.answer.Answer.the-variants.{Done, ShortBuffer}
+use Rattle.file.specs.Answers.{codeOf, refused}
+use Rattle.text.specs.declared.placed.Placed.{Placed}
+use Rattle.text.specs.Lent.{Lined, Wrote, behindBy, fits, placedBy, roomAnswer}
 
 -- one text behind another
 sets-append : (l : List ℕ) (at : ℕ) (a b : List ℕ) → sets l at (a ++ b) ≡ sets (sets l at a) (at + length a) b
@@ -36,28 +41,39 @@ module _ {before : List ℕ} {at : ℕ} {a b middle after : List ℕ} {p q : ℕ
 pub one-byte : (l : List ℕ) (at x : ℕ) → Wrote l at (x ∷ []) (set l at x) (at + 1)
 one-byte l at x = record { bytes = refl; place = refl }
 
-module _ (test : Bool) (buffer : List ℕ) (at : ℕ) (text : List ℕ) where
-  -- the test fails: the buffer and the place are as they were
-  pub unplaced-if : test ≡ false → (buffer ≡ placedIf test buffer at text) × (at ≡ behindIf test at text)
-  unfolding placedIf behindIf
-  unplaced-if e = rw e (refl, refl)
+module _ (buffer : List ℕ) (at : ℕ) (text : List ℕ) {answer : Answer} where
+  -- a text that is refused: the buffer and the place are as they were
+  pub unplaced : (a : Answer) → answer ≡ a → refused a ≡ true → Lined answer at text buffer buffer (record { answer = a; end = at })
+  unfolding placedBy behindBy
+  unplaced a e n = record { answered = sym e; ended = rw (e, n) refl; bytes = rw (e, n) refl }
 
-  -- it passes, and there is room: what was stored is the text at its place
-  pub whole-if : {after : List ℕ} {end : ℕ} → test ≡ true → at + length text ≤ length buffer → Wrote buffer at text after end
-      → (after ≡ placedIf test buffer at text) × (end ≡ behindIf test at text)
-  unfolding placedIf behindIf
-  whole-if e h w = rw e (w .bytes ∙ sets-eq text buffer at h, w .place)
+  -- one that isn't, and that has room: what was stored is the text at its place
+  pub whole : {after : List ℕ} {end : ℕ} → answer ≡ Done 0 → at + length text ≤ length buffer → Wrote buffer at text after end
+      → Lined answer at text buffer after (record { answer = Done 0; end = end })
+  unfolding placedBy behindBy refused codeOf
+  whole e h w = record { answered = sym e; ended = rw e (w .place); bytes = rw e (w .bytes ∙ sets-eq text buffer at h) }
 
-module _ (buffer : List ℕ) (at : ℕ) (text : List ℕ) where
-  -- the same where the test is that there is room
-  pub unplaced : length buffer < at + length text → (buffer ≡ placed buffer at text) × (at ≡ behind buffer at text)
-  unfolding placed behind fits
-  unplaced h = unplaced-if (fits buffer at text) buffer at text (lt-leb _ _ h)
+  -- and back: what such a text left is what was stored
+  pub wrote : {after : List ℕ} {r : Placed} → answer ≡ Done 0 → at + length text ≤ length buffer → Lined answer at text buffer after r
+      → Wrote buffer at text after (r .end)
+  unfolding placedBy behindBy refused codeOf
+  wrote e h l = record { bytes = rw e at (l .bytes) ∙ sym (sets-eq text buffer at h); place = rw e at (l .ended) }
 
-  pub whole : {after : List ℕ} {end : ℕ} → at + length text ≤ length buffer → Wrote buffer at text after end
-      → (after ≡ placed buffer at text) × (end ≡ behind buffer at text)
-  unfolding placed behind fits
-  whole h w = whole-if (fits buffer at text) buffer at text (le-leb _ _ h) h w
+module _ (buffer : List ℕ) (at : ℕ) (text : List ℕ) {size : ℕ} (long : size ≡ length text) where
+  room-test : {b : Bool} → leb (at + size) (length buffer) ≡ b → fits buffer at text ≡ b
+  unfolding fits
+  room-test e = ap (λ (n : ℕ). leb (at + n) (length buffer)) (sym long) ∙ e
+
+  -- the same where room is all that is asked for, by how long the text is
+  pub no-room : leb (at + size) (length buffer) ≡ false
+      → Lined (roomAnswer buffer at text) at text buffer buffer (record { answer = ShortBuffer; end = at })
+  unfolding roomAnswer refused codeOf
+  no-room e = unplaced buffer at text ShortBuffer (rw (room-test e) refl) refl
+
+  pub room : {after : List ℕ} {end : ℕ} → leb (at + size) (length buffer) ≡ true → Wrote buffer at text after end
+      → Lined (roomAnswer buffer at text) at text buffer after (record { answer = Done 0; end = end })
+  unfolding roomAnswer
+  room e w = whole buffer at text (rw (room-test e) refl) (omega (arith, leb-true (at + size) (length buffer) e, long)) w
 
 -- what is left of a text, stored behind its beginning
 pub rest-stored : {before : List ℕ} {at : ℕ} {a after : List ℕ} {p : ℕ} (rest : List ℕ)

@@ -1,22 +1,24 @@
 -- 01, 'The replay program': the text that it prints, as bytes.
 -- Assumes nothing.
-use Prim.Native.Nat.{ℕ, zero, suc, _+_, _*_, _/_, _%_}
-use mathlib.Core.Bool.{Bool, true, false, cond, _&&_}
+use Prim.Native.Nat.{ℕ, zero, suc, _+_, _/_, _%_}
+use mathlib.Core.Bool.{Bool, true, false, cond}
 use mathlib.Core.List.{List, [], _∷_, _++_}
 use lib.Dec.{leb, ltb}
-use lib.ListN.{getD, drop}
+use lib.ListN.{length, getD, drop}
 use Rattle.io.specs.Digits.{digits}
 use Rattle.access.specs.declared.record.Item.{Item}
 use Rattle.access.specs.Access.{accessItem}
 use Rattle.trace.specs.Records.{items, itemCount, two}
 use Rattle.trace.specs.Run.{fileAfter}
 use Rattle.file.specs.declared.answer.Answer.{Answer}
+use Rattle.file.specs.declared.answer.Answer.the-variants.{OutOfRange}
 use Rattle.file.specs.declared.registers.File.{File}
 use Rattle.file.specs.Answers.{codeOf, valueOf}
 use Rattle.file.specs.File.{powerOn}
 use Rattle.file.specs.Readers.{ascii}
 use Rattle.timing.specs.declared.Timing.{Timing}
 use Rattle.timing.specs.Timing.{numbersOf, timingIn}
+use Rattle.text.specs.Lent.{roomAnswer}
 
 -- how many decimal digits a number has; the first argument bounds how far it is looked at
 unfoldable pub decimalPlaces : ℕ → ℕ → ℕ
@@ -52,21 +54,43 @@ unfoldable pub replyLines : ℕ → ℕ → List ℕ → List ℕ
 replyLines zero number replies = []
 replyLines (suc count) number replies = lineOf number (getD replies 0 0) (two replies 4) ++ replyLines count (suc number) (drop 8 replies)
 
--- a line has at most 30 bytes: 20 and 3 decimal digits, four hex digits, two spaces, a newline. So many have room, and numbers of 64 bits
-unfoldable pub linesFit : ℕ → ℕ → ℕ → ℕ → Bool
-linesFit room at number count = leb (at + 30 * count) room && ltb (number + count) 18446744073709551616
+-- the lines of all of them that are whole
+unfoldable pub allLines : ℕ → List ℕ → List ℕ
+allLines number replies = replyLines (length replies / 8) number replies
 
-unfoldable pub spaced : List ℕ → List ℕ
-spaced [] = []
-spaced (n ∷ ns) = space ++ decimal n ++ spaced ns
+-- so many lines have numbers of 64 bits, from a number on
+unfoldable pub numbersFit : ℕ → ℕ → Bool
+numbersFit number count = leb (number + count) 18446744073709551616
+
+-- 01's table of codes: 10, a number out of range, and then 11
+unfoldable pub linesAnswer : List ℕ → ℕ → ℕ → List ℕ → Answer
+linesAnswer buffer at number replies =
+    cond (numbersFit number (length replies / 8)) (roomAnswer buffer at (allLines number replies)) OutOfRange
+
+-- a number in decimal, with a minus before it if it is marked
+unfoldable pub signed : Bool → ℕ → List ℕ
+signed minus n = cond minus (0x2D ∷ []) [] ++ decimal n
+
+-- numbers, each behind a space; a mark that is missing is off
+unfoldable pub spaced : List Bool → List ℕ → List ℕ
+spaced minus [] = []
+spaced minus (n ∷ ns) = (space ++ signed (getD minus 0 false) n) ++ spaced (drop 1 minus) ns
+
+-- a line of a word and numbers
+unfoldable pub numbersLine : List ℕ → List Bool → List ℕ → List ℕ
+numbersLine word minus numbers = word ++ spaced minus numbers ++ newline
 
 -- 'Last comes one line: the word timing, then the fifteen numbers in table order, decimal.'
-unfoldable pub numbersLine : List ℕ → List ℕ
-numbersLine numbers = ascii "timing" ++ spaced numbers ++ newline
-
--- the line of a timing
 unfoldable pub timingLine : Timing → List ℕ
-timingLine t = numbersLine (numbersOf t)
+timingLine t = numbersLine (ascii "timing") [] (numbersOf t)
+
+-- 01, 'Cursor and window 2': enabled, left, top, width, height and image address, left and top signed
+unfoldable pub cursorLine : Bool → Bool → List ℕ → List ℕ
+cursorLine leftMinus topMinus numbers = numbersLine (ascii "cursor") (false ∷ leftMinus ∷ topMinus ∷ []) numbers
+
+-- and enabled, video format, left, top, right, bottom, empty, the fault mark and the two BLT scanlines
+unfoldable pub window2Line : List ℕ → List ℕ
+window2Line numbers = numbersLine (ascii "window2") [] numbers
 
 -- the lines of items, from a number on
 unfoldable pub recordLines : ℕ → File → List Item → List ℕ

@@ -1,66 +1,119 @@
 // The line of a record, and the lines of replies.
 ghost use mathlib.Core.Path.{_≡_};
 ghost use mathlib.Core.List.{_++_};
-ghost use Prim.Native.Nat.{_+_, _*_, _/_, _≤_, _<_};
+ghost use Prim.Native.Nat.{ℕ, _+_, _*_, _≤_};
+ghost use lib.Dec.{leb};
 ghost use lib.ListN.{length, getD};
 ghost use Rattle.io.specs.Digits.{digits};
 ghost use Rattle.trace.specs.Records.{two as twoIn};
-ghost use Rattle.text.specs.Lent.{Wrote, placed, placedIf, behind, behindIf};
-ghost use Rattle.text.specs.Text.{linesFit, lineOf, replyLines, space};
+ghost use Rattle.text.specs.Lent.{Lined, Wrote, roomAnswer};
+ghost use Rattle.text.specs.Text.{allLines, lineOf, linesAnswer, numbersFit, replyLines, space};
 use crate::number::byte;
 use crate::number::hex;
 use crate::number::places;
 use crate::number::spell;
+use crate::placed::Placed;
+use crate::placed::has_room;
+use file::Answer;
 use trace::two;
 
-// A record's number, code and value, from a place of the buffer on, and the place behind the line; nothing is stored where there is no room.
-pub fn record_line(buffer: &mut [u8], at: usize, number: u64, code: u8, value: u16) -> usize
-    ensures { λ r. ⌜ now (buffer .exit) ≡ placed (now (buffer .entry)) at (lineOf number code value) ⌝ }
-    ensures { λ r. ⌜ r ≡ behind (now (buffer .entry)) at (lineOf number code value) ⌝ }
+// A record's number, code and value, from a place of the buffer on; code 11 where the line has no room.
+pub fn record_line(buffer: &mut [u8], at: usize, number: u64, code: u8, value: u16) -> Placed
+    ensures { λ r. ⌜ Lined (roomAnswer (now (buffer .entry)) at (lineOf number code value)) at (lineOf number code value) (now (buffer .entry)) (now (buffer .exit)) r ⌝ }
 {
-    let size = places(number) + places(code as u64) + 7;
-    if buffer.len() < size {
-        return at;
+    if has_room(buffer.len(), at, line_size(number, code)) {
+        return Placed {
+            answer: Answer::Done(0),
+            end: line(number, code, value, buffer, at),
+        };
     }
-    if buffer.len() - size < at {
-        return at;
+    Placed {
+        answer: Answer::ShortBuffer,
+        end: at,
     }
-    line(number, code, value, buffer, at)
 }
 
-// The lines of the whole 8-byte replies, numbered from a number on, from a place of the buffer on, and the place behind them; nothing is stored
-// where so many lines of the most bytes have no room, or their numbers don't fit.
-pub fn reply_lines(buffer: &mut [u8], at: usize, number: u64, replies: &[u8]) -> usize
-    ensures { λ r. ⌜ now (buffer .exit) ≡ placedIf (linesFit (length (now (buffer .entry))) at number (length (now (replies .entry)) / 8)) (now (buffer .entry)) at (replyLines (length (now (replies .entry)) / 8) number (now (replies .entry))) ⌝ }
-    ensures { λ r. ⌜ r ≡ behindIf (linesFit (length (now (buffer .entry))) at number (length (now (replies .entry)) / 8)) at (replyLines (length (now (replies .entry)) / 8) number (now (replies .entry))) ⌝ }
+// The lines of the whole 8-byte replies, numbered from a number on, from a place of the buffer on; code 10 where a number has more than 64
+// bits, code 11 where the lines have no room.
+pub fn reply_lines(buffer: &mut [u8], at: usize, number: u64, replies: &[u8]) -> Placed
+    ensures { λ r. ⌜ Lined (linesAnswer (now (buffer .entry)) at number (now (replies .entry))) at (allLines number (now (replies .entry))) (now (buffer .entry)) (now (buffer .exit)) r ⌝ }
 {
     let count = replies.len() / 8;
-    if lines_fit(buffer.len(), at, number, count) {
-        return lines(number, count, replies, buffer, at);
+    if !numbers_fit(number, count) {
+        return Placed {
+            answer: Answer::OutOfRange,
+            end: at,
+        };
     }
-    at
+    if lines_fit(number, count, replies, buffer.len(), at) {
+        return Placed {
+            answer: Answer::Done(0),
+            end: lines(number, count, replies, buffer, at),
+        };
+    }
+    Placed {
+        answer: Answer::ShortBuffer,
+        end: at,
+    }
 }
 
-// So many lines fit from a place on, and so many numbers from a number on.
-fn lines_fit(room: usize, at: usize, number: u64, count: usize) -> bool
-    ensures { λ r. ⌜ r ≡ linesFit room at number count ⌝ }
+// So many lines have numbers of 64 bits, from a number on.
+pub fn numbers_fit(number: u64, count: usize) -> bool
+    ensures { λ r. ⌜ r ≡ numbersFit number count ⌝ }
+{
+    if count == 0 {
+        return true;
+    }
+    count as u64 - 1 <= u64::MAX - number
+}
+
+// The lines of so many replies have room from a place on. A line has at most 30 bytes: where as many lines of 30 have room, none is counted.
+fn lines_fit(number: u64, count: usize, replies: &[u8], room: usize, at: usize) -> bool
+    requires { ⌜ 8 * count ≤ length (now replies) ⌝ }
+    requires { ⌜ number + count ≤ 18446744073709551616 ⌝ }
+    ensures { λ r. ⌜ r ≡ leb (at + length (replyLines count number (now (replies .entry)))) room ⌝ }
 {
     if room < at {
         return false;
     }
-    if (room - at) / 30 < count {
-        return false;
+    if count <= (room - at) / 30 {
+        return true;
     }
-    count as u64 <= 18446744073709551615 - number
+    counted_fit(number, count, replies, room - at)
+}
+
+// The same in so many bytes, line by line.
+fn counted_fit(number: u64, count: usize, replies: &[u8], room: usize) -> bool
+    requires { ⌜ 8 * count ≤ length (now replies) ⌝ }
+    requires { ⌜ number + count ≤ 18446744073709551616 ⌝ }
+    ensures { λ r. ⌜ r ≡ leb (length (replyLines count number (now (replies .entry)))) room ⌝ }
+{
+    let mut left = room;
+    let mut n: usize = 0;
+    while n < count {
+        let size = line_size(number + n as u64, replies[8 * n]);
+        if left < size {
+            return false;
+        }
+        left -= size;
+        n += 1;
+    }
+    true
+}
+
+// How many bytes a record's line has, whatever its value.
+fn line_size(number: u64, code: u8) -> usize
+    ensures { λ r. ⌜ ((value : ℕ) → r ≡ length (lineOf number code value)) ⌝ }
+{
+    places(number) + places(code as u64) + 7
 }
 
 // The lines of so many replies, from a place of a buffer that has room for them on; the place behind them.
 fn lines(number: u64, count: usize, replies: &[u8], buffer: &mut [u8], at: usize) -> usize
     requires { ⌜ 8 * count ≤ length (now replies) ⌝ }
-    requires { ⌜ at + 30 * count ≤ length (now buffer) ⌝ }
-    requires { ⌜ number + count < 18446744073709551616 ⌝ }
+    requires { ⌜ at + length (replyLines count number (now replies)) ≤ length (now buffer) ⌝ }
+    requires { ⌜ number + count ≤ 18446744073709551616 ⌝ }
     ensures { λ r. ⌜ Wrote (now (buffer .entry)) at (replyLines count number (now (replies .entry))) (now (buffer .exit)) r ⌝ }
-    ensures { λ r. ⌜ r ≤ at + 30 * count ⌝ }
 {
     let mut at = at;
     let mut n: usize = 0;
@@ -74,9 +127,8 @@ fn lines(number: u64, count: usize, replies: &[u8], buffer: &mut [u8], at: usize
 // The line of the reply from a place on.
 fn reply_line(number: u64, replies: &[u8], from: usize, buffer: &mut [u8], at: usize) -> usize
     requires { ⌜ from + 8 ≤ length (now replies) ⌝ }
-    requires { ⌜ at + 30 ≤ length (now buffer) ⌝ }
+    requires { ⌜ at + length (lineOf number (getD (now replies) from 0) (twoIn (now replies) (from + 4))) ≤ length (now buffer) ⌝ }
     ensures { λ r. ⌜ Wrote (now (buffer .entry)) at (lineOf number (getD (now (replies .entry)) from 0) (twoIn (now (replies .entry)) (from + 4))) (now (buffer .exit)) r ⌝ }
-    ensures { λ r. ⌜ r ≤ at + 30 ⌝ }
 {
     let value = two(replies[from + 4], replies[from + 5]);
     line(number, replies[from], value, buffer, at)

@@ -1,73 +1,141 @@
-// The timing line: a word, and the fifteen numbers behind it.
+// A line of a word and numbers: the timing line, and those of the cursor and of window 2.
 ghost use mathlib.Core.Path.{_≡_};
+ghost use mathlib.Core.Bool.{false};
 ghost use mathlib.Core.List.{_++_};
 ghost use Prim.Native.Nat.{_+_, _≤_};
-ghost use lib.ListN.{length};
-ghost use Rattle.text.specs.Lent.{Wrote, placed, behind};
-ghost use Rattle.text.specs.Text.{decimal, decimalPlaces, numbersLine, space, spaced, timingLine};
+ghost use lib.Dec.{leb};
+ghost use lib.ListN.{length, getD};
+ghost use Rattle.text.specs.Lent.{Lined, Wrote, roomAnswer};
+ghost use Rattle.text.specs.Text.{cursorLine, numbersLine, signed, space, spaced, timingLine, window2Line};
 use crate::number::byte;
 use crate::number::places;
 use crate::number::spell;
+use crate::placed::Placed;
+use crate::placed::has_room;
+use file::Answer;
 use timing::Timing;
 
-// The word timing and the fifteen numbers, from a place of the buffer on, and the place behind the line; nothing is stored where there is no room.
-pub fn timing_line(buffer: &mut [u8], at: usize, timing: Timing) -> usize
-    ensures { λ r. ⌜ now (buffer .exit) ≡ placed (now (buffer .entry)) at (timingLine timing) ⌝ }
-    ensures { λ r. ⌜ r ≡ behind (now (buffer .entry)) at (timingLine timing) ⌝ }
+// The word timing and the fifteen numbers, from a place of the buffer on; code 11 where the line has no room.
+pub fn timing_line(buffer: &mut [u8], at: usize, timing: Timing) -> Placed
+    ensures { λ r. ⌜ Lined (roomAnswer (now (buffer .entry)) at (timingLine timing)) at (timingLine timing) (now (buffer .entry)) (now (buffer .exit)) r ⌝ }
 {
     let numbers = timing.numbers();
-    numbers_line(buffer, at, &numbers)
+    let minus: [bool; 0] = [];
+    numbers_line(buffer, at, b"timing", &minus, &numbers)
 }
 
-// The line of fifteen numbers.
-fn numbers_line(buffer: &mut [u8], at: usize, numbers: &[u32; 15]) -> usize
-    requires { ⌜ length (now numbers) ≡ 15 ⌝ }
-    ensures { λ r. ⌜ now (buffer .exit) ≡ placed (now (buffer .entry)) at (numbersLine (now (numbers .entry))) ⌝ }
-    ensures { λ r. ⌜ r ≡ behind (now (buffer .entry)) at (numbersLine (now (numbers .entry))) ⌝ }
+// The word cursor, and enabled, left, top, width, height and address, with a minus before left and before top where they are below 0.
+pub fn cursor_line(
+    buffer: &mut [u8],
+    at: usize,
+    left_minus: bool,
+    top_minus: bool,
+    numbers: [u32; 6],
+) -> Placed
+    ensures { λ r. ⌜ Lined (roomAnswer (now (buffer .entry)) at (cursorLine «left_minus» «top_minus» numbers)) at (cursorLine «left_minus» «top_minus» numbers) (now (buffer .entry)) (now (buffer .exit)) r ⌝ }
 {
-    let size = 7 + spaced_size(numbers);
-    if buffer.len() < size {
-        return at;
-    }
-    if buffer.len() - size < at {
-        return at;
-    }
-    let at = copy(b"timing", buffer, at);
-    let at = spell_each(numbers, buffer, at);
-    byte(b'\n', buffer, at)
+    let minus = [false, left_minus, top_minus];
+    numbers_line(buffer, at, b"cursor", &minus, &numbers)
 }
 
-// How many bytes the numbers take, each behind a space.
-fn spaced_size(numbers: &[u32; 15]) -> usize
-    requires { ⌜ length (now numbers) ≡ 15 ⌝ }
-    ensures { λ r. ⌜ (r ≡ length (spaced (now (numbers .entry)))) × (r ≤ 315) ⌝ }
+// The word window2, and enabled, format, left, top, right, bottom, empty, fault, and the BLT's first and last scanline.
+pub fn window2_line(buffer: &mut [u8], at: usize, numbers: [u32; 10]) -> Placed
+    ensures { λ r. ⌜ Lined (roomAnswer (now (buffer .entry)) at (window2Line numbers)) at (window2Line numbers) (now (buffer .entry)) (now (buffer .exit)) r ⌝ }
 {
-    let mut size = 0;
-    for i in 0..15 {
-        size += 1 + places(to_u64(numbers[i]));
+    let minus: [bool; 0] = [];
+    numbers_line(buffer, at, b"window2", &minus, &numbers)
+}
+
+// A word and numbers behind it, from a place of the buffer on.
+fn numbers_line(
+    buffer: &mut [u8],
+    at: usize,
+    word: &[u8],
+    minus: &[bool],
+    numbers: &[u32],
+) -> Placed
+    ensures { λ r. ⌜ Lined (roomAnswer (now (buffer .entry)) at (numbersLine (now (word .entry)) (now (minus .entry)) (now (numbers .entry)))) at (numbersLine (now (word .entry)) (now (minus .entry)) (now (numbers .entry))) (now (buffer .entry)) (now (buffer .exit)) r ⌝ }
+{
+    if !line_fits(word, minus, numbers, buffer.len(), at) {
+        return Placed {
+            answer: Answer::ShortBuffer,
+            end: at,
+        };
     }
-    size
+    let at = copy(word, buffer, at);
+    let at = spell_each(minus, numbers, buffer, at);
+    Placed {
+        answer: Answer::Done(0),
+        end: byte(b'\n', buffer, at),
+    }
+}
+
+// The word, the numbers and the newline have room from a place on.
+fn line_fits(word: &[u8], minus: &[bool], numbers: &[u32], room: usize, at: usize) -> bool
+    ensures { λ r. ⌜ r ≡ leb (at + length (numbersLine (now (word .entry)) (now (minus .entry)) (now (numbers .entry)))) room ⌝ }
+{
+    let around = word.len() + 1;
+    if has_room(room, at, around) {
+        return spaced_fit(minus, numbers, room - around - at);
+    }
+    false
+}
+
+// The numbers, each behind a space, take no more than so many bytes.
+fn spaced_fit(minus: &[bool], numbers: &[u32], room: usize) -> bool
+    ensures { λ r. ⌜ r ≡ leb (length (spaced (now (minus .entry)) (now (numbers .entry)))) room ⌝ }
+{
+    let mut left = room;
+    let mut i: usize = 0;
+    while i < numbers.len() {
+        let size = behind_size(mark(minus, i), to_u64(numbers[i]));
+        if left < size {
+            return false;
+        }
+        left -= size;
+        i += 1;
+    }
+    true
 }
 
 // The numbers, each behind a space, from a place on; the place behind them.
-fn spell_each(numbers: &[u32; 15], buffer: &mut [u8], at: usize) -> usize
-    requires { ⌜ length (now numbers) ≡ 15 ⌝ }
-    requires { ⌜ at + length (spaced (now numbers)) ≤ length (now buffer) ⌝ }
-    ensures { λ r. ⌜ Wrote (now (buffer .entry)) at (spaced (now (numbers .entry))) (now (buffer .exit)) r ⌝ }
+fn spell_each(minus: &[bool], numbers: &[u32], buffer: &mut [u8], at: usize) -> usize
+    requires { ⌜ at + length (spaced (now minus) (now numbers)) ≤ length (now buffer) ⌝ }
+    ensures { λ r. ⌜ Wrote (now (buffer .entry)) at (spaced (now (minus .entry)) (now (numbers .entry))) (now (buffer .exit)) r ⌝ }
 {
     let mut at = at;
-    for i in 0..15 {
-        at = spell_behind(to_u64(numbers[i]), buffer, at);
+    let mut i: usize = 0;
+    while i < numbers.len() {
+        at = spell_behind(mark(minus, i), to_u64(numbers[i]), buffer, at);
+        i += 1;
     }
     at
 }
 
+// A mark; one that is missing is off.
+fn mark(marks: &[bool], i: usize) -> bool
+    ensures { λ r. ⌜ r ≡ getD (now (marks .entry)) i false ⌝ }
+{
+    if i < marks.len() { marks[i] } else { false }
+}
+
+// How many bytes a number takes behind a space.
+fn behind_size(minus: bool, n: u64) -> usize
+    ensures { λ r. ⌜ r ≡ length (space ++ signed minus n) ⌝ }
+{
+    if minus { places(n) + 2 } else { places(n) + 1 }
+}
+
 // A space and a number behind it, from a place on; the place behind them.
-fn spell_behind(n: u64, buffer: &mut [u8], at: usize) -> usize
-    requires { ⌜ at + 1 + decimalPlaces n n ≤ length (now buffer) ⌝ }
-    ensures { λ r. ⌜ Wrote (now (buffer .entry)) at (space ++ decimal n) (now (buffer .exit)) r ⌝ }
+fn spell_behind(minus: bool, n: u64, buffer: &mut [u8], at: usize) -> usize
+    requires { ⌜ at + length (space ++ signed minus n) ≤ length (now buffer) ⌝ }
+    ensures { λ r. ⌜ Wrote (now (buffer .entry)) at (space ++ signed minus n) (now (buffer .exit)) r ⌝ }
 {
     let at = byte(b' ', buffer, at);
+    if minus {
+        let at = byte(b'-', buffer, at);
+        return spell(n, places(n), buffer, at);
+    }
     spell(n, places(n), buffer, at)
 }
 

@@ -2,3 +2,5 @@ pub mod Computed
 pub mod Cases
 pub mod Kept
 pub mod Writer
+pub mod Ranges
+pub mod HandsBack

@@ -140,7 +140,7 @@ reads-back f t a =
     rw (is-true (sound (writeTiming f t .file)) (timing-sound f t (accepted f t .0 a .is-sound)), timing-in f t a)
 
 -- a timing keeps the numbers that were read
-numbers-kept : (w : Bool) (registers : List ℕ) → numbersOf (timingOf (readNumbers (table w) registers)) ≡ readNumbers (table w) registers
+pub numbers-kept : (w : Bool) (registers : List ℕ) → numbersOf (timingOf (readNumbers (table w) registers)) ≡ readNumbers (table w) registers
 unfolding numbersOf timingOf readNumbers readFrom table
 numbers-kept true registers = refl
 numbers-kept false registers = refl

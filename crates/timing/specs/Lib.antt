@@ -1,3 +1,4 @@
 pub mod Table
+pub mod Ranges
 pub mod Timing
 pub mod Promises

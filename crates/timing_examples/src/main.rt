@@ -1,7 +1,6 @@
 // 01's examples P9 to P11, run over the compiled code and printed.
 ghost use mathlib.Core.Path.{_≡_};
 ghost use Prim.Native.Nat.{_+_, _^_, _<_};
-ghost use lib.IntN.{natAbs};
 ghost use Rattle.paper.specs.Examples.{blanked as blankedNumbers, mode12, started};
 ghost use Rattle.timing.specs.Timing.{timingOf};
 use file::File;
@@ -63,7 +62,7 @@ fn blanked(clocks: u16) -> Timing
 
 fn print_timing(file: File) {
     let mut line = [0u8; 512];
-    let end = text::timing_line(&mut line, 0, read_timing(file).timing);
+    let end = text::timing_line(&mut line, 0, read_timing(file).timing).end;
     io::write_all(STDOUT_FILENO, &line[..end]);
 }
 
@@ -76,30 +75,19 @@ fn print_written(file: File, timing: Timing) {
     print_timing(written.file);
 }
 
-// How far a number is from 0.
-fn magnitude(n: i16) -> u64
-    ensures { λ r. ⌜ r ≡ natAbs n ⌝ }
-{
-    if n < 0 {
-        (0 - n as i64) as u64
-    } else {
-        n as u64
-    }
-}
-
 fn print_signed(n: i16) {
     if n < 0 {
         io::write_all(STDOUT_FILENO, b"-");
     }
-    io::print_decimal(STDOUT_FILENO, magnitude(n));
+    io::print_decimal(STDOUT_FILENO, geometry::magnitude(n) as u64);
 }
 
 // The cursor's left edge and shown width.
 fn print_cursor(file: File) {
     let cursor = geometry::read_geometry(file).cursor;
-    print_signed(cursor.left);
+    print_signed(cursor.left.0);
     io::write_all(STDOUT_FILENO, b" ");
-    io::print_decimal(STDOUT_FILENO, cursor.width as u64);
+    io::print_decimal(STDOUT_FILENO, cursor.width.0 as u64);
     io::write_all(STDOUT_FILENO, b"\n");
 }
 

@@ -6,3 +6,4 @@ pub mod RunLoop
 pub mod RunEnds
 pub mod BytesAndRecords
 pub mod RunInPieces
+pub mod Codes

@@ -10,7 +10,8 @@ use Rattle.file.specs.declared.registers.File.{File}
 use Rattle.file.specs.Sound.{sound}
 use Rattle.access.specs.declared.record.Item.{Item}
 use Rattle.access.specs.Access.{accessItem, recordIn, replyTo}
-use Rattle.trace.specs.Records.{items, itemCount, replyBytes}
+use Rattle.trace.specs.declared.replying.Replied.{Replied}
+use Rattle.trace.specs.Records.{itemOf, items, itemCount, replyBytes}
 
 -- the file after the items of a list
 unfoldable pub fileAfter : File → List Item → File
@@ -26,6 +27,12 @@ answers f (i ∷ is) = accessItem f i .answer ∷ answers (accessItem f i .file)
 unfoldable pub replies : File → List Item → List ℕ
 replies f [] = []
 replies f (i ∷ is) = replyBytes (replyTo (recordIn i) (accessItem f i .answer)) ++ replies (accessItem f i .file) is
+
+-- one access as bytes: the record of the first 8, or a fragment, and its reply
+unfoldable pub accessBytes : File → List ℕ → Replied
+accessBytes f bytes =
+    let done = accessItem f (itemOf (take 8 bytes)) in
+    record { file = done .file; reply = replyBytes (done .reply) }
 
 -- what a run leaves: its answer, the new file, the count, the reply buffer, and the part of the trace not yet read
 pub record RunLeft : Type 0 where

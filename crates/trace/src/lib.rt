@@ -1,7 +1,10 @@
-// A trace: records and replies as bytes, and a run over them.
+// A trace: records and replies as bytes, an access by them, and a run over them.
+mod replying;
 mod running;
 mod wire;
 
+pub use replying::Replied;
+pub use replying::access_bytes;
 pub use running::Ran;
 pub use running::run;
 pub use wire::item_of;

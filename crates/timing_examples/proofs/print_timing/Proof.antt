@@ -5,7 +5,7 @@ use Rattle.timing_examples.proofs.print_timing.Statement.{statement}
 use Rattle.timing_examples.proofs.print_timing.Tie as tie
 
 array-share-prefix-line : tie.Need-array-share-prefix-line
-array-share-prefix-line c = rw (c .before .timing-line .ensures .0, c .before .timing-line .ensures .1) (behind-within _ _)
+array-share-prefix-line c = behind-within (c .before .timing-line .ensures)
 
 slice-aggregate-write-all : tie.Need-slice-aggregate-write-all
 slice-aggregate-write-all c = all-taken _ _ (array-share-prefix-line (c .before))

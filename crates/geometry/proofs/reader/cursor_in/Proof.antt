@@ -29,7 +29,8 @@ unfolding cursorIn register mark bit bits
 returns c =
     let left = c .before .before .before .before .before .less-preset in
     let top = c .before .before .before .less-preset2 in
-    simp div-one (cc (toZ-ofZ w16 (left .result) (record { sfits = left .ok }), toZ-ofZ w16 (top .result) (record { sfits = top .ok })))
+    rw (toZ-ofZ w16 (left .result) (record { sfits = left .ok }), toZ-ofZ w16 (top .result) (record { sfits = top .ok }), left .ensures, top .ensures, c .before .before .shown .ensures, c .before .shown2 .ensures)
+    (simp div-one)
 
 pub cursor-in-spec : {M : Type 1} → statement M
 cursor-in-spec =

@@ -1,5 +1,6 @@
 -- `restore` meets its contract. Assumes nothing.
 use mathlib.Core.Path.{refl, sym, _∙_}
+use Prim.Native.Nat.{_*_, _≤_}
 use native.Mathlib.Omega.{arith}
 use borrow.Author.Needs.{needs}
 use borrow.Author.Tests.{not-true, not-false}
@@ -50,10 +51,12 @@ returns-3 c =
     let taken = c .before .before .before .before .before .before .before .before .before in
     let planned = taken .before .before .before .before in
     let start = planned .before .before .before .before .before in
+    let wrote = plan-written (planned .plan .result) (planned .plan .ensures) (taken .before .code .ensures) (taken .if2 .left) in
+    let enough : 8 * planned .plan .result .count ≤ 8192 = omega (arith, written-few wrote) in
     absurd (c .before .before .all-done .ensures .1 (not-true _ (c .before .if3 .taken))
     (λ k h. rw (c .before .before .before .before .before .before .run .ensures .1)
-    (run-codes (plan-written (planned .plan .result) (planned .plan .ensures) (taken .before .code .ensures) (taken .if2 .left))
-    (start .args .current) (is-file (start .args .current) _ (start .good .0)) (sym (planned .before .before .before .is-sound .ensures) ∙ not-false _ (planned .before .before .if1 .left)) _ refl k h)))
+    (run-codes wrote
+    (start .args .current) (is-file (start .args .current) _ (start .good .0)) (sym (planned .before .before .before .is-sound .ensures) ∙ not-false _ (planned .before .before .if1 .left)) _ enough k h)))
 
 returns-4 : tie.Need-returns-4
 returns-4 c =
@@ -62,11 +65,13 @@ returns-4 c =
     let start = planned .before .before .before .before .before in
     let current = is-file (start .args .current) _ (start .good .0) in
     let ran = c .before .before .before .before .before .run in
+    let wrote = plan-written (planned .plan .result) (planned .plan .ensures) (taken .before .code .ensures) (taken .if2 .left) in
+    let enough : 8 * planned .plan .result .count ≤ 8192 = omega (arith, written-few wrote) in
     restore-done (start .args .current) (sym (planned .before .before .before .is-sound .ensures) ∙ not-false _ (planned .before .before .if1 .left)) (planned .plan .result) (planned .plan .ensures) (taken .before .code .ensures) (taken .if2 .left)
     current (ran .result .file)
     (ran .ensures .0 .1
-    ∙ run-ends (plan-written (planned .plan .result) (planned .plan .ensures) (taken .before .code .ensures) (taken .if2 .left)) (start .args .current)
-    current (sym (planned .before .before .before .is-sound .ensures) ∙ not-false _ (planned .before .before .if1 .left)) _ refl)
+    ∙ run-ends wrote (start .args .current)
+    current (sym (planned .before .before .before .is-sound .ensures) ∙ not-false _ (planned .before .before .if1 .left)) _ enough)
 
 pub restore-spec : {M : Type 1} → statement M
 restore-spec =

@@ -1,30 +1,37 @@
--- `run_input` is safe and ends: the measure is the number of turns that are left. Its file is that after what was read. Assumes nothing.
+-- `run_input` is safe and ends: the measure is the number of turns that are left. Turns lead to its course. Assumes nothing.
+use Prim.Native.Nat.{_^_, _<_}
+use mathlib.Core.Path.{_≡_}
+use native.Mathlib.Omega.{arith}
 use borrow.Author.Needs.{needs}
-use Rattle.shell.specs.Parts.{Came}
-use Rattle.shell.proofs.Turns.{came-none, came-on, came-sound}
+use Rattle.shell.proofs.Turns.{Coming, came, coming-ended, coming-none, coming-on, more-sound, more-unfailed}
 use Rattle.shell.proofs.course.run_input.Statement.{statement}
 use Rattle.shell.proofs.course.run_input.Tie as tie
 
 abbrev Inv-loop : tie.InvT-loop
-Inv-loop program prints trace₀ replies₀ lines₀ course₀ turns₀ trace replies lines course turns = Came course
+Inv-loop program prints trace₀ replies₀ lines₀ course₀ turns₀ trace replies lines course turns = Coming prints turns course
 
 abbrev μ-loop : tie.MeasureT-loop
 μ-loop program prints trace₀ replies₀ lines₀ course₀ turns₀ trace replies lines course turns = turns
 
 loop-holds : tie.Need-loop-holds Inv-loop μ-loop
-loop-holds c = came-none _ (c .power-on .ensures)
+loop-holds c = coming-none _ _ (c .power-on .ensures)
 
 run-some-requires : tie.Need-run-some-requires Inv-loop μ-loop
-run-some-requires c κs = came-sound (c .before .before .before .before .before .loop .inv)
+run-some-requires c κs = more-sound (c .before .before .before .before .before .loop .inv .led) (more-unfailed (c .before .before .before .before .before .loop .inv .led) (c .before .before .before .if1 .taken))
 
 loop-again : tie.Need-loop-again Inv-loop μ-loop
-loop-again c = came-on _ _ (c .before .before .before .before .before .before .loop .inv) (c .before .before .before .before .if1 .taken) (c .run-some .ensures)
+loop-again c =
+    let turn = c .before .run-some in
+    let low : turn .result .course .number < 2 ^ 64 = omega (arith, turn .ok) in
+    coming-on _ _ _ _ _ (turn .result) (c .before .before .before .before .before .before .before .loop .inv) (c .before .before .before .before .before .if1 .taken) (omega arith) low (turn .ensures .1)
 
 returns : tie.Need-returns Inv-loop μ-loop
-returns c = c .before .before .loop .inv
+returns c = came (c .before .before .loop .inv) (c .if1 .left)
 
 returns-2 : tie.Need-returns-2 Inv-loop μ-loop
-returns-2 c = c .before .loop .inv
+returns-2 c =
+    let none : c .before .loop .turns ≡ 0 = omega arith in
+    came (c .before .loop .inv) (coming-ended (rw none at (c .before .loop .inv)))
 
 pub run-input-spec : {M : Type 1} → statement M
 run-input-spec =

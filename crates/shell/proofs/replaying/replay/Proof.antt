@@ -1,12 +1,14 @@
 -- `replay` writes the timing line of a sound file. Assumes nothing.
 use native.Mathlib.Omega.{arith}
 use borrow.Author.Needs.{needs}
-use Rattle.shell.proofs.Turns.{came-sound}
+use Rattle.text.specs.Replay.{timingMost}
+use Rattle.shell.proofs.Turns.{more-sound}
 use Rattle.shell.proofs.replaying.replay.Statement.{statement}
 use Rattle.shell.proofs.replaying.replay.Tie as tie
 
 timing-end-requires : tie.Need-timing-end-requires
-timing-end-requires c κs = (came-sound (c .before .before .run-input .ensures), omega arith)
+unfolding timingMost
+timing-end-requires c κs = (more-sound (c .before .before .run-input .ensures .turns) (c .before .if1 .left), omega arith)
 
 pub replay-spec : {M : Type 1} → statement M
 replay-spec =

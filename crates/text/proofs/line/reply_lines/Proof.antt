@@ -1,38 +1,55 @@
 -- `line::reply_lines` meets its contract. Assumes nothing.
-use Prim.Native.Nat.{_/_}
-use mathlib.Core.Path.{sym, _∙_}
+use Prim.Native.Nat.{ℕ, _+_, _≤_}
+use mathlib.Core.Bool.{true}
+use mathlib.Core.Path.{_≡_, refl, sym, _∙_}
 use native.Mathlib.Omega.{arith}
 use borrow.Author.Needs.{needs}
+use borrow.Author.Tests.{leb-true, not-false, not-true}
 use denote.Ref.{now}
-use lib.ListN.{length}
-use Rattle.text.specs.Text.{linesFit, replyLines}
-use Rattle.text.proofs.Replies.{lines-room}
-use Rattle.text.proofs.Stores.{unplaced-if, whole-if}
+use Rattle.file.specs.declared.answer.Answer.the-variants.{OutOfRange}
+use Rattle.file.specs.Answers.{codeOf, refused}
+use Rattle.text.specs.Text.{allLines, linesAnswer, numbersFit}
+use Rattle.text.proofs.Stores.{no-room, room, unplaced}
 use Rattle.text.proofs.line.reply_lines.Statement.{statement}
 use Rattle.text.proofs.line.reply_lines.Tie as tie
 
-lines-requires : tie.Need-lines-requires
-lines-requires c κs =
-    let args = c .before .before .before .before .before .args in
-    let room =
-    lines-room (length (now (args .buffer))) (args .at) (args .number) (length (now (args .replies)) / 8) (sym (c .before .before .lines-fit .ensures) ∙ c .before .if1 .taken) in
-    (omega arith, room)
-
 returns : tie.Need-returns
+unfolding linesAnswer refused codeOf
 returns c =
-    let args = c .before .before .before .before .before .before .before .before .args in
-    let count = length (now (args .replies)) / 8 in
-    let test = sym (c .before .before .before .before .before .lines-fit .ensures) ∙ c .before .before .before .before .if1 .taken in
-    let room = lines-room (length (now (args .buffer))) (args .at) (args .number) count test in
-    let wrote = c .before .before .lines .ensures in
-    whole-if (linesFit (length (now (args .buffer))) (args .at) (args .number) count) (now (args .buffer)) (args .at) (replyLines count (args .number) (now (args .replies))) test (omega arith) (wrote .0)
+    let args = c .before .before .before .before .args in
+    unplaced (now (args .buffer)) (args .at) (allLines (args .number) (now (args .replies))) OutOfRange (rw (sym (c .before .numbers-fit .ensures) ∙ not-true _ (c .if1 .taken)) refl) refl
+
+fitted : (number count : ℕ) → numbersFit number count ≡ true → number + count ≤ 18446744073709551616
+unfolding numbersFit
+fitted number count e = leb-true _ _ e
+
+lines-fit-requires : tie.Need-lines-fit-requires
+lines-fit-requires c κs = (omega arith, fitted _ _ (sym (c .before .numbers-fit .ensures) ∙ not-false _ (c .if1 .left)))
+
+lines-requires : tie.Need-lines-requires
+lines-requires c κs = (
+  omega arith,
+  (
+    leb-true _ _ (sym (c .before .before .lines-fit .ensures) ∙ c .before .if2 .taken),
+    fitted _ _ (sym (c .before .before .before .before .numbers-fit .ensures) ∙ not-false _ (c .before .before .before .if1 .left)),
+  ),
+)
 
 returns-2 : tie.Need-returns-2
+unfolding linesAnswer allLines
 returns-2 c =
-    let args = c .before .before .before .before .args in
-    let count = length (now (args .replies)) / 8 in
-    let test = sym (c .before .lines-fit .ensures) ∙ c .if1 .left in
-    unplaced-if (linesFit (length (now (args .buffer))) (args .at) (args .number) count) (now (args .buffer)) (args .at) (replyLines count (args .number) (now (args .replies))) test
+    let args = c .before .before .before .before .before .before .before .before .before .before .args in
+    rw (sym (c .before .before .before .before .before .before .before .numbers-fit .ensures) ∙ not-false _ (c .before .before .before .before .before .before .if1 .left))
+    (room (now (args .buffer)) (args .at) (allLines (args .number) (now (args .replies))) refl (sym (c .before .before .before .before .before .lines-fit .ensures) ∙ c .before .before .before .before .if2 .taken) (c .before .before .lines .ensures))
+
+returns-3 : tie.Need-returns-3
+unfolding linesAnswer allLines
+returns-3 c =
+    let args = c .before .before .before .before .before .before .args in
+    rw (sym (c .before .before .before .numbers-fit .ensures) ∙ not-false _ (c .before .before .if1 .left))
+    (no-room (now (args .buffer)) (args .at) (allLines (args .number) (now (args .replies))) refl (sym (c .before .lines-fit .ensures) ∙ c .if2 .left))
 
 pub reply-lines-spec : {M : Type 1} → statement M
-reply-lines-spec = tie.close (tie.spec (λ c κs. search needs) lines-requires (λ c. search needs) returns returns-2)
+reply-lines-spec =
+    tie.close
+    (tie.spec (λ c κs. search needs) returns lines-fit-requires lines-requires (λ c. search needs) returns-2 returns-3)

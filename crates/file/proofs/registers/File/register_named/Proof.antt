@@ -8,7 +8,7 @@ use Rattle.file.proofs.registers.File.register_named.Tie as tie
 
 returns : tie.Need-returns
 unfolding readNamed
-returns c = c .register .ensures ∙ ap (λ (n : ℕ). readRegister (c .before .before .before .args .self) n) (c .before .number-named .ensures)
+returns c = c .register .ensures ∙ ap (λ (n : ℕ). readRegister (c .before .before .before .args .self) n) (c .before .number-of .ensures)
 
 pub register-named-spec : {M : Type 1} → statement M
 register-named-spec = tie.close (tie.spec (λ c κs. search needs) (λ c κs. search needs) returns)
