@@ -69,7 +69,7 @@ fn look(what: u8, file: File, buffer: &mut [u8; 8192]) -> u64 {
         return counted(plan::plan(file, buffer).count);
     }
     if what == b's' {
-        return counted(plan::restore(File::power_on(), file, buffer).count);
+        return counted(restoring::restore(File::power_on(), file, buffer).count);
     }
     placed(read_timing(file).timing.screen_start)
 }

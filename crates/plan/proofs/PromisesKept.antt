@@ -1,4 +1,4 @@
--- What a plan and a restore promise, from what the code did. Assumes nothing.
+-- What a plan promises, from what the code did, and what its run comes to. Assumes nothing.
 use Prim.Native.Nat.{ℕ, _+_, _*_, _/_, _≤_, _<_}
 use mathlib.Core.Path.{_≡_, refl, sym, ap, ap₂, _∙_, subst}
 use mathlib.Core.Bool.{true, false, true≢false}
@@ -7,7 +7,7 @@ use native.Mathlib.Omega.{arith}
 use borrow.Author.Tests.{eq-eqb, ne-eqb, le-leb, lt-leb}
 use lib.ListN.{getD, length, take, drop, length-append, length-map}
 use lib.Seq.{sets-eq, take-at}
-use Rattle.bits.proofs.Test.{by-test, passes}
+use Rattle.bits.proofs.Test.{passes}
 use Rattle.file.specs.declared.answer.Answer.{Answer}
 use Rattle.file.specs.declared.answer.Answer.the-variants.{Done, ShortBuffer, NotSound, NotBeforeRed}
 use Rattle.file.specs.declared.registers.File.{File}
@@ -17,17 +17,16 @@ use Rattle.access.specs.declared.record.Item.the-variants.{Whole}
 use Rattle.trace.specs.Records.{itemCount, items}
 use Rattle.trace.specs.Run.{fileAfter, runCount, ran, run}
 use Rattle.plan.specs.declared.planning.Planned.{Planned}
-use Rattle.plan.specs.declared.restoring.Restored.{Restored}
 use Rattle.plan.specs.Appended.{Appended}
 use Rattle.roads.specs.Plan.{planRecords}
-use Rattle.plan.specs.Promises.{PlanKept, RestoreKept}
-use Rattle.roads.specs.Refusals.{planAnswer, restoreAnswer}
+use Rattle.plan.specs.Promises.{PlanKept}
+use Rattle.roads.specs.Refusals.{planAnswer}
 use Rattle.roads.specs.Restores.{traceOf, IsFile, RunsInto, PlanWritten}
 use Rattle.plan.proofs.Appending.{trace-count}
 use Rattle.roads.proofs.PlanCount.{plan-room}
 use Rattle.roads.proofs.AcceptedFits.{trace-items}
 use Rattle.roads.proofs.RepliesAccepted.{codes-zero}
-use Rattle.roads.proofs.PlanServes.{plan-serves, planned-runs, never-fourteen}
+use Rattle.roads.proofs.PlanServes.{plan-serves}
 
 -- ---- a plan
 
@@ -142,77 +141,9 @@ module _ {w : File} {before after : List ℕ} {count : ℕ} (p : PlanWritten w b
         (codes-zero (map Whole (p .records)) f (drop (8 * count) places) (runs .allDone) k
         (omega (arith, length-map (p .records) Whole, p .counted)))
 
--- ---- a restore
-
-module _ (f : File) {w : File} {before : List ℕ} where
-  restore-refused : {after : List ℕ} (a : Answer) → a ≡ restoreAnswer f w (length before) → refused a ≡ true → after ≡ before
-      → (r : Restored) → r ≡ record { answer = a; count = 0; file = f } → RestoreKept f w before after r
-  unfolding items fileAfter
-  restore-refused {after} a e t same r q =
-      subst (λ (x : Restored). RestoreKept f w before after x) (sym q)
-      (record {
-        answered = e;
-        made = λ n. absurd (true≢false (sym t ∙ n));
-        ran = refl;
-        restored = λ n. absurd (true≢false (sym t ∙ n));
-        none = λ _. refl;
-        back = λ _. refl;
-        kept = λ _. same;
-      })
-
-  pub restore-unsound : sound f ≡ false → (r : Restored) → r ≡ record { answer = NotSound; count = 0; file = f } → RestoreKept f w before before r
-  unfolding restoreAnswer refused codeOf
-  restore-unsound s = restore-refused NotSound (rw s) refl refl
-
-  module _ (s : sound f ≡ true) {after : List ℕ} (p : Planned) (done : PlanKept w before after p) where
-    as-planned : p .answer ≡ restoreAnswer f w (length before)
-    unfolding restoreAnswer
-    as-planned = done .answered ∙ rw s
-
-    pub restore-unplanned : {code : ℕ} → code ≡ codeOf (p .answer) → 2 ≤ code → (r : Restored) → r ≡ record { answer = p .answer; count = 0; file = f }
-        → RestoreKept f w before after r
-    unfolding refused
-    restore-unplanned e large =
-        let no = le-leb 2 (codeOf (p .answer)) (rw e at large) in
-        restore-refused (p .answer) as-planned no (done .kept no)
-
-    pub restore-done : {code : ℕ} → code ≡ codeOf (p .answer) → code < 2 → IsFile f → (g : File) → g ≡ w
-        → RestoreKept f w before after (record { answer = p .answer; count = p .count; file = g })
-    unfolding refused
-    restore-done same small ff g e =
-        let yes = lt-leb 2 (codeOf (p .answer)) (rw same at small) in
-        record {
-          answered = as-planned;
-          made = done .made;
-          ran = e ∙ sym (planned-runs w before after (p .count) (done .made yes) f ff (passes (sound f) s) .1);
-          restored = λ _. e;
-          none = λ n. absurd (true≢false (sym n ∙ yes));
-          back = λ n. absurd (true≢false (sym n ∙ yes));
-          kept = λ n. absurd (true≢false (sym n ∙ yes));
-        }
-
--- ---- what the promises settle
-
--- 14 is never answered
-pub kept-never-fourteen : (f w : File) (before after : List ℕ) (r : Restored) → RestoreKept f w before after r
-    → codeOf (r .answer) ≡ 14 → ⊥
-kept-never-fourteen f w before after r p e = never-fourteen f w (length before) (sym (ap codeOf (p .answered)) ∙ e)
+-- ---- what the promise settles
 
 -- two plans of one file and buffer answer the same; their bytes and counts may differ, since several plans serve
 pub plans-alike : (w : File) (before after other : List ℕ) (p q : Planned) → PlanKept w before after p → PlanKept w before other q
     → p .answer ≡ q .answer
 plans-alike w before after other p q s t = s .answered ∙ sym (t .answered)
-
--- and two restores answer the same and end in the same file
-pub restores-alike : (f w : File) (before after other : List ℕ) (p q : Restored) → RestoreKept f w before after p → RestoreKept f w before other q
-    → (p .answer ≡ q .answer) × (p .file ≡ q .file)
-restores-alike f w before after other p q s t = (same, files)
-  where
-    same : p .answer ≡ q .answer
-    same = s .answered ∙ sym (t .answered)
-
-    files : p .file ≡ q .file
-    files =
-        by-test (refused (p .answer))
-        (λ e. s .back e ∙ sym (t .back (sym (ap refused same) ∙ e)))
-        (λ e. s .restored e ∙ sym (t .restored (sym (ap refused same) ∙ e)))

@@ -1,4 +1,4 @@
--- What a plan and a restore promise, for every input.
+-- What a plan promises, for every input, and its run.
 -- Assumes nothing.
 use Prim.Native.Nat.{ℕ, _*_, _<_}
 use mathlib.Core.Path.{_≡_}
@@ -9,11 +9,9 @@ use Rattle.file.specs.declared.answer.Answer.the-variants.{Done}
 use Rattle.file.specs.declared.registers.File.{File}
 use Rattle.file.specs.Answers.{refused}
 use Rattle.trace.specs.declared.running.Ran.{Ran}
-use Rattle.trace.specs.Records.{items}
-use Rattle.trace.specs.Run.{fileAfter, run}
+use Rattle.trace.specs.Run.{run}
 use Rattle.plan.specs.declared.planning.Planned.{Planned}
-use Rattle.plan.specs.declared.restoring.Restored.{Restored}
-use Rattle.roads.specs.Refusals.{planAnswer, restoreAnswer}
+use Rattle.roads.specs.Refusals.{planAnswer}
 use Rattle.roads.specs.Restores.{PlanWritten}
 
 -- a plan, by what the buffer holds before and after: 'Plan: 12, 13, 11'; which plan it is stays open
@@ -21,16 +19,6 @@ pub record PlanKept (w : File) (before after : List ℕ) (r : Planned) : Type 0 
   pub answered : r .answer ≡ planAnswer w (length before)
   pub made : refused (r .answer) ≡ false → PlanWritten w before after (r .count)
   pub none : refused (r .answer) ≡ true → r .count ≡ 0
-  pub kept : refused (r .answer) ≡ true → after ≡ before
-
--- a restore: '12, 13, 11', never 14 by what `made` says of the records, and 'the file the run ends in', which is the wanted one
-pub record RestoreKept (f w : File) (before after : List ℕ) (r : Restored) : Type 0 where
-  pub answered : r .answer ≡ restoreAnswer f w (length before)
-  pub made : refused (r .answer) ≡ false → PlanWritten w before after (r .count)
-  pub ran : r .file ≡ fileAfter f (items (r .count) after)
-  pub restored : refused (r .answer) ≡ false → r .file ≡ w
-  pub none : refused (r .answer) ≡ true → r .count ≡ 0
-  pub back : refused (r .answer) ≡ true → r .file ≡ f
   pub kept : refused (r .answer) ≡ true → after ≡ before
 
 -- what `run` promises of a trace and a reply buffer, by what the buffer holds before and after

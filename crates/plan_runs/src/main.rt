@@ -7,7 +7,7 @@ use file::State;
 use libc::STDOUT_FILENO;
 use paper::set_register;
 use plan::plan;
-use plan::restore;
+use restoring::restore;
 
 // What every buffer is filled with before.
 const FILL: u8 = 0xA5;

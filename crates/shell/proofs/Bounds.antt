@@ -3,7 +3,7 @@ use Prim.Native.Nat.{ℕ, _≤_}
 use mathlib.Core.List.{List}
 use mathlib.Core.Path.{_≡_}
 use native.Mathlib.Omega.{arith}
-use lib.ListN.{length, take, length-take}
+use lib.ListN.{length, length-take}
 use Rattle.io.specs.Counts.{Counts}
 use Rattle.bits.proofs.Test.{by-test}
 use Rattle.file.specs.declared.registers.File.{File}
@@ -16,10 +16,10 @@ use Rattle.plan.specs.Promises.{PlanKept}
 pub counts : (l : List ℕ) (n : ℕ) → n ≤ length l → Counts n l
 counts l n h = (h, rw length-take (omega (arith, h)))
 
--- a buffer of 8,192 bytes has at most 1,024 records
-pub part-within : (buffer : List ℕ) (n : ℕ) → length buffer ≡ 8192 → itemCount (take n buffer) ≤ 1024
+-- 8,192 bytes have at most 1,024 records
+pub part-within : (part : List ℕ) → length part ≤ 8192 → itemCount part ≤ 1024
 unfolding itemCount
-part-within buffer n h = rw length-take (omega (arith, h))
+part-within part h = omega (arith, h)
 
 pub plan-within : (w : File) (before after : List ℕ) (r : Planned) → PlanKept w before after r → r .count ≤ 1024
 plan-within w before after r k =

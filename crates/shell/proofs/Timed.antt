@@ -16,10 +16,10 @@ use Rattle.timing.specs.declared.Read.{Read}
 use Rattle.timing.specs.Timing.{readTiming, timingIn}
 use Rattle.text.specs.declared.placed.Placed.{Placed}
 use Rattle.text.specs.Lent.{Lined, behindBy, fits, placedBy, roomAnswer}
-use Rattle.text.specs.Replay.{timingMost}
+use Rattle.replaying.specs.Replay.{timingMost}
 use Rattle.text.specs.Text.{timingLine}
-use Rattle.text.proofs.Timed.{line-short}
-use Rattle.text.proofs.Whole.{timing-read}
+use Rattle.replaying.proofs.Timed.{line-short}
+use Rattle.replaying.proofs.Whole.{timing-read}
 use Rattle.shell.proofs.Bounds.{counts}
 
 module _ (f : File) (s : T (sound f)) (t : Read) (e : t ≡ readTiming f) (before after : List ℕ) (room : timingMost ≤ length before) (r : Placed)

@@ -20,18 +20,18 @@ use Rattle.timing.specs.Timing.{timingIn}
 use Rattle.trace.specs.Records.{items, itemCount}
 use Rattle.trace.specs.declared.running.Ran.{Ran}
 use Rattle.trace.specs.Run.{fileAfter, replies, run}
-use Rattle.text.specs.declared.replaying.Part.{Part}
+use Rattle.replaying.specs.declared.Part.{Part}
 use Rattle.text.specs.Lent.{behindBy, placedBy}
-use Rattle.text.specs.Replay.{PartReplayed, afterPart, partAnswer, partLines, partReplies, recordsFit}
-use Rattle.text.specs.Text.{numbersFit, recordLines, replayed, replayedFrom, timingLine}
-use Rattle.text.proofs.PartRuns.{all-run, both-fit, done, file-after, filled-with, replies-long}
-use Rattle.text.proofs.Pieces.{file-parts, lines-parts, parts-count}
-use Rattle.text.proofs.Whole.{part-sound}
+use Rattle.replaying.specs.Replay.{PartReplayed, afterPart, partAnswer, partLines, partReplies, recordsFit, recordLines, replayed, replayedFrom}
+use Rattle.text.specs.Text.{numbersFit, timingLine}
+use Rattle.replaying.proofs.PartRuns.{all-run, both-fit, done, file-after, filled-with, replies-long}
+use Rattle.replaying.proofs.Pieces.{file-parts, lines-parts, parts-count}
+use Rattle.replaying.proofs.Whole.{part-sound}
 use Rattle.io.specs.Counts.{Counts}
 use Rattle.shell.specs.declared.course.Course.{Course}
 use Rattle.shell.specs.declared.course.Turn.{Turn}
-use Rattle.shell.specs.Parts.{Came, Parted, Turned, Turns, asked, beginning, courseAfter}
-use Rattle.shell.specs.Parts.Turns.{none, then}
+use Rattle.shell.specs.Parts.{Came, Parted, Turned, Turns, asked, beginning, courseAfter, failedAfter}
+use Rattle.shell.specs.Parts.Turns.{none, then, unread}
 use Rattle.shell.proofs.Bounds.{counts}
 
 -- a part that was run: its lines are asked for, or they aren't
@@ -97,46 +97,40 @@ pub handed : {prints : Bool} {before : Course} {part replies₀ replies lines₀
 handed {prints} {before} {part} {replies₀} {replies} {lines₀} {lines} {r} t =
     ap (take (r .end)) (t .printed) ∙ take-at (asked prints (before .number) (before .file) part) (drop (r .end) lines₀) (r .end) (sym (t .end))
 
-module _ (before : Course) (prints : Bool) where
-  -- nothing was read: a failure
-  pub turn-unread : (trace replies lines : List ℕ)
-      → Turned before prints (take 0 trace) replies replies lines lines (record { size = 0; end = 0; course = record { file = before .file; number = before .number; more = false; failed = true } })
-  unfolding courseAfter partReplies itemCount items replies
-  turn-unread trace replies lines =
-      let no = none-asked prints (before .number) (before .file) in
-      record { end = rw no refl; replied = refl; printed = rw no refl; course = refl }
+-- a part that was run and handed to be written
+module _ (before : Course) (prints : Bool) (part replies₀ replies lines₀ lines : List ℕ) (p : Part)
+    (parted : Parted (before .file) (before .number) prints part replies₀ replies lines₀ lines p) (end : ℕ) (same : end ≡ p .end) where
+  turned : (r : Turn) → r .end ≡ end → r .course ≡ courseAfter (r .course .failed) before part
+      → Turned before prints part replies₀ replies lines₀ lines r
+  turned r ends course =
+      let all : r .end ≡ p .end = ends ∙ same in
+      record {
+        end = all ∙ parted .end;
+        replied = parted .replied;
+        printed = parted .printed ∙ ap (λ (k : ℕ). asked prints (before .number) (before .file) part ++ drop k lines₀) (sym all);
+        course = course;
+      }
 
-  module _ (part replies₀ replies lines₀ lines : List ℕ) (p : Part)
-      (parted : Parted (before .file) (before .number) prints part replies₀ replies lines₀ lines p) where
-    -- the lines were not written: a failure
-    pub turn-unwritten : (size end : ℕ) → end ≡ p .end
-        → Turned before prints part replies₀ replies lines₀ lines (record { size = size; end = end; course = record { file = before .file; number = before .number; more = false; failed = true } })
-    unfolding courseAfter
-    turn-unwritten size end same =
-        record {
-          end = same ∙ parted .end;
-          replied = parted .replied;
-          printed = parted .printed ∙ ap (λ (k : ℕ). asked prints (before .number) (before .file) part ++ drop k lines₀) (sym same);
-          course = refl;
-        }
+  -- the lines were not written
+  pub turn-unwritten : (course : Course) → course ≡ failedAfter before
+      → Turned before prints part replies₀ replies lines₀ lines (record { end = end; course = course })
+  unfolding courseAfter failedAfter
+  turn-unwritten course e = turned (record { end = end; course = course }) refl (rw e refl)
 
-    -- a part that was read, run and handed to be written
-    pub turn-done : (size end : ℕ) → end ≡ p .end → size ≡ length part
-        → Turned before prints part replies₀ replies lines₀ lines
-        (record { size = size; end = end; course = record { file = p .file; number = before .number + p .count; more = eqb size 8192; failed = false } })
-    unfolding courseAfter
-    turn-done size end same long =
-        record {
-          end = same ∙ parted .end;
-          replied = parted .replied;
-          printed = parted .printed ∙ ap (λ (k : ℕ). asked prints (before .number) (before .file) part ++ drop k lines₀) (sym same);
-          course = rw (parted .file, parted .count, long) refl;
-        }
+  -- they were
+  pub turn-done : (more : Bool) → more ≡ eqb (length part) 8192
+      → Turned before prints part replies₀ replies lines₀ lines
+      (record { end = end; course = record { file = p .file; number = before .number + p .count; more = more; failed = false } })
+  unfolding courseAfter
+  turn-done more full =
+      turned (record { end = end; course = record { file = p .file; number = before .number + p .count; more = more; failed = false } }) refl
+      (rw (parted .file, parted .count, full) refl)
 
 -- a course with more to read has not failed
 pub more-unfailed : {prints : Bool} {trace text : List ℕ} {r : Course} → Turns prints trace text r → r .more ≡ true → r .failed ≡ false
-unfolding beginning courseAfter
+unfolding beginning courseAfter failedAfter
 more-unfailed none more = refl
+more-unfailed (unread turns goes) more = absurd (true≢false (sym more))
 more-unfailed (then part replies₀ replies lines₀ lines r turns goes turned) more =
     by-test (r .course .failed)
     (λ e. absurd (true≢false (sym more ∙ ap (λ (c : Course). c .more) (turned .course) ∙ rw e refl)))
@@ -156,7 +150,8 @@ asked-parts true trace part whole = sym (lines-parts trace part whole 0 powerOn 
 asked-parts false trace part whole = refl
 
 pub turns-stand : {prints : Bool} {trace text : List ℕ} {r : Course} → Turns prints trace text r → r .failed ≡ false → Stands prints trace text r
-unfolding beginning courseAfter itemCount
+unfolding beginning courseAfter failedAfter itemCount
+turns-stand (unread turns goes) e = absurd (true≢false e)
 turns-stand {prints} none e =
     record { file = none-after; number = refl; printed = sym (none-asked prints 0 powerOn); whole = λ _. refl }
 turns-stand {prints} (then {trace} {text} {before} part replies₀ replies lines₀ lines r turns goes turned) e =
@@ -228,6 +223,13 @@ coming-on {prints} {turns} {before} part replies₀ replies lines₀ lines r com
 -- no run uses up its turns
 pub coming-ended : {prints : Bool} {r : Course} → Coming prints 0 r → r .more ≡ false
 coming-ended {r = r} come = by-test (r .more) (λ e. absurd (omega (arith, come .left e, come .low))) (λ e. e)
+
+-- a read that failed
+pub came-unread : {prints : Bool} {turns : ℕ} {before : Course} (r : Course) → Coming prints turns before → before .more ≡ true → r ≡ failedAfter before
+    → Came prints r
+unfolding failedAfter
+came-unread r come goes e =
+    record { trace = come .trace; text = come .text; turns = rw e (unread (come .led) goes); ended = rw e refl }
 
 pub came : {prints : Bool} {turns : ℕ} {r : Course} → Coming prints turns r → r .more ≡ false → Came prints r
 came come e = record { trace = come .trace; text = come .text; turns = come .led; ended = e }

@@ -3,19 +3,19 @@ ghost use mathlib.Core.Path.{_≡_};
 ghost use mathlib.Core.Bool.{true, false};
 ghost use Prim.Native.Nat.{_+_, _*_, _^_, _≤_, _<_};
 ghost use lib.Dec.{T};
-ghost use lib.ListN.{length, take};
+ghost use lib.ListN.{length};
 ghost use Rattle.io.specs.Counts.{Counts};
 ghost use Rattle.file.specs.Sound.{sound};
 ghost use Rattle.trace.specs.Records.{itemCount};
-ghost use Rattle.shell.specs.Parts.{Came, Parted, Turned};
+ghost use Rattle.shell.specs.Parts.{Came, Parted, Turned, failedAfter};
 use crate::reading::Filled;
 use crate::reading::fill;
 use crate::telling::tell;
 use crate::telling::tell_failure;
 use crate::telling::write_out;
 use file::File;
-use text::replaying::Part;
-use text::replaying::replay_part;
+use replaying::Part;
+use replaying::replay_part;
 
 // The last number at which a whole buffer of records still has numbers.
 const LAST: u64 = u64::MAX - 1024;
@@ -28,9 +28,8 @@ pub struct Course {
     pub file: File,
 }
 
-// One turn: how many bytes it read, none where that failed, how many it handed to be written, and the course after it.
+// One turn: how many bytes it handed to be written, and the course after it.
 struct Turn {
-    size: usize,
     end: usize,
     course: Course,
 }
@@ -64,19 +63,20 @@ fn run_part(
     }
 }
 
-// A turn that fails ends the course.
-fn failed(before: Course, size: usize, end: usize) -> Turn
-    ensures { λ r. ⌜ r ≡ record { size = size; end = end; course = record { file = before .file; number = before .number; more = false; failed = true } } ⌝ }
+// What fails ends the course.
+fn failed(before: Course) -> Course
+    ensures { λ r. ⌜ r ≡ failedAfter before ⌝ }
 {
     let mut course = before;
     course.more = false;
     course.failed = true;
-    Turn { size, end, course }
+    course
 }
 
 // The next buffer of a trace, of which so many records came before; what goes wrong is told.
-fn read_some(program: &[u8], number: u64, trace: &mut [u8]) -> Filled
+fn read_some(program: &[u8], number: u64, trace: &mut [u8; 8192]) -> Filled
     ensures { λ r. ⌜ Counts (r .count) (now (trace .exit)) ⌝ }
+    ensures { λ r. ⌜ r .count ≤ 8192 ⌝ }
     ensures { λ r. ⌜ (r .failed ≡ false → number + 1024 < 2 ^ 64) ⌝ }
 {
     if number > LAST {
@@ -93,41 +93,38 @@ fn read_some(program: &[u8], number: u64, trace: &mut [u8]) -> Filled
     read
 }
 
-// One buffer of the trace: read, run, and its lines printed if they are asked for.
+// What was read of the trace, run, and its lines printed if they are asked for.
 fn run_some(
     program: &[u8],
     prints: bool,
     before: Course,
-    trace: &mut [u8; 8192],
+    trace: &[u8],
     replies: &mut [u8; 8192],
     lines: &mut [u8; 32768],
 ) -> Turn
     requires { ⌜ T (sound (before .file)) ⌝ }
-    ensures { λ r. ⌜ Counts (r .size) (now (trace .exit)) ⌝ }
-    ensures { λ r. ⌜ Turned before prints (take (r .size) (now (trace .exit))) (now (replies .entry)) (now (replies .exit)) (now (lines .entry)) (now (lines .exit)) r ⌝ }
+    requires { ⌜ length (now trace) ≤ 8192 ⌝ }
+    requires { ⌜ before .number + 1024 < 2 ^ 64 ⌝ }
+    ensures { λ r. ⌜ Turned before prints (now (trace .entry)) (now (replies .entry)) (now (replies .exit)) (now (lines .entry)) (now (lines .exit)) r ⌝ }
 {
     let number = before.number;
-    let read = read_some(program, number, trace);
-    if read.failed {
-        return failed(before, 0, 0);
-    }
-    let size = read.count;
-    let trace: &[u8] = trace;
-    let part = run_part(before.file, number, prints, &trace[..size], replies, lines);
+    let part = run_part(before.file, number, prints, trace, replies, lines);
     let end = part.end;
     let lines: &[u8] = lines;
     let handed = write_out(program, &lines[..end]);
     let end = handed.count;
     if handed.failed {
-        return failed(before, size, end);
+        return Turn {
+            end,
+            course: failed(before),
+        };
     }
     let file = part.file;
     Turn {
-        size,
         end,
         course: Course {
             number: number + part.count as u64,
-            more: size == 8192,
+            more: trace.len() == 8192,
             failed: false,
             file,
         },
@@ -149,11 +146,16 @@ pub fn run_input(program: &[u8], prints: bool) -> Course
     };
     let mut turns = u64::MAX;
     while turns > 0 && course.more {
+        let read = read_some(program, course.number, &mut trace);
+        if read.failed {
+            return failed(course);
+        }
+        let size = read.count;
         let turn = run_some(
             program,
             prints,
             course,
-            &mut trace,
+            &trace[..size],
             &mut replies,
             &mut lines,
         );

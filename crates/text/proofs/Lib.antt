@@ -5,8 +5,4 @@ pub mod Spelled
 pub mod Lines
 pub mod Spaced
 pub mod Replies
-pub mod Pieces
-pub mod PartRuns
-pub mod Timed
-pub mod Whole
 pub mod Codes

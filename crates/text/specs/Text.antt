@@ -6,18 +6,12 @@ use mathlib.Core.List.{List, [], _∷_, _++_}
 use lib.Dec.{leb, ltb}
 use lib.ListN.{length, getD, drop}
 use Rattle.io.specs.Digits.{digits}
-use Rattle.access.specs.declared.record.Item.{Item}
-use Rattle.access.specs.Access.{accessItem}
-use Rattle.trace.specs.Records.{items, itemCount, two}
-use Rattle.trace.specs.Run.{fileAfter}
+use Rattle.trace.specs.Records.{two}
 use Rattle.file.specs.declared.answer.Answer.{Answer}
 use Rattle.file.specs.declared.answer.Answer.the-variants.{OutOfRange}
-use Rattle.file.specs.declared.registers.File.{File}
-use Rattle.file.specs.Answers.{codeOf, valueOf}
-use Rattle.file.specs.File.{powerOn}
 use Rattle.file.specs.Readers.{ascii}
 use Rattle.timing.specs.declared.Timing.{Timing}
-use Rattle.timing.specs.Timing.{numbersOf, timingIn}
+use Rattle.timing.specs.Timing.{numbersOf}
 use Rattle.text.specs.Lent.{roomAnswer}
 
 -- how many decimal digits a number has; the first argument bounds how far it is looked at
@@ -44,10 +38,6 @@ newline = 0x0A ∷ []
 -- 'For each record: its number from 0, code (decimal), value (four hex digits, capitals), one space between, each line ended by a newline.'
 unfoldable pub lineOf : ℕ → ℕ → ℕ → List ℕ
 lineOf number code value = decimal number ++ space ++ decimal code ++ space ++ hexFour value ++ newline
-
--- the line of an answer
-unfoldable pub recordLine : ℕ → Answer → List ℕ
-recordLine number a = lineOf number (codeOf a) (valueOf a)
 
 -- the lines of so many replies of 8 bytes, from a number on: code in byte 0, value in bytes 4-5
 unfoldable pub replyLines : ℕ → ℕ → List ℕ → List ℕ
@@ -91,17 +81,3 @@ cursorLine leftMinus topMinus numbers = numbersLine (ascii "cursor") (false ∷ 
 -- and enabled, video format, left, top, right, bottom, empty, the fault mark and the two BLT scanlines
 unfoldable pub window2Line : List ℕ → List ℕ
 window2Line numbers = numbersLine (ascii "window2") [] numbers
-
--- the lines of items, from a number on
-unfoldable pub recordLines : ℕ → File → List Item → List ℕ
-recordLines number f [] = []
-recordLines number f (i ∷ is) = recordLine number (accessItem f i .answer) ++ recordLines (suc number) (accessItem f i .file) is
-
--- what is printed of a trace that follows so many records, from the file that they left
-unfoldable pub replayedFrom : ℕ → File → List ℕ → List ℕ
-replayedFrom number f trace =
-    recordLines number f (items (itemCount trace) trace) ++ timingLine (timingIn (fileAfter f (items (itemCount trace) trace)))
-
--- 'It reads a trace on standard input from power-on.'
-unfoldable pub replayed : List ℕ → List ℕ
-replayed trace = replayedFrom 0 powerOn trace

@@ -1,10 +1,10 @@
-// The lines that the programs print, as bytes in a lent buffer, and replay from lent bytes to lent bytes.
+// The lines that the programs print, as bytes in a lent buffer.
 mod line;
 mod number;
 mod numbers;
 mod placed;
-pub mod replaying;
 
+pub use line::numbers_fit;
 pub use line::record_line;
 pub use line::reply_lines;
 pub use numbers::cursor_line;

@@ -1,0 +1,90 @@
+-- What a restore promises, from what the code did. Assumes nothing.
+use Prim.Native.Nat.{ℕ, _≤_, _<_}
+use mathlib.Core.Path.{_≡_, refl, sym, ap, _∙_, subst}
+use mathlib.Core.Bool.{true, false, true≢false}
+use mathlib.Core.List.{List}
+use borrow.Author.Tests.{le-leb, lt-leb}
+use lib.ListN.{length}
+use Rattle.bits.proofs.Test.{by-test, passes}
+use Rattle.file.specs.declared.answer.Answer.{Answer}
+use Rattle.file.specs.declared.answer.Answer.the-variants.{NotSound}
+use Rattle.file.specs.declared.registers.File.{File}
+use Rattle.file.specs.Answers.{codeOf, refused}
+use Rattle.file.specs.Sound.{sound}
+use Rattle.trace.specs.Records.{items}
+use Rattle.trace.specs.Run.{fileAfter}
+use Rattle.plan.specs.declared.planning.Planned.{Planned}
+use Rattle.plan.specs.Promises.{PlanKept}
+use Rattle.roads.specs.Refusals.{restoreAnswer}
+use Rattle.roads.specs.Restores.{IsFile}
+use Rattle.roads.proofs.PlanServes.{planned-runs, never-fourteen}
+use Rattle.restoring.specs.declared.Restored.{Restored}
+use Rattle.restoring.specs.Promises.{RestoreKept}
+
+module _ (f : File) {w : File} {before : List ℕ} where
+  restore-refused : {after : List ℕ} (a : Answer) → a ≡ restoreAnswer f w (length before) → refused a ≡ true → after ≡ before
+      → (r : Restored) → r ≡ record { answer = a; count = 0; file = f } → RestoreKept f w before after r
+  unfolding items fileAfter
+  restore-refused {after} a e t same r q =
+      subst (λ (x : Restored). RestoreKept f w before after x) (sym q)
+      (record {
+        answered = e;
+        made = λ n. absurd (true≢false (sym t ∙ n));
+        ran = refl;
+        restored = λ n. absurd (true≢false (sym t ∙ n));
+        none = λ _. refl;
+        back = λ _. refl;
+        kept = λ _. same;
+      })
+
+  pub restore-unsound : sound f ≡ false → (r : Restored) → r ≡ record { answer = NotSound; count = 0; file = f } → RestoreKept f w before before r
+  unfolding restoreAnswer refused codeOf
+  restore-unsound s = restore-refused NotSound (rw s) refl refl
+
+  module _ (s : sound f ≡ true) {after : List ℕ} (p : Planned) (done : PlanKept w before after p) where
+    as-planned : p .answer ≡ restoreAnswer f w (length before)
+    unfolding restoreAnswer
+    as-planned = done .answered ∙ rw s
+
+    pub restore-unplanned : {code : ℕ} → code ≡ codeOf (p .answer) → 2 ≤ code → (r : Restored) → r ≡ record { answer = p .answer; count = 0; file = f }
+        → RestoreKept f w before after r
+    unfolding refused
+    restore-unplanned e large =
+        let no = le-leb 2 (codeOf (p .answer)) (rw e at large) in
+        restore-refused (p .answer) as-planned no (done .kept no)
+
+    pub restore-done : {code : ℕ} → code ≡ codeOf (p .answer) → code < 2 → IsFile f → (g : File) → g ≡ w
+        → RestoreKept f w before after (record { answer = p .answer; count = p .count; file = g })
+    unfolding refused
+    restore-done same small ff g e =
+        let yes = lt-leb 2 (codeOf (p .answer)) (rw same at small) in
+        record {
+          answered = as-planned;
+          made = done .made;
+          ran = e ∙ sym (planned-runs w before after (p .count) (done .made yes) f ff (passes (sound f) s) .1);
+          restored = λ _. e;
+          none = λ n. absurd (true≢false (sym n ∙ yes));
+          back = λ n. absurd (true≢false (sym n ∙ yes));
+          kept = λ n. absurd (true≢false (sym n ∙ yes));
+        }
+
+-- ---- what the promise settles
+
+-- 14 is never answered
+pub kept-never-fourteen : (f w : File) (before after : List ℕ) (r : Restored) → RestoreKept f w before after r
+    → codeOf (r .answer) ≡ 14 → ⊥
+kept-never-fourteen f w before after r p e = never-fourteen f w (length before) (sym (ap codeOf (p .answered)) ∙ e)
+
+-- two restores answer the same and end in the same file
+pub restores-alike : (f w : File) (before after other : List ℕ) (p q : Restored) → RestoreKept f w before after p → RestoreKept f w before other q
+    → (p .answer ≡ q .answer) × (p .file ≡ q .file)
+restores-alike f w before after other p q s t = (same, files)
+  where
+    same : p .answer ≡ q .answer
+    same = s .answered ∙ sym (t .answered)
+
+    files : p .file ≡ q .file
+    files =
+        by-test (refused (p .answer))
+        (λ e. s .back e ∙ sym (t .back (sym (ap refused same) ∙ e)))
+        (λ e. s .restored e ∙ sym (t .restored (sym (ap refused same) ∙ e)))

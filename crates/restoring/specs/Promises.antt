@@ -1,0 +1,24 @@
+-- What a restore promises, for every input.
+-- Assumes nothing.
+use Prim.Native.Nat.{ℕ}
+use mathlib.Core.Path.{_≡_}
+use mathlib.Core.Bool.{true, false}
+use mathlib.Core.List.{List}
+use lib.ListN.{length}
+use Rattle.file.specs.declared.registers.File.{File}
+use Rattle.file.specs.Answers.{refused}
+use Rattle.trace.specs.Records.{items}
+use Rattle.trace.specs.Run.{fileAfter}
+use Rattle.roads.specs.Refusals.{restoreAnswer}
+use Rattle.roads.specs.Restores.{PlanWritten}
+use Rattle.restoring.specs.declared.Restored.{Restored}
+
+-- a restore: '12, 13, 11', never 14 by what `made` says of the records, and 'the file the run ends in', which is the wanted one
+pub record RestoreKept (f w : File) (before after : List ℕ) (r : Restored) : Type 0 where
+  pub answered : r .answer ≡ restoreAnswer f w (length before)
+  pub made : refused (r .answer) ≡ false → PlanWritten w before after (r .count)
+  pub ran : r .file ≡ fileAfter f (items (r .count) after)
+  pub restored : refused (r .answer) ≡ false → r .file ≡ w
+  pub none : refused (r .answer) ≡ true → r .count ≡ 0
+  pub back : refused (r .answer) ≡ true → r .file ≡ f
+  pub kept : refused (r .answer) ≡ true → after ≡ before

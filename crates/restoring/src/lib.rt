@@ -1,0 +1,73 @@
+// A restore: the plan of a wanted file, written and run.
+ghost use mathlib.Core.Path.{_≡_};
+ghost use mathlib.Core.Bool.{true, false};
+ghost use Prim.Native.Nat.{ℕ, _*_, _≤_, _<_};
+ghost use lib.ListN.{length, getD};
+ghost use Rattle.restoring.specs.Promises.{RestoreKept};
+use file::Answer;
+use file::File;
+use file::is_sound;
+use plan::plan;
+use trace::run;
+
+// What a restore answers: also how many records its plan has, 0 if it is refused, and the file that the run ends in.
+pub struct Restored {
+    pub answer: Answer,
+    pub count: usize,
+    pub file: File,
+}
+
+// So many replies of a buffer have code 0.
+fn all_done(replies: &[u8], count: usize) -> bool
+    requires { ⌜ 8 * count ≤ length (now replies) ⌝ }
+    ensures { λ r. ⌜ (r ≡ true → (k : ℕ) → k < count → getD (now (replies .entry)) (8 * k) 0 ≡ 0) ⌝ }
+    ensures { λ r. ⌜ (r ≡ false → ((k : ℕ) → k < count → getD (now (replies .entry)) (8 * k) 0 ≡ 0) → ⊥) ⌝ }
+{
+    let mut k: usize = 0;
+    while k < count {
+        if replies[8 * k] != 0 {
+            return false;
+        }
+        k += 1;
+    }
+    true
+}
+
+// Writes a plan of the wanted file and runs it from the current one: 12 by the current file, then 12, 13, 11 by the
+// plan, then 14, which no plan comes to. A refusal gives the current file back.
+pub fn restore(current: File, wanted: File, buffer: &mut [u8]) -> Restored
+    ensures { λ r. ⌜ RestoreKept current wanted (now (buffer .entry)) (now (buffer .exit)) r ⌝ }
+{
+    if !is_sound(current) {
+        return not_restored(Answer::NotSound, current);
+    }
+    let planned = plan(wanted, buffer);
+    let answer = planned.answer;
+    let count = planned.count;
+    if 2 <= answer.code() {
+        return not_restored(answer, current);
+    }
+    let mut replies = [0u8; 8192];
+    let size = 8 * count;
+    let ran = run(current, &buffer[..size], &mut replies);
+    let file = ran.file;
+    if !all_done(&replies, count) {
+        return not_restored(Answer::PlanRefused, current);
+    }
+    Restored {
+        answer,
+        count,
+        file,
+    }
+}
+
+// A refusal has no records and leaves the file.
+fn not_restored(answer: Answer, current: File) -> Restored
+    ensures { λ r. ⌜ r ≡ record { answer = answer; count = 0; file = current } ⌝ }
+{
+    Restored {
+        answer,
+        count: 0,
+        file: current,
+    }
+}
