@@ -248,14 +248,19 @@ fn pixel_write(registers: &[u16; REGISTERS], state: State, byte: u8) -> Effect
 {
     let pointer = state.pointer;
     let after = pointer.after_write(byte);
+    let marks = pointer.marks(false);
     if !pointer.stores() {
-        return Effect::Move(after);
+        return Effect::Step {
+            marks,
+            pointer: after,
+        };
     }
     let bank = is_in_bank(registers);
     let entry = entry_number(bank, pointer.address);
     Effect::Paint {
         bank,
         entry,
+        marks,
         colour: pointer.mixed(byte),
         pointer: after,
     }
@@ -311,19 +316,22 @@ fn read_pixel(registers: &[u16; REGISTERS], state: State) -> Decision
     if is_palette_up(registers) {
         return Decision {
             answer: Answer::Done(0),
-            effect: Effect::Move(pointer.after_read()),
+            effect: Effect::Step {
+                marks: pointer.marks(true),
+                pointer: pointer.after_read(),
+            },
             pixel: true,
         };
     }
     only(Answer::PaletteDown)
 }
 
-// What B0 reads: the pointer's state in its low bits.
+// What B0 reads: the last pixel data access in its low bits.
 fn palette_state(registers: &[u16; REGISTERS], state: State) -> u16
-    ensures { λ r. ⌜ r ≡ storeBits shownState (getD (now (registers .entry)) B0Number 0) (paletteState (state .pointer)) ⌝ }
+    ensures { λ r. ⌜ r ≡ storeBits shownState (getD (now (registers .entry)) B0Number 0) (paletteState (state .marks)) ⌝ }
 {
-    let pointer = state.pointer;
-    bits::store(0x07, registers[B0], pointer.palette_state())
+    let marks = state.marks;
+    bits::store(0x07, registers[B0], marks.palette_state())
 }
 
 // A read at a place.

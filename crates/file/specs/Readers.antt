@@ -12,6 +12,7 @@ use Rattle.file.specs.declared.answer.Answer.the-variants.{Done, NoRegis
 use Rattle.file.specs.declared.palette.Colour.{Colour}
 use Rattle.file.specs.declared.readers.EntryRead.{EntryRead}
 use Rattle.file.specs.declared.readers.NumberRead.{NumberRead}
+use Rattle.file.specs.declared.readers.MarksRead.{MarksRead}
 use Rattle.file.specs.declared.readers.PointerRead.{PointerRead}
 use Rattle.file.specs.declared.readers.ToggleRead.{ToggleRead}
 use Rattle.file.specs.declared.registers.File.{File}
@@ -76,6 +77,11 @@ readBank f n = entryTold (sound f) (ltb n bankCount) (getD (f .bank) n black)
 unfoldable pub readPointer : File → PointerRead
 readPointer f =
     cond (sound f) (record { answer = Done 0; pointer = f .state .pointer }) (record { answer = NotSound; pointer = initial .pointer })
+
+-- 02, 1/13: the last pixel data access; of an unsound file both numbers are 0, as 01 has it of all readers, 'Accesses and replies'
+unfoldable pub readMarks : File → MarksRead
+readMarks f =
+    cond (sound f) (record { answer = Done 0; marks = f .state .marks }) (record { answer = NotSound; marks = record { reading = false; colour = 0 } })
 
 -- 01, 'Places': the toggle says whether the next 3C0h write is data
 unfoldable pub readToggle : File → ToggleRead

@@ -4,6 +4,7 @@ ghost use Rattle.file.specs.declared.effect.Effect.the-variants.{Nothing
 ghost use Rattle.file.specs.Effects.{storeIn, paintIn, apply as applyTo, reachOf};
 ghost use Rattle.file.specs.File.{withState};
 use crate::palette::Colour;
+use crate::palette::Marks;
 use crate::palette::Pointer;
 use crate::registers::BANK;
 use crate::registers::File;
@@ -25,21 +26,28 @@ pub enum Effect {
     Toggle(bool),
     // the pointer's new state
     Move(Pointer),
-    // an entry of the bank or the palette, and the pointer behind it
+    // a pixel data access that stores no entry: the pointer behind it, and its marks
+    Step {
+        marks: Marks,
+        pointer: Pointer,
+    },
+    // an entry of the bank or the palette, the pointer behind it, and the marks
     Paint {
         bank: bool,
         entry: usize,
+        marks: Marks,
         pointer: Pointer,
         colour: Colour,
     },
 }
 
-// What an access may change: bits of one register, the toggle, the pointer, an entry of the bank or the palette.
+// What an access may change: bits of one register, the toggle, the pointer, the marks, an entry of the bank or the palette.
 pub struct Reach {
     pub register: usize,
     pub bits: u16,
     pub toggle: bool,
     pub pointer: bool,
+    pub marks: bool,
     pub palette: bool,
     pub bank: bool,
     pub entry: usize,
@@ -100,14 +108,16 @@ impl Effect {
             }
             Effect::Toggle(toggle) => stated(file, file.state.toggling(toggle)),
             Effect::Move(pointer) => stated(file, file.state.pointing(pointer)),
+            Effect::Step { marks, pointer } => stated(file, file.state.stepping(pointer, marks)),
             Effect::Paint {
                 bank,
                 entry,
+                marks,
                 colour,
                 pointer,
             } => stated(
                 painted(file, bank, entry, colour),
-                file.state.pointing(pointer),
+                file.state.stepping(pointer, marks),
             ),
         }
     }
@@ -125,13 +135,18 @@ impl Effect {
                 flips,
             } => Reach::bits_of(register, reach, flips),
             Effect::Toggle(_) => Reach::bits_of(0, 0, true),
-            Effect::Move(_) => Reach::colours(false, false, 0),
+            Effect::Move(_) => Reach::colours(false, false, false, 0),
+            Effect::Step {
+                marks: _,
+                pointer: _,
+            } => Reach::colours(true, false, false, 0),
             Effect::Paint {
                 bank,
                 entry,
+                marks: _,
                 colour: _,
                 pointer: _,
-            } => Reach::colours(!bank, bank, entry),
+            } => Reach::colours(true, !bank, bank, entry),
         }
     }
 }
@@ -146,28 +161,30 @@ impl Reach {
 
     // Bits of a register, and perhaps the toggle.
     fn bits_of(register: usize, bits: u16, toggle: bool) -> Reach
-        ensures { λ r. ⌜ r ≡ record { register = register; bits = bits; toggle = toggle; pointer = false; palette = false; bank = false; entry = 0 } ⌝ }
+        ensures { λ r. ⌜ r ≡ record { register = register; bits = bits; toggle = toggle; pointer = false; marks = false; palette = false; bank = false; entry = 0 } ⌝ }
     {
         Reach {
             register,
             bits,
             toggle,
             pointer: false,
+            marks: false,
             palette: false,
             bank: false,
             entry: 0,
         }
     }
 
-    // The pointer, and perhaps an entry.
-    fn colours(palette: bool, bank: bool, entry: usize) -> Reach
-        ensures { λ r. ⌜ r ≡ record { register = 0; bits = 0; toggle = false; pointer = true; palette = palette; bank = bank; entry = entry } ⌝ }
+    // The pointer, and perhaps the marks and an entry.
+    fn colours(marks: bool, palette: bool, bank: bool, entry: usize) -> Reach
+        ensures { λ r. ⌜ r ≡ record { register = 0; bits = 0; toggle = false; pointer = true; marks = marks; palette = palette; bank = bank; entry = entry } ⌝ }
     {
         Reach {
             register: 0,
             bits: 0,
             toggle: false,
             pointer: true,
+            marks,
             palette,
             bank,
             entry,

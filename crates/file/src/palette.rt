@@ -1,6 +1,6 @@
 ghost use mathlib.Core.Path.{_≡_};
 ghost use Prim.Native.Nat.{_+_, _%_};
-ghost use Rattle.file.specs.Palette.{component as componentOf, addressed as addressedAt, afterWrite, afterRead, stores as storesNow, mixed as mixedWith, dacState, paletteState};
+ghost use Rattle.file.specs.Palette.{component as componentOf, addressed as addressedAt, afterWrite, afterRead, stores as storesNow, mixed as mixedWith, dacState, marksFrom, paletteState};
 
 // An entry of the palette or of the bank: three whole bytes.
 pub struct Colour {
@@ -16,6 +16,22 @@ pub struct Pointer {
     pub next: u8,
     pub red: u8,
     pub green: u8,
+}
+
+// The last pixel data access that was done: whether it was a read, and the colour that was next before it.
+pub struct Marks {
+    pub reading: bool,
+    pub colour: u8,
+}
+
+impl Marks {
+    // What B0[2:0] reads.
+    pub fn palette_state(self) -> u16
+        ensures { λ r. ⌜ r ≡ paletteState self ⌝ }
+    {
+        let colour = to_u16(self.colour);
+        if self.reading { 4 + colour } else { colour }
+    }
 }
 
 impl Colour {
@@ -118,12 +134,14 @@ impl Pointer {
         if self.reading { 3 } else { 0 }
     }
 
-    // What B0[2:0] reads.
-    pub fn palette_state(self) -> u16
-        ensures { λ r. ⌜ r ≡ paletteState self ⌝ }
+    // The marks of a pixel data access from here.
+    pub fn marks(self, reading: bool) -> Marks
+        ensures { λ r. ⌜ r ≡ marksFrom reading self ⌝ }
     {
-        let colour = (to_u16(self.next) + 2) % 3;
-        if self.reading { 4 + colour } else { colour }
+        Marks {
+            reading,
+            colour: self.next,
+        }
     }
 }
 

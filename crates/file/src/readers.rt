@@ -5,9 +5,10 @@ ghost use Prim.Native.Nat.{_<_};
 ghost use lib.Dec.{eqb};
 ghost use lib.ListN.{getD, length};
 ghost use Rattle.file.specs.Registers.{registerCount};
-ghost use Rattle.file.specs.Readers.{nameTable, numberOf, same, readRegister, readNamed, readNumber, readPalette, readBank, readPointer, readToggle, noEntry, entryTold};
+ghost use Rattle.file.specs.Readers.{nameTable, numberOf, same, readRegister, readNamed, readNumber, readPalette, readBank, readPointer, readMarks, readToggle, noEntry, entryTold};
 use crate::answer::Answer;
 use crate::palette::Colour;
+use crate::palette::Marks;
 use crate::palette::Pointer;
 use crate::registers::BANK;
 use crate::registers::File;
@@ -25,6 +26,12 @@ pub struct EntryRead {
 pub struct PointerRead {
     pub answer: Answer,
     pub pointer: Pointer,
+}
+
+// The marks of the last pixel data access; write, red where the answer is not 0: numbers 0, marks off.
+pub struct MarksRead {
+    pub answer: Answer,
+    pub marks: Marks,
 }
 
 // The toggle; off where the answer is not 0.
@@ -296,6 +303,27 @@ impl File {
             PointerRead {
                 answer: Answer::NotSound,
                 pointer: Pointer::addressed(false, 0),
+            }
+        }
+    }
+
+    // The marks of the last pixel data access.
+    pub fn marks_now(self) -> MarksRead
+        ensures { λ r. ⌜ r ≡ readMarks self ⌝ }
+    {
+        if is_sound(self) {
+            let marks = self.state.marks;
+            MarksRead {
+                answer: Answer::Done(0),
+                marks,
+            }
+        } else {
+            MarksRead {
+                answer: Answer::NotSound,
+                marks: Marks {
+                    reading: false,
+                    colour: 0,
+                },
             }
         }
     }

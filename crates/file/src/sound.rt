@@ -25,10 +25,13 @@ pub fn is_sound(file: File) -> bool
     }
 }
 
-// The pointer is one that its steps can reach.
+// The marks name a colour, and the pointer is one that its steps can reach.
 fn state_sound(state: State) -> bool
     ensures { λ r. ⌜ r ≡ stateSound state ⌝ }
 {
+    if 2 < state.marks.colour {
+        return false;
+    }
     pointer_sound(state.pointer)
 }
 

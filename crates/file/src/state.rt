@@ -1,21 +1,27 @@
 ghost use mathlib.Core.Path.{_≡_};
-ghost use Rattle.file.specs.State.{initial, pointing as pointingTo, toggling as togglingTo, flipped as flippedState};
+ghost use Rattle.file.specs.State.{initial, pointing as pointingTo, stepping as steppingTo, toggling as togglingTo, flipped as flippedState};
+use crate::palette::Marks;
 use crate::palette::Pointer;
 
 // The small parts of a file beside its registers and colours. The toggle says whether the next 3C0h write is data.
 pub struct State {
     pub pointer: Pointer,
     pub toggle: bool,
+    pub marks: Marks,
 }
 
 impl State {
-    // The pointer at address 0, write mode, red, nothing held; the toggle at index.
+    // The pointer at address 0, write mode, red, nothing held; the toggle at index; the marks at write, blue.
     pub fn power_on() -> State
         ensures { λ r. ⌜ r ≡ initial ⌝ }
     {
         State {
             pointer: Pointer::addressed(false, 0),
             toggle: false,
+            marks: Marks {
+                reading: false,
+                colour: 2,
+            },
         }
     }
 
@@ -24,6 +30,15 @@ impl State {
         ensures { λ r. ⌜ r ≡ pointingTo pointer self ⌝ }
     {
         self.pointer = pointer;
+        self
+    }
+
+    // The state after a pixel data access: another pointer, and its marks.
+    pub fn stepping(mut self, next: Pointer, marks: Marks) -> State
+        ensures { λ r. ⌜ r ≡ steppingTo next marks self ⌝ }
+    {
+        self.pointer = next;
+        self.marks = marks;
         self
     }
 

@@ -1,6 +1,7 @@
 // 01's runs of plan and restore over the compiled code, a line for each: code, count, and what became of file and buffer.
 use file::Colour;
 use file::File;
+use file::Marks;
 use file::Pointer;
 use file::REGISTERS;
 use file::State;
@@ -67,11 +68,16 @@ fn same_pointer(a: Pointer, b: Pointer) -> bool {
         && a.green == b.green
 }
 
+fn same_marks(a: Marks, b: Marks) -> bool {
+    a.reading == b.reading && a.colour == b.colour
+}
+
 fn same(a: File, b: File) -> bool {
     same_registers(a, b)
         && same_entries(a, b)
         && same_pointer(a.state.pointer, b.state.pointer)
         && a.state.toggle == b.state.toggle
+        && same_marks(a.state.marks, b.state.marks)
 }
 
 // A number and a byte that differ from place to place.
@@ -95,7 +101,7 @@ fn varied_registers() -> [u16; REGISTERS] {
     registers
 }
 
-// A file that has other values nearly everywhere: the pointer in read mode, the toggle at data.
+// A file that has other values nearly everywhere: the pointer in read mode, the toggle at data, the marks at read, green.
 fn varied() -> File {
     let mut palette = [colour_at(0); 256];
     let mut bank = [colour_at(0); 16];
@@ -112,6 +118,10 @@ fn varied() -> File {
         state: State {
             pointer: Pointer::addressed(true, 0x7B),
             toggle: true,
+            marks: Marks {
+                reading: true,
+                colour: 1,
+            },
         },
     }
 }
@@ -126,7 +136,7 @@ fn pointer_before(next: u8, red: u8, green: u8) -> Pointer {
     }
 }
 
-// Every stored bit set: locked by CR11, powered down and at the bank by B0; white, the toggle at data, the pointer before blue with two held bytes.
+// Every stored bit set: locked by CR11, powered down and at the bank by B0; white, the toggle at data, the pointer before blue with two held bytes, the marks at read, red.
 fn everything_set() -> File {
     let white = Colour {
         red: 255,
@@ -140,6 +150,10 @@ fn everything_set() -> File {
         state: State {
             pointer: pointer_before(2, 0x5A, 0xC3),
             toggle: true,
+            marks: Marks {
+                reading: true,
+                colour: 0,
+            },
         },
     }
 }
