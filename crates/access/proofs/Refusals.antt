@@ -39,7 +39,7 @@ unsound-effect f r e = refusal-does-nothing f r (ap refused (unsound-answer f r 
 
 -- what a read does is nothing, the pointer's step or, at 3?Ah alone, the toggle set to index
 pub by-read : (P : Effect → Type 0) (f : File) (reading : Reading)
-    → P Nothing → P (Step (marksFrom true (f .state .pointer)) (afterRead (f .state .pointer))) → (reading ≡ resetsToggle → P (Toggle false)) → P (readEffect f reading)
+    → P Nothing → P (Step (afterRead (f .state .pointer)) (marksFrom true (f .state .pointer))) → (reading ≡ resetsToggle → P (Toggle false)) → P (readEffect f reading)
 unfolding readEffect
 by-read P f (givesHeld number) none move toggle = none
 by-read P f (givesFixed value) none move toggle = none
@@ -54,8 +54,8 @@ by-read P f namesNothing none move toggle = none
 -- what a write does is nothing, a store, an address, a pixel's byte held or stored, or the toggle flipped
 pub by-write : (P : Effect → Type 0) (reach : ℕ → ℕ) (f : File) (writing : Writing) (value : ℕ)
     → P Nothing → ((number : ℕ) (flips : Bool) → writing ≡ storesTo number flips → P (Store flips number (reach number) value))
-    → ((reading : Bool) → P (Move (addressed reading value))) → P (Step (marksFrom false (f .state .pointer)) (afterWrite (f .state .pointer) value))
-    → P (Paint (inBank f) (entryNumber f) (marksFrom false (f .state .pointer)) (afterWrite (f .state .pointer) value) (mixed (f .state .pointer) value))
+    → ((reading : Bool) → P (Move (addressed reading value))) → P (Step (afterWrite (f .state .pointer) value) (marksFrom false (f .state .pointer)))
+    → P (Paint (inBank f) (entryNumber f) (afterWrite (f .state .pointer) value) (mixed (f .state .pointer) value) (marksFrom false (f .state .pointer)))
     → (writing ≡ storesNothing true → P (Toggle (not (f .state .toggle)))) → P (writeEffect reach f writing value)
 unfolding writeEffect pixelWrite
 by-write P reach f (storesTo number flips) value none store addresses held paint toggle = store number flips refl

@@ -33,19 +33,19 @@ module _ (f : File) (s : T (sound f)) where
   unfolding keeps
   write-keeps writing value =
       by-write (λ (e : Effect). T (keeps e)) (reachIn f) f writing value tt (λ number flips e. reach-within f number)
-      (λ reading. addressed-sound reading value) (stepped false value) (stepped false value) (λ e. tt)
+      (λ reading. addressed-sound reading value) stepped stepped (λ e. tt)
     where
-      stepped : (reading : Bool) (value : ℕ) → T (marksSound (marksFrom reading (f .state .pointer)) && pointerSound (afterWrite (f .state .pointer) value))
-      stepped reading value =
-          both (marksSound (marksFrom reading (f .state .pointer))) (pointerSound (afterWrite (f .state .pointer) value))
-          (marksFrom-sound reading (f .state .pointer) (pointer-sound f s)) (afterWrite-sound (f .state .pointer) value (pointer-sound f s))
+      stepped : T (marksSound (marksFrom false (f .state .pointer)) && pointerSound (afterWrite (f .state .pointer) value))
+      stepped =
+          both (marksSound (marksFrom false (f .state .pointer))) (pointerSound (afterWrite (f .state .pointer) value))
+          (marksFrom-sound false (f .state .pointer)) (afterWrite-sound (f .state .pointer) value (pointer-sound f s))
 
   read-keeps : (reading : Reading) → T (keeps (readEffect f reading))
   unfolding keeps
   read-keeps reading =
       by-read (λ (e : Effect). T (keeps e)) f reading tt
       (both (marksSound (marksFrom true (f .state .pointer))) (pointerSound (afterRead (f .state .pointer)))
-      (marksFrom-sound true (f .state .pointer) (pointer-sound f s)) (afterRead-sound (f .state .pointer) (pointer-sound f s)))
+      (marksFrom-sound true (f .state .pointer)) (afterRead-sound (f .state .pointer) (pointer-sound f s)))
       (λ e. tt)
 
   pub access-sound : (r : Record) → T (sound (access f r .file))

@@ -15,7 +15,6 @@ ghost use Rattle.places.specs.Profile.{profile, storesTo, writesPixel, givesPix
 ghost use Rattle.access.specs.Access.{lockedOut, paletteUp, inBank, pixelWrite, shownState};
 ghost use Rattle.bits.specs.Store.{store as storeBits};
 ghost use Rattle.file.specs.Names.{B0 as B0Number};
-ghost use Rattle.file.specs.Palette.{paletteState};
 ghost use Rattle.access.specs.Checks.{malformed, spaceOff};
 ghost use Rattle.access.specs.Engine.{otherRow, lookedBy, reachBy, decidedWrite, decidedRead, decidedBy};
 use crate::record::Record;
@@ -251,8 +250,8 @@ fn pixel_write(registers: &[u16; REGISTERS], state: State, byte: u8) -> Effect
     let marks = pointer.marks(false);
     if !pointer.stores() {
         return Effect::Step {
-            marks,
             pointer: after,
+            marks,
         };
     }
     let bank = is_in_bank(registers);
@@ -260,9 +259,9 @@ fn pixel_write(registers: &[u16; REGISTERS], state: State, byte: u8) -> Effect
     Effect::Paint {
         bank,
         entry,
-        marks,
-        colour: pointer.mixed(byte),
         pointer: after,
+        colour: pointer.mixed(byte),
+        marks,
     }
 }
 
@@ -317,8 +316,8 @@ fn read_pixel(registers: &[u16; REGISTERS], state: State) -> Decision
         return Decision {
             answer: Answer::Done(0),
             effect: Effect::Step {
-                marks: pointer.marks(true),
                 pointer: pointer.after_read(),
+                marks: pointer.marks(true),
             },
             pixel: true,
         };
@@ -328,10 +327,9 @@ fn read_pixel(registers: &[u16; REGISTERS], state: State) -> Decision
 
 // What B0 reads: the last pixel data access in its low bits.
 fn palette_state(registers: &[u16; REGISTERS], state: State) -> u16
-    ensures { λ r. ⌜ r ≡ storeBits shownState (getD (now (registers .entry)) B0Number 0) (paletteState (state .marks)) ⌝ }
+    ensures { λ r. ⌜ r ≡ storeBits shownState (getD (now (registers .entry)) B0Number 0) (state .marks) ⌝ }
 {
-    let marks = state.marks;
-    bits::store(0x07, registers[B0], marks.palette_state())
+    bits::store(0x07, registers[B0], state.marks as u16)
 }
 
 // A read at a place.

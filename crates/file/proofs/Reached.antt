@@ -41,7 +41,7 @@ same-outside (Toggle toggle) f =
     record { registers = λ n i h. refl; palette = λ n h. refl; bank = λ n h. refl; pointer = λ h. refl; marks = λ h. refl; toggle = λ h. absurd (true≢false h) }
 same-outside (Move pointer) f =
     record { registers = λ n i h. refl; palette = λ n h. refl; bank = λ n h. refl; pointer = λ h. absurd (true≢false h); marks = λ h. refl; toggle = λ h. refl }
-same-outside (Step marks pointer) f =
+same-outside (Step pointer marks) f =
     record {
       registers = λ n i h. refl;
       palette = λ n h. refl;
@@ -50,7 +50,7 @@ same-outside (Step marks pointer) f =
       marks = λ h. absurd (true≢false h);
       toggle = λ h. refl;
     }
-same-outside (Paint true entry marks pointer colour) f =
+same-outside (Paint true entry pointer colour marks) f =
     record {
       registers = λ n i h. refl;
       palette = λ n h. refl;
@@ -59,7 +59,7 @@ same-outside (Paint true entry marks pointer colour) f =
       marks = λ h. absurd (true≢false h);
       toggle = λ h. refl;
     }
-same-outside (Paint false entry marks pointer colour) f =
+same-outside (Paint false entry pointer colour marks) f =
     record {
       registers = λ n i h. refl;
       palette = λ n h. getD-set-other (f .palette) entry n colour black (h refl);

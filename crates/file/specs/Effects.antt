@@ -29,8 +29,8 @@ apply Nothing f = f
 apply (Store flips number reach value) f = withState (flipped flips (f .state)) (storeIn number reach value f)
 apply (Toggle toggle) f = withToggle toggle f
 apply (Move pointer) f = withPointer pointer f
-apply (Step marks pointer) f = withState (stepping pointer marks (f .state)) f
-apply (Paint bank entry marks pointer colour) f = withState (stepping pointer marks (f .state)) (paintIn bank entry colour f)
+apply (Step pointer marks) f = withState (stepping pointer marks (f .state)) f
+apply (Paint bank entry pointer colour marks) f = withState (stepping pointer marks (f .state)) (paintIn bank entry colour f)
 
 -- what an effect may change
 unfoldable pub reachOf : Effect → Reach
@@ -41,7 +41,7 @@ reachOf (Toggle toggle) =
     record { register = 0; bits = 0; toggle = true; pointer = false; marks = false; palette = false; bank = false; entry = 0 }
 reachOf (Move pointer) =
     record { register = 0; bits = 0; toggle = false; pointer = true; marks = false; palette = false; bank = false; entry = 0 }
-reachOf (Step marks pointer) =
+reachOf (Step pointer marks) =
     record { register = 0; bits = 0; toggle = false; pointer = true; marks = true; palette = false; bank = false; entry = 0 }
-reachOf (Paint bank entry marks pointer colour) =
+reachOf (Paint bank entry pointer colour marks) =
     record { register = 0; bits = 0; toggle = false; pointer = true; marks = true; palette = not bank; bank = bank; entry = entry }

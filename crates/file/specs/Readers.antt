@@ -17,6 +17,7 @@ use Rattle.file.specs.declared.readers.PointerRead.{PointerRead}
 use Rattle.file.specs.declared.readers.ToggleRead.{ToggleRead}
 use Rattle.file.specs.declared.registers.File.{File}
 use Rattle.file.specs.File.{register, black, paletteCount, bankCount}
+use Rattle.file.specs.Palette.{markedRead, markedColour}
 use Rattle.file.specs.Registers.{Register, registerCount, registers}
 use Rattle.file.specs.Sound.{sound}
 use Rattle.file.specs.State.{initial}
@@ -78,10 +79,11 @@ unfoldable pub readPointer : File → PointerRead
 readPointer f =
     cond (sound f) (record { answer = Done 0; pointer = f .state .pointer }) (record { answer = NotSound; pointer = initial .pointer })
 
--- 02, 1/13: the last pixel data access; of an unsound file both numbers are 0, as 01 has it of all readers, 'Accesses and replies'
+-- 02, 1/13, 'the last 3C9h access, direction and colour'; of an unsound file both numbers are 0, as 01 has it of all readers, 'Accesses and replies'
 unfoldable pub readMarks : File → MarksRead
 readMarks f =
-    cond (sound f) (record { answer = Done 0; marks = f .state .marks }) (record { answer = NotSound; marks = record { reading = false; colour = 0 } })
+    cond (sound f) (record { answer = Done 0; reading = markedRead (f .state .marks); colour = markedColour (f .state .marks) })
+    (record { answer = NotSound; reading = false; colour = 0 })
 
 -- 01, 'Places': the toggle says whether the next 3C0h write is data
 unfoldable pub readToggle : File → ToggleRead

@@ -28,5 +28,5 @@ keeps Nothing = true
 keeps (Store flips number reach value) = within (storedBits number) reach
 keeps (Toggle toggle) = true
 keeps (Move pointer) = pointerSound pointer
-keeps (Step marks pointer) = marksSound marks && pointerSound pointer
-keeps (Paint bank entry marks pointer colour) = marksSound marks && pointerSound pointer
+keeps (Step pointer marks) = marksSound marks && pointerSound pointer
+keeps (Paint bank entry pointer colour marks) = marksSound marks && pointerSound pointer

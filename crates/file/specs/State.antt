@@ -1,27 +1,27 @@
 -- The small parts of a file beside its registers and colours: the palette pointer, the toggle, which says whether the next 3C0h write is data,
 -- and the marks of the last pixel data access.
 -- Assumes nothing.
+use Prim.Native.Nat.{ℕ}
 use mathlib.Core.Bool.{Bool, false, cond, not, _&&_}
-use Rattle.file.specs.declared.palette.Marks.{Marks}
 use Rattle.file.specs.declared.palette.Pointer.{Pointer}
 use Rattle.file.specs.declared.state.State.{State}
-use Rattle.file.specs.Palette.{addressed, marksSound, pointerSound}
+use Rattle.file.specs.Palette.{addressed, marksOf, marksSound, pointerSound}
 
 -- 01, end of 'Places': at power-on 'the toggle is index, and the pointer is at address 0, write mode, red, nothing held'; 02, 1/13, 'power-on is
 -- write, blue'
 unfoldable pub initial : State
 unfolding addressed
-initial = record { pointer = addressed false 0; toggle = false; marks = record { reading = false; colour = 2 } }
+initial = record { pointer = addressed false 0; marks = marksOf false 2; toggle = false }
 
 -- the state with one part anew
 unfoldable pub pointing : Pointer → State → State
-pointing new s = record { pointer = new; toggle = s .toggle; marks = s .marks }
+pointing new s = record { pointer = new; marks = s .marks; toggle = s .toggle }
 
-unfoldable pub stepping : Pointer → Marks → State → State
-stepping new marks s = record { pointer = new; toggle = s .toggle; marks = marks }
+unfoldable pub stepping : Pointer → ℕ → State → State
+stepping new marks s = record { pointer = new; marks = marks; toggle = s .toggle }
 
 unfoldable pub toggling : Bool → State → State
-toggling new s = record { pointer = s .pointer; toggle = new; marks = s .marks }
+toggling new s = record { pointer = s .pointer; marks = s .marks; toggle = new }
 
 -- the toggle flipped, where it flips
 unfoldable pub flipped : Bool → State → State

@@ -4,7 +4,6 @@ ghost use Rattle.file.specs.declared.effect.Effect.the-variants.{Nothing
 ghost use Rattle.file.specs.Effects.{storeIn, paintIn, apply as applyTo, reachOf};
 ghost use Rattle.file.specs.File.{withState};
 use crate::palette::Colour;
-use crate::palette::Marks;
 use crate::palette::Pointer;
 use crate::registers::BANK;
 use crate::registers::File;
@@ -28,16 +27,16 @@ pub enum Effect {
     Move(Pointer),
     // a pixel data access that stores no entry: the pointer behind it, and its marks
     Step {
-        marks: Marks,
         pointer: Pointer,
+        marks: u8,
     },
     // an entry of the bank or the palette, the pointer behind it, and the marks
     Paint {
         bank: bool,
         entry: usize,
-        marks: Marks,
         pointer: Pointer,
         colour: Colour,
+        marks: u8,
     },
 }
 
@@ -108,13 +107,13 @@ impl Effect {
             }
             Effect::Toggle(toggle) => stated(file, file.state.toggling(toggle)),
             Effect::Move(pointer) => stated(file, file.state.pointing(pointer)),
-            Effect::Step { marks, pointer } => stated(file, file.state.stepping(pointer, marks)),
+            Effect::Step { pointer, marks } => stated(file, file.state.stepping(pointer, marks)),
             Effect::Paint {
                 bank,
                 entry,
-                marks,
-                colour,
                 pointer,
+                colour,
+                marks,
             } => stated(
                 painted(file, bank, entry, colour),
                 file.state.stepping(pointer, marks),
@@ -137,15 +136,15 @@ impl Effect {
             Effect::Toggle(_) => Reach::bits_of(0, 0, true),
             Effect::Move(_) => Reach::colours(false, false, false, 0),
             Effect::Step {
-                marks: _,
                 pointer: _,
+                marks: _,
             } => Reach::colours(true, false, false, 0),
             Effect::Paint {
                 bank,
                 entry,
-                marks: _,
-                colour: _,
                 pointer: _,
+                colour: _,
+                marks: _,
             } => Reach::colours(true, !bank, bank, entry),
         }
     }

@@ -37,7 +37,6 @@ pub use numbered::PCI04;
 pub use numbered::SRX;
 pub use numbered::named_numbers;
 pub use palette::Colour;
-pub use palette::Marks;
 pub use palette::Pointer;
 pub use pointer::read_pixel;
 pub use pointer::write_address;

@@ -8,7 +8,6 @@ ghost use Rattle.file.specs.Registers.{registerCount};
 ghost use Rattle.file.specs.Readers.{nameTable, numberOf, same, readRegister, readNamed, readNumber, readPalette, readBank, readPointer, readMarks, readToggle, noEntry, entryTold};
 use crate::answer::Answer;
 use crate::palette::Colour;
-use crate::palette::Marks;
 use crate::palette::Pointer;
 use crate::registers::BANK;
 use crate::registers::File;
@@ -28,10 +27,11 @@ pub struct PointerRead {
     pub pointer: Pointer,
 }
 
-// The marks of the last pixel data access; write, red where the answer is not 0: numbers 0, marks off.
+// The last pixel data access: whether it was a read, and the colour that was next before it; write, red where the answer is not 0.
 pub struct MarksRead {
     pub answer: Answer,
-    pub marks: Marks,
+    pub reading: bool,
+    pub colour: u8,
 }
 
 // The toggle; off where the answer is not 0.
@@ -315,15 +315,14 @@ impl File {
             let marks = self.state.marks;
             MarksRead {
                 answer: Answer::Done(0),
-                marks,
+                reading: marks / 4 == 1,
+                colour: marks % 4,
             }
         } else {
             MarksRead {
                 answer: Answer::NotSound,
-                marks: Marks {
-                    reading: false,
-                    colour: 0,
-                },
+                reading: false,
+                colour: 0,
             }
         }
     }

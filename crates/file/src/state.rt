@@ -1,13 +1,13 @@
 ghost use mathlib.Core.Path.{_≡_};
 ghost use Rattle.file.specs.State.{initial, pointing as pointingTo, stepping as steppingTo, toggling as togglingTo, flipped as flippedState};
-use crate::palette::Marks;
 use crate::palette::Pointer;
 
-// The small parts of a file beside its registers and colours. The toggle says whether the next 3C0h write is data.
+// The small parts of a file beside its registers and colours. The toggle says whether the next 3C0h write is data; the marks of the last pixel
+// data access are what B0[2:0] reads.
 pub struct State {
     pub pointer: Pointer,
+    pub marks: u8,
     pub toggle: bool,
-    pub marks: Marks,
 }
 
 impl State {
@@ -17,11 +17,8 @@ impl State {
     {
         State {
             pointer: Pointer::addressed(false, 0),
+            marks: 2,
             toggle: false,
-            marks: Marks {
-                reading: false,
-                colour: 2,
-            },
         }
     }
 
@@ -34,7 +31,7 @@ impl State {
     }
 
     // The state after a pixel data access: another pointer, and its marks.
-    pub fn stepping(mut self, next: Pointer, marks: Marks) -> State
+    pub fn stepping(mut self, next: Pointer, marks: u8) -> State
         ensures { λ r. ⌜ r ≡ steppingTo next marks self ⌝ }
     {
         self.pointer = next;

@@ -1,7 +1,6 @@
 // Whether two buffers hold the same bytes, and whether two files are the same.
 use file::Colour;
 use file::File;
-use file::Marks;
 use file::Pointer;
 use file::REGISTERS;
 
@@ -28,10 +27,6 @@ fn same_pointer(a: Pointer, b: Pointer) -> bool {
         && a.green == b.green
 }
 
-fn same_marks(a: Marks, b: Marks) -> bool {
-    a.reading == b.reading && a.colour == b.colour
-}
-
 // A register, an entry of the palette and one of the bank, each by a number modulo how many there are.
 fn same_at(a: File, b: File, n: usize) -> bool {
     let register = n % REGISTERS;
@@ -52,5 +47,5 @@ pub fn same_files(a: File, b: File) -> bool {
     }
     a.state.toggle == b.state.toggle
         && same_pointer(a.state.pointer, b.state.pointer)
-        && same_marks(a.state.marks, b.state.marks)
+        && a.state.marks == b.state.marks
 }

@@ -19,7 +19,6 @@ use file::CRX;
 use file::Colour;
 use file::GRX;
 use file::MISC;
-use file::Marks;
 use file::Pointer;
 use file::SRX;
 
@@ -107,18 +106,20 @@ fn put_step(reading: bool, buffer: &mut [u8], at: usize) -> usize
 }
 
 // The marks, up to their colour from red on: the entries leave write, blue.
-pub fn put_marks(marks: Marks, buffer: &mut [u8], at: usize) -> usize
+pub fn put_marks(marks: u8, buffer: &mut [u8], at: usize) -> usize
     requires { ⌜ at + 8 * 3 ≤ length (now buffer) ⌝ }
     ensures { λ r. ⌜ Appended (now (buffer .entry)) at (marking marks) (now (buffer .exit)) r ⌝ }
 {
-    if marks.colour == 0 {
-        return put_step(marks.reading, buffer, at);
+    let reading = marks / 4 == 1;
+    let colour = marks % 4;
+    if colour == 0 {
+        return put_step(reading, buffer, at);
     }
-    if marks.colour == 1 {
-        let at = put_step(marks.reading, buffer, at);
-        return put_step(marks.reading, buffer, at);
+    if colour == 1 {
+        let at = put_step(reading, buffer, at);
+        return put_step(reading, buffer, at);
     }
-    if !marks.reading {
+    if !reading {
         return at;
     }
     let at = mmio_read(0xAC, buffer, at);

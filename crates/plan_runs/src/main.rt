@@ -1,7 +1,6 @@
 // 01's runs of plan and restore over the compiled code, a line for each: code, count, and what became of file and buffer.
 use file::Colour;
 use file::File;
-use file::Marks;
 use file::Pointer;
 use file::REGISTERS;
 use file::State;
@@ -68,16 +67,12 @@ fn same_pointer(a: Pointer, b: Pointer) -> bool {
         && a.green == b.green
 }
 
-fn same_marks(a: Marks, b: Marks) -> bool {
-    a.reading == b.reading && a.colour == b.colour
-}
-
 fn same(a: File, b: File) -> bool {
     same_registers(a, b)
         && same_entries(a, b)
         && same_pointer(a.state.pointer, b.state.pointer)
         && a.state.toggle == b.state.toggle
-        && same_marks(a.state.marks, b.state.marks)
+        && a.state.marks == b.state.marks
 }
 
 // A number and a byte that differ from place to place.
@@ -118,10 +113,7 @@ fn varied() -> File {
         state: State {
             pointer: Pointer::addressed(true, 0x7B),
             toggle: true,
-            marks: Marks {
-                reading: true,
-                colour: 1,
-            },
+            marks: 5,
         },
     }
 }
@@ -150,10 +142,7 @@ fn everything_set() -> File {
         state: State {
             pointer: pointer_before(2, 0x5A, 0xC3),
             toggle: true,
-            marks: Marks {
-                reading: true,
-                colour: 0,
-            },
+            marks: 4,
         },
     }
 }

@@ -10,7 +10,6 @@ use lib.ListN.{getD, set, length, length-set, drop-of-length-le}
 use lib.Seq.{sets, sets-eq, length-sets, getD-set-same, getD-set-other}
 use Rattle.bits.proofs.Test.{left, right, both, by-test, passes}
 use Rattle.file.specs.declared.palette.Colour.{Colour}
-use Rattle.file.specs.declared.palette.Marks.{Marks}
 use Rattle.file.specs.declared.palette.Pointer.{Pointer}
 use Rattle.file.specs.declared.registers.File.{File}
 use Rattle.file.specs.declared.state.State.{State}
@@ -26,7 +25,7 @@ use Rattle.roads.proofs.StretchRuns.{up-as, painted-registers, stretch-
 use Rattle.roads.proofs.RunsCompose.{runs-none, runs-then}
 
 -- the marks after some entries are sound
-marks-after-sound : (m : Marks) (cs : List Colour) → T (marksSound m) → T (marksSound (marksAfter m cs))
+marks-after-sound : (m : ℕ) (cs : List Colour) → T (marksSound m) → T (marksSound (marksAfter m cs))
 unfolding marksAfter marksSound
 marks-after-sound m [] t = t
 marks-after-sound m (c ∷ cs) t = tt
@@ -57,7 +56,7 @@ stretches-run (stretch ∷ stretches) f bank s up t =
 
 -- ---- what they leave among the entries
 
-one-leaves : (bank : Bool) (stretch : Stretch) (f : File) (p : Pointer) (m : Marks) (l : List Colour)
+one-leaves : (bank : Bool) (stretch : Stretch) (f : File) (p : Pointer) (m : ℕ) (l : List Colour)
     → withStep p m (withEntries bank l (afterStretch bank stretch f)) ≡ withStep p m (withEntries bank l f)
 unfolding afterStretch painted withStep withBank withPalette
 one-leaves true stretch f p m l = refl

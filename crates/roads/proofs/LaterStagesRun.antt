@@ -11,7 +11,6 @@ use Rattle.bits.specs.Store.{bit, store, within}
 use Rattle.bits.proofs.Bit.{bit-lt}
 use Rattle.bits.proofs.Test.{left, right, both}
 use Rattle.file.specs.declared.palette.Colour.{Colour}
-use Rattle.file.specs.declared.palette.Marks.{Marks}
 use Rattle.file.specs.declared.palette.Pointer.{Pointer}
 use Rattle.file.specs.declared.registers.File.{File}
 use Rattle.file.specs.File.{register, withRegisters, withPalette, withBank, withPointer, withToggle}
@@ -65,7 +64,7 @@ chosen-up w f true ready b0 = record { isSound = ready .isSound; on = ready .on;
 chosen-up w f false ready b0 = record { isSound = ready .isSound; on = ready .on; up = rw b0; chosen = rw b0 }
 
 -- where there is an entry the marks end at write, blue
-ends-blue : (m : Marks) (cs : List Colour) → 1 ≤ length cs → marksAfter m cs ≡ writeBlue
+ends-blue : (m : ℕ) (cs : List Colour) → 1 ≤ length cs → marksAfter m cs ≡ writeBlue
 unfolding marksAfter
 ends-blue m [] h = absurd (omega arith)
 ends-blue m (c ∷ cs) h = refl
@@ -83,7 +82,7 @@ all-run w f bank new ready b0 old many t =
     subst (λ (g : File). RunsInto f (entries 0 new) g)
     (ap₂ (λ (a : ℕ) (l : List Colour). withStep (addressed false (a % 256)) (marksAfter (f .state .marks) new) (withEntries bank l f)) total
     (sets-all (entriesIn bank f) new (old ∙ sym many))
-    ∙ ap (λ (m : Marks). withStep (addressed false (entryCount bank % 256)) m (withEntries bank new f))
+    ∙ ap (λ (m : ℕ). withStep (addressed false (entryCount bank % 256)) m (withEntries bank new f))
     (ends-blue (f .state .marks) new (omega (arith, many, some-entries bank))))
     (stretch-runs (record { first = 0; colours = new }) f bank (ready .isSound) (chosen-up w f bank ready b0)
     (both (leb (0 + length new) (entryCount bank)) (bytes new) (le→leb (0 + length new) (entryCount bank) (omega (arith, many))) t))
@@ -127,11 +126,11 @@ module _ (w : List ℕ) (palette bank : List Colour) (f : File) (all : length pa
   coloured-bank = at-any half B0 openBank B0 (half-ready .isSound) (lit< tt)
 
   -- the next stage: the marks
-  pub marks-run : (m : Marks) → T (marksSound m) → RunsInto (coloured palette bank f) (marking m) (marked m (coloured palette bank f))
+  pub marks-run : (m : ℕ) → T (marksSound m) → RunsInto (coloured palette bank f) (marking m) (marked m (coloured palette bank f))
   unfolding coloured withStep marked
   marks-run m t = steps-run (coloured palette bank f) true m (chosen-up w (coloured palette bank f) true coloured-ready coloured-bank) t
 
-  pub marked-ready : (m : Marks) → T (marksSound m) → Ready w (marked m (coloured palette bank f))
+  pub marked-ready : (m : ℕ) → T (marksSound m) → Ready w (marked m (coloured palette bank f))
   unfolding marked withStep
   marked-ready m t =
       ready-as w (coloured palette bank f) (marked m (coloured palette bank f)) refl

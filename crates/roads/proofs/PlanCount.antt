@@ -8,10 +8,10 @@ use native.Mathlib.Omega.{arith}
 use lib.ListN.{length, length-append}
 use Rattle.places.specs.Lookup.{isOneOf}
 use Rattle.file.specs.declared.palette.Colour.{Colour}
-use Rattle.file.specs.declared.palette.Marks.{Marks}
 use Rattle.file.specs.declared.registers.File.{File}
+use Rattle.file.specs.Palette.{markedRead, markedColour}
 use Rattle.roads.specs.Roads.{toB0, eachRoad, but, registerRoads, indexRoads, closingRoads}
-use Rattle.roads.specs.Plan.{openBank, opening, pixel, pixels, entries, colours, marking, indices, closing, planRecords}
+use Rattle.roads.specs.Plan.{openBank, opening, pixel, pixels, entries, colours, pixelSteps, marking, indices, closing, planRecords}
 use Rattle.roads.specs.RoadRecords.{write, selecting, along}
 use Rattle.roads.specs.Restores.{IsFile}
 
@@ -46,15 +46,16 @@ plan-count w wf =
     omega (arith, plan-parts w, colour-records (w .palette) (w .bank) (wf .palette) (wf .bank), register-records (w .registers))
 
 -- 02, 1/13, 'within the same 1,024 records': at most 3 for the marks
-few-by : (reading : Bool) (colour : ℕ) → length (marking (record { reading = reading; colour = colour })) ≤ 3
-unfolding marking
+few-by : (reading : Bool) (colour : ℕ) → length (pixelSteps reading colour) ≤ 3
+unfolding pixelSteps
 few-by reading zero = omega arith
 few-by reading (suc zero) = omega arith
 few-by true (suc (suc colour)) = omega arith
 few-by false (suc (suc colour)) = omega arith
 
-pub marking-few : (m : Marks) → length (marking m) ≤ 3
-marking-few m = few-by (m .reading) (m .colour)
+pub marking-few : (m : ℕ) → length (marking m) ≤ 3
+unfolding marking
+marking-few m = few-by (markedRead m) (markedColour m)
 
 -- 'at most 1,024 records'
 pub plan-room : (w : File) → IsFile w → length (planRecords w) ≤ 1024

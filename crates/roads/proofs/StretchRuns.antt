@@ -13,7 +13,6 @@ use lib.ListN.{length}
 use Rattle.bits.proofs.Test.{left, right, both}
 use Rattle.file.specs.declared.answer.Answer.the-variants.{Done}
 use Rattle.file.specs.declared.palette.Colour.{Colour}
-use Rattle.file.specs.declared.palette.Marks.{Marks}
 use Rattle.file.specs.declared.palette.Pointer.{Pointer}
 use Rattle.file.specs.declared.registers.File.{File}
 use Rattle.file.specs.declared.state.State.{State}
@@ -21,7 +20,7 @@ use Rattle.file.specs.Answers.{codeOf}
 use Rattle.file.specs.Effects.{apply, paintIn}
 use Rattle.file.specs.File.{register, withRegisters, withPalette, withBank, withPointer, withState}
 use Rattle.file.specs.State.{stepping, stateSound}
-use Rattle.file.specs.Palette.{addressed, moved, afterWrite, stores, mixed, marksFrom, marksSound, pointerSound}
+use Rattle.file.specs.Palette.{addressed, moved, afterWrite, stores, mixed, marksOf, marksFrom, marksSound, pointerSound}
 use Rattle.file.specs.Registers.{storedTable, sequencer, crtc, graphics, attribute, pipeline}
 use Rattle.file.specs.Sound.{allWithin, sound}
 use Rattle.file.proofs.Soundness.{paint-keeps, sound-by, registers-sound, state-sound, stepping-sound, marks-sound, paint-keeps-state}
@@ -79,12 +78,12 @@ up-as f g bank e t up =
     }
 
 -- another pointer and other marks leave it so
-pub step-up : (f : File) (bank : Bool) (p : Pointer) (m : Marks) → PaletteReady f bank → T (marksSound m) → T (pointerSound p)
+pub step-up : (f : File) (bank : Bool) (p : Pointer) (m : ℕ) → PaletteReady f bank → T (marksSound m) → T (pointerSound p)
     → PaletteReady (withStep p m f) bank
 unfolding withStep
 step-up f bank p m up t h = up-as f (withStep p m f) bank refl (stepping-sound p m (f .state) (both (marksSound m) (pointerSound p) t h)) up
 
-pub pixel-runs : (f : File) (bank : Bool) (p : Pointer) (m : Marks) (value : ℕ) → PaletteReady f bank → T (marksSound m) → T (pointerSound p) → value < 256
+pub pixel-runs : (f : File) (bank : Bool) (p : Pointer) (m : ℕ) (value : ℕ) → PaletteReady f bank → T (marksSound m) → T (pointerSound p) → value < 256
     → RunsInto (withStep p m f) (mmioWrite 0xAC value ∷ []) (apply (pixelWrite (withStep p m f) value) (withStep p m f))
 unfolding rowAt first matches selects places answerAt effectAt
 pixel-runs f bank p m value up t s h =
@@ -97,14 +96,14 @@ entry-at true entry h = omega arith
 entry-at false entry h = omega arith
 
 -- the pointer and the marks that stood before the entry was stored do not matter
-repainted : (bank : Bool) (entry : ℕ) (c : Colour) (p q : Pointer) (m n : Marks) (f : File)
+repainted : (bank : Bool) (entry : ℕ) (c : Colour) (p q : Pointer) (m n : ℕ) (f : File)
     → withState (stepping q n (withStep p m f .state)) (paintIn bank entry c (withStep p m f)) ≡ withStep q n (paintIn bank entry c f)
 unfolding paintIn withStep
 repainted true entry c p q m n f = refl
 repainted false entry c p q m n f = refl
 
 -- what the third byte leaves
-third-leaves : (f : File) (bank : Bool) (entry : ℕ) (c : Colour) (m : Marks) → PaletteReady f bank → entry < entryCount bank
+third-leaves : (f : File) (bank : Bool) (entry : ℕ) (c : Colour) (m : ℕ) → PaletteReady f bank → entry < entryCount bank
     → apply (pixelWrite (withStep (between (entry % 256) 2 (c .red) (c .green)) m f) (c .blue)) (withStep (between (entry % 256) 2 (c .red) (c .green)) m f)
     ≡ withStep (addressed false (suc entry % 256)) writeBlue (paintIn bank entry c f)
 unfolding pixelWrite stores afterWrite moved mixed marksFrom apply withStep addressed inBank entryNumber register
@@ -116,11 +115,11 @@ third-leaves f bank entry c m up h =
     next = omega arith
 
 -- the marks after a write of a colour
-abbrev written : ℕ → Marks
-written colour = record { reading = false; colour = colour }
+abbrev written : ℕ → ℕ
+written colour = marksOf false colour
 
 -- the three writes of an entry
-entry-runs : (f : File) (bank : Bool) (entry : ℕ) (c : Colour) (m : Marks) → PaletteReady f bank → T (marksSound m) → entry < entryCount bank
+entry-runs : (f : File) (bank : Bool) (entry : ℕ) (c : Colour) (m : ℕ) → PaletteReady f bank → T (marksSound m) → entry < entryCount bank
     → c .red < 256 → c .green < 256 → c .blue < 256
     → RunsInto (withStep (addressed false (entry % 256)) m f) (mmioWrite 0xAC (c .red) ∷ mmioWrite 0xAC (c .green) ∷ mmioWrite 0xAC (c .blue) ∷ [])
     (withStep (addressed false (suc entry % 256)) writeBlue (paintIn bank entry c f))
@@ -162,7 +161,7 @@ unfolding marksAfter
 blue-stays [] = refl
 blue-stays (c ∷ cs) = refl
 
-pixels-run : (cs : List Colour) (f : File) (bank : Bool) (first : ℕ) (m : Marks) → PaletteReady f bank → T (marksSound m)
+pixels-run : (cs : List Colour) (f : File) (bank : Bool) (first : ℕ) (m : ℕ) → PaletteReady f bank → T (marksSound m)
     → first + length cs ≤ entryCount bank → T (bytes cs)
     → RunsInto (withStep (addressed false (first % 256)) m f) (pixels cs)
     (withStep (addressed false ((first + length cs) % 256)) (marksAfter m cs) (painted bank first cs f))
@@ -177,7 +176,7 @@ pixels-run (c ∷ cs) f bank first m up s h t =
     (withStep (addressed false ((first + suc (length cs)) % 256)) writeBlue (painted bank first (c ∷ cs) f))
     (entry-runs f bank first c m up s (omega arith) (ltb→lt (c .red) 256 (search (left, right))) (ltb→lt (c .green) 256 (search (left, right)))
     (ltb→lt (c .blue) 256 (search (left, right))))
-    (subst (λ (n : Marks). RunsInto (withStep (addressed false (suc first % 256)) writeBlue (paintIn bank first c f)) (pixels cs) (withStep (addressed false ((first + suc (length cs)) % 256)) n (painted bank first (c ∷ cs) f)))
+    (subst (λ (n : ℕ). RunsInto (withStep (addressed false (suc first % 256)) writeBlue (paintIn bank first c f)) (pixels cs) (withStep (addressed false ((first + suc (length cs)) % 256)) n (painted bank first (c ∷ cs) f)))
     (blue-stays cs)
     (subst (λ (g : File). RunsInto (withStep (addressed false (suc first % 256)) writeBlue (paintIn bank first c f)) (pixels cs) g)
     (ap₂ (λ (n : ℕ) (g : File). withStep (addressed false (n % 256)) (marksAfter writeBlue cs) g) onward (painted-next bank first c cs f))

@@ -8,11 +8,10 @@ use lib.Dec.{T, leb, ltb}
 use lib.ListN.{getD, length}
 use lib.Seq.{sets}
 use Rattle.file.specs.declared.palette.Colour.{Colour}
-use Rattle.file.specs.declared.palette.Marks.{Marks}
 use Rattle.file.specs.declared.palette.Pointer.{Pointer}
 use Rattle.file.specs.declared.registers.File.{File}
 use Rattle.file.specs.File.{withPalette, withBank, withState, black}
-use Rattle.file.specs.Palette.{addressed}
+use Rattle.file.specs.Palette.{addressed, marksOf}
 use Rattle.file.specs.Sound.{sound}
 use Rattle.file.specs.State.{stepping}
 use Rattle.access.specs.declared.record.Record.{Record}
@@ -69,16 +68,16 @@ abbrev pub between : ℕ → ℕ → ℕ → ℕ → Pointer
 between address next red green = record { address = address; reading = false; next = next; red = red; green = green }
 
 -- the file with another pointer and other marks
-unfoldable pub withStep : Pointer → Marks → File → File
+unfoldable pub withStep : Pointer → ℕ → File → File
 unfolding withState stepping
 withStep pointer marks f = withState (stepping pointer marks (f .state)) f
 
 -- 02, 1/13: the marks that an entry's third byte leaves
-abbrev pub writeBlue : Marks
-writeBlue = record { reading = false; colour = 2 }
+abbrev pub writeBlue : ℕ
+writeBlue = marksOf false 2
 
 -- the marks after some entries
-unfoldable pub marksAfter : Marks → List Colour → Marks
+unfoldable pub marksAfter : ℕ → List Colour → ℕ
 marksAfter m [] = m
 marksAfter m (c ∷ cs) = writeBlue
 

@@ -5,11 +5,10 @@ use mathlib.Core.Bool.{Bool, cond}
 use mathlib.Core.List.{List, [], _∷_, _++_}
 use lib.ListN.{getD}
 use Rattle.file.specs.declared.palette.Colour.{Colour}
-use Rattle.file.specs.declared.palette.Marks.{Marks}
 use Rattle.file.specs.declared.palette.Pointer.{Pointer}
 use Rattle.file.specs.declared.registers.File.{File}
 use Rattle.file.specs.Names.{MISC, ARX}
-use Rattle.file.specs.Palette.{byColour}
+use Rattle.file.specs.Palette.{byColour, markedRead, markedColour}
 use Rattle.access.specs.declared.record.Record.{Record}
 use Rattle.roads.specs.Roads.{toPCI04, toCR11, toB0, toMISC, toARX, byHalf, registerRoads, indexRoads, closingRoads}
 use Rattle.roads.specs.RoadRecords.{write, along}
@@ -86,10 +85,15 @@ abbrev pub pixelStep : Bool → Record
 pixelStep reading = cond reading (mmioRead 0xAC) (mmioWrite 0xAC 0)
 
 -- 02, 1/13, as settled: from before red up to the colour wanted; the entries leave write, blue, which needs none
-unfoldable pub marking : Marks → List Record
-marking m =
-    byColour (m .colour) (pixelStep (m .reading) ∷ []) (pixelStep (m .reading) ∷ pixelStep (m .reading) ∷ [])
-    (cond (m .reading) (mmioRead 0xAC ∷ mmioRead 0xAC ∷ mmioRead 0xAC ∷ []) [])
+unfoldable pub pixelSteps : Bool → ℕ → List Record
+pixelSteps reading colour =
+    byColour colour (pixelStep reading ∷ []) (pixelStep reading ∷ pixelStep reading ∷ [])
+    (cond reading (mmioRead 0xAC ∷ mmioRead 0xAC ∷ mmioRead 0xAC ∷ []) [])
+
+-- to the marks that are wanted
+unfoldable pub marking : ℕ → List Record
+unfolding pixelSteps
+marking m = pixelSteps (markedRead m) (markedColour m)
 
 -- SRX, GRX, CRX and ARX, which leaves the toggle at data; then the toggle
 unfoldable pub indices : List ℕ → Bool → List Record

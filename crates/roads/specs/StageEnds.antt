@@ -5,12 +5,11 @@ use mathlib.Core.Bool.{Bool, false, cond}
 use mathlib.Core.List.{List}
 use lib.ListN.{getD}
 use Rattle.file.specs.declared.palette.Colour.{Colour}
-use Rattle.file.specs.declared.palette.Marks.{Marks}
 use Rattle.file.specs.declared.palette.Pointer.{Pointer}
 use Rattle.file.specs.declared.registers.File.{File}
 use Rattle.file.specs.File.{withPalette, withBank, withPointer, withToggle}
 use Rattle.file.specs.Names.{MISC, ARX, PCI04, CR11, B0}
-use Rattle.file.specs.Palette.{byColour, addressed}
+use Rattle.file.specs.Palette.{byColour, addressed, markedRead, markedColour}
 use Rattle.roads.specs.Roads.{indexRoads}
 use Rattle.roads.specs.Plan.{openSpaces, openLock, openPalette, openBank}
 use Rattle.roads.specs.RegisterStage.{withRegister, brought}
@@ -37,11 +36,11 @@ unfoldable pub coloured : List Colour → List Colour → File → File
 coloured palette bank f = withStep (addressed false 16) writeBlue (withBank bank (withPalette palette (withRegister B0 openBank f)))
 
 -- 02, 1/13: where the pointer then stands once the marks are as wanted
-unfoldable pub markedPointer : Marks → Pointer
-markedPointer m = byColour (m .colour) (between 16 1 0 0) (between 16 2 0 0) (addressed false (cond (m .reading) 17 16))
+unfoldable pub markedPointer : ℕ → Pointer
+markedPointer m = byColour (markedColour m) (between 16 1 0 0) (between 16 2 0 0) (addressed false (cond (markedRead m) 17 16))
 
 -- the file with the marks as wanted
-unfoldable pub marked : Marks → File → File
+unfoldable pub marked : ℕ → File → File
 marked m f = withStep (markedPointer m) m f
 
 -- the file with the index registers and the toggle as wanted

@@ -11,7 +11,6 @@ use Rattle.bits.proofs.Test.{left, right, by-test, passes, is-true}
 use Rattle.file.specs.declared.effect.Effect.{Effect}
 use Rattle.file.specs.declared.effect.Effect.the-variants.{Nothing, Store, Toggle, Move, Step, Paint}
 use Rattle.file.specs.declared.palette.Colour.{Colour}
-use Rattle.file.specs.declared.palette.Marks.{Marks}
 use Rattle.file.specs.declared.palette.Pointer.{Pointer}
 use Rattle.file.specs.declared.registers.File.{File}
 use Rattle.file.specs.declared.state.State.{State}
@@ -32,11 +31,11 @@ use Rattle.trace.specs.declared.running.Served.{Served}
 use Rattle.trace.specs.EngineServed.{paints, paintsBank, paintsColour, lands, Puts}
 
 -- a file without colours has none to store
-painted-none : (registers : List ℕ) (bank : Bool) (entry : ℕ) (colour : Colour) (marks : Marks) (pointer : Pointer) (state : State)
-    → apply (Paint bank entry marks pointer colour) (seen registers state) ≡ seen registers (stepping pointer marks state)
+painted-none : (registers : List ℕ) (bank : Bool) (entry : ℕ) (pointer : Pointer) (colour : Colour) (marks : ℕ) (state : State)
+    → apply (Paint bank entry pointer colour marks) (seen registers state) ≡ seen registers (stepping pointer marks state)
 unfolding apply seen
-painted-none registers true entry colour marks pointer state = refl
-painted-none registers false entry colour marks pointer state = refl
+painted-none registers true entry pointer colour marks state = refl
+painted-none registers false entry pointer colour marks state = refl
 
 -- what is left of a served access, with another state
 abbrev withState : State → Served → Served
@@ -73,22 +72,22 @@ module _ (registers : List ℕ) (before : Served) where
   move-put pointer state e =
       record { code = refl; value = refl; pixel = refl; left = λ t. ap (seen registers) (sym e); painting = λ e. e; bank = refl; colour = refl }
 
-  pub step-put : (marks : Marks) (pointer : Pointer) (state : State) → state ≡ stepping pointer marks (before .state)
-      → Puts registers before (Step marks pointer) registers (withState state before)
+  pub step-put : (pointer : Pointer) (marks : ℕ) (state : State) → state ≡ stepping pointer marks (before .state)
+      → Puts registers before (Step pointer marks) registers (withState state before)
   unfolding apply seen paints paintsBank paintsColour
-  step-put marks pointer state e =
+  step-put pointer marks state e =
       record { code = refl; value = refl; pixel = refl; left = λ t. ap (seen registers) (sym e); painting = λ e. e; bank = refl; colour = refl }
 
-  pub paint-put : (bank : Bool) (entry : ℕ) (colour : Colour) (marks : Marks) (pointer : Pointer) (state : State) → state ≡ stepping pointer marks (before .state)
-      → Puts registers before (Paint bank entry marks pointer colour) registers
+  pub paint-put : (bank : Bool) (entry : ℕ) (pointer : Pointer) (colour : Colour) (marks : ℕ) (state : State) → state ≡ stepping pointer marks (before .state)
+      → Puts registers before (Paint bank entry pointer colour marks) registers
       (record { code = before .code; value = before .value; state = state; pixel = before .pixel; paints = true; bank = bank; colour = colour })
   unfolding paints paintsBank paintsColour
-  paint-put bank entry colour marks pointer state e =
+  paint-put bank entry pointer colour marks state e =
       record {
         code = refl;
         value = refl;
         pixel = refl;
-        left = λ t. painted-none registers bank entry colour marks pointer (before .state) ∙ ap (seen registers) (sym e);
+        left = λ t. painted-none registers bank entry pointer colour marks (before .state) ∙ ap (seen registers) (sym e);
         painting = λ e. refl;
         bank = refl;
         colour = refl;
@@ -135,11 +134,11 @@ parts-after Nothing f t = refl
 parts-after (Store flips number reach value) f t = refl
 parts-after (Toggle toggle) f t = refl
 parts-after (Move pointer) f t = refl
-parts-after (Step marks pointer) f t = refl
-parts-after (Paint true entry marks pointer colour) f t =
+parts-after (Step pointer marks) f t = refl
+parts-after (Paint true entry pointer colour marks) f t =
     ap (λ (n : ℕ). record { registers = f .registers; palette = f .palette; bank = set (f .bank) n colour; state = stepping pointer marks (f .state) })
     (eqb→eq entry (f .state .pointer .address % bankCount) t)
-parts-after (Paint false entry marks pointer colour) f t =
+parts-after (Paint false entry pointer colour marks) f t =
     ap (λ (n : ℕ). record { registers = f .registers; palette = set (f .palette) n colour; bank = f .bank; state = stepping pointer marks (f .state) })
     (eqb→eq entry (f .state .pointer .address) t)
 

@@ -34,24 +34,24 @@ paints Nothing = false
 paints (Store flips number reach value) = false
 paints (Toggle toggle) = false
 paints (Move pointer) = false
-paints (Step marks pointer) = false
-paints (Paint bank entry marks pointer colour) = true
+paints (Step pointer marks) = false
+paints (Paint bank entry pointer colour marks) = true
 
 unfoldable pub paintsBank : Bool → Effect → Bool
 paintsBank otherwise Nothing = otherwise
 paintsBank otherwise (Store flips number reach value) = otherwise
 paintsBank otherwise (Toggle toggle) = otherwise
 paintsBank otherwise (Move pointer) = otherwise
-paintsBank otherwise (Step marks pointer) = otherwise
-paintsBank otherwise (Paint bank entry marks pointer colour) = bank
+paintsBank otherwise (Step pointer marks) = otherwise
+paintsBank otherwise (Paint bank entry pointer colour marks) = bank
 
 unfoldable pub paintsColour : Colour → Effect → Colour
 paintsColour otherwise Nothing = otherwise
 paintsColour otherwise (Store flips number reach value) = otherwise
 paintsColour otherwise (Toggle toggle) = otherwise
 paintsColour otherwise (Move pointer) = otherwise
-paintsColour otherwise (Step marks pointer) = otherwise
-paintsColour otherwise (Paint bank entry marks pointer colour) = colour
+paintsColour otherwise (Step pointer marks) = otherwise
+paintsColour otherwise (Paint bank entry pointer colour marks) = colour
 
 -- an effect lands if its register is one of the file's and its entry the one that the pointer names
 unfoldable pub lands : State → Effect → Bool
@@ -59,8 +59,8 @@ lands s Nothing = true
 lands s (Store flips number reach value) = ltb number registerCount
 lands s (Toggle toggle) = true
 lands s (Move pointer) = true
-lands s (Step marks pointer) = true
-lands s (Paint bank entry marks pointer colour) = eqb entry (cond bank (s .pointer .address % bankCount) (s .pointer .address))
+lands s (Step pointer marks) = true
+lands s (Paint bank entry pointer colour marks) = eqb entry (cond bank (s .pointer .address % bankCount) (s .pointer .address))
 
 -- an effect put on registers and state: what was answered stays, and what it paints is told
 pub record Puts (registers : List ℕ) (before : Served) (e : Effect) (after : List ℕ) (s : Served) : Type 0 where

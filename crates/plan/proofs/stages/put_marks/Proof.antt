@@ -5,18 +5,17 @@ use mathlib.Core.Bool.{Bool, cond}
 use mathlib.Core.List.{[], _∷_}
 use borrow.Author.Needs.{needs}
 use borrow.Author.Tests.{not-true, not-false}
-use Rattle.file.specs.declared.palette.Marks.{Marks}
 use Rattle.roads.specs.Plan.{mmioRead, pixelStep, marking}
 use Rattle.plan.proofs.Appending.{append-then, append-none}
 use Rattle.plan.proofs.stages.put_marks.Statement.{statement}
 use Rattle.plan.proofs.stages.put_marks.Tie as tie
 
 -- the records by the colour
-at-red : (m : Marks) → m .colour ≡ 0 → marking m ≡ pixelStep (m .reading) ∷ []
+at-red : (m : ℕ) → m .colour ≡ 0 → marking m ≡ pixelStep (m .reading) ∷ []
 unfolding marking
 at-red m e = rw e
 
-at-green : (m : Marks) → m .colour ≡ 1 → marking m ≡ pixelStep (m .reading) ∷ pixelStep (m .reading) ∷ []
+at-green : (m : ℕ) → m .colour ≡ 1 → marking m ≡ pixelStep (m .reading) ∷ pixelStep (m .reading) ∷ []
 unfolding marking
 at-green m e = rw e
 
@@ -27,7 +26,7 @@ blue-by reading zero r g = absurd (r refl)
 blue-by reading (suc zero) r g = absurd (g refl)
 blue-by reading (suc (suc colour)) r g = refl
 
-at-blue : (m : Marks) → (m .colour ≡ 0 → ⊥) → (m .colour ≡ 1 → ⊥)
+at-blue : (m : ℕ) → (m .colour ≡ 0 → ⊥) → (m .colour ≡ 1 → ⊥)
     → marking m ≡ cond (m .reading) (mmioRead 0xAC ∷ mmioRead 0xAC ∷ mmioRead 0xAC ∷ []) []
 at-blue m r g = blue-by (m .reading) (m .colour) r g
 

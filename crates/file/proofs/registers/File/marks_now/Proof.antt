@@ -7,7 +7,7 @@ use Rattle.file.proofs.registers.File.marks_now.Tie as tie
 
 returns : tie.Need-returns
 unfolding readMarks
-returns c = rw (sym (c .before .before .is-sound .ensures) ∙ c .before .if1 .taken)
+returns c = rw (sym (c .before .is-sound .ensures) ∙ c .if1 .taken)
 
 returns-2 : tie.Need-returns-2
 unfolding readMarks
