@@ -1,53 +1,51 @@
 -- `put_marks` meets its contract. Assumes nothing.
-use Prim.Native.Nat.{ℕ, zero, suc}
-use mathlib.Core.Path.{_≡_, refl}
-use mathlib.Core.Bool.{Bool, cond}
+use Prim.Native.Nat.{ℕ}
+use mathlib.Core.Path.{_≡_}
+use mathlib.Core.Bool.{cond}
 use mathlib.Core.List.{[], _∷_}
 use borrow.Author.Needs.{needs}
 use borrow.Author.Tests.{not-true, not-false}
+use Rattle.file.specs.Palette.{markedRead, markedColour}
+use Rattle.file.proofs.Colours.{blue-left}
 use Rattle.roads.specs.Plan.{mmioRead, pixelStep, marking}
 use Rattle.plan.proofs.Appending.{append-then, append-none}
 use Rattle.plan.proofs.stages.put_marks.Statement.{statement}
 use Rattle.plan.proofs.stages.put_marks.Tie as tie
 
 -- the records by the colour
-at-red : (m : ℕ) → m .colour ≡ 0 → marking m ≡ pixelStep (m .reading) ∷ []
+at-red : (m : ℕ) → markedColour m ≡ 0 → marking m ≡ pixelStep (markedRead m) ∷ []
 unfolding marking
 at-red m e = rw e
 
-at-green : (m : ℕ) → m .colour ≡ 1 → marking m ≡ pixelStep (m .reading) ∷ pixelStep (m .reading) ∷ []
+at-green : (m : ℕ) → markedColour m ≡ 1 → marking m ≡ pixelStep (markedRead m) ∷ pixelStep (markedRead m) ∷ []
 unfolding marking
 at-green m e = rw e
 
-blue-by : (reading : Bool) (colour : ℕ) → (colour ≡ 0 → ⊥) → (colour ≡ 1 → ⊥)
-    → marking (record { reading = reading; colour = colour }) ≡ cond reading (mmioRead 0xAC ∷ mmioRead 0xAC ∷ mmioRead 0xAC ∷ []) []
+at-blue : (m : ℕ) → (markedColour m ≡ 0 → ⊥) → (markedColour m ≡ 1 → ⊥)
+    → marking m ≡ cond (markedRead m) (mmioRead 0xAC ∷ mmioRead 0xAC ∷ mmioRead 0xAC ∷ []) []
 unfolding marking
-blue-by reading zero r g = absurd (r refl)
-blue-by reading (suc zero) r g = absurd (g refl)
-blue-by reading (suc (suc colour)) r g = refl
-
-at-blue : (m : ℕ) → (m .colour ≡ 0 → ⊥) → (m .colour ≡ 1 → ⊥)
-    → marking m ≡ cond (m .reading) (mmioRead 0xAC ∷ mmioRead 0xAC ∷ mmioRead 0xAC ∷ []) []
-at-blue m r g = blue-by (m .reading) (m .colour) r g
+at-blue m r g =
+    blue-left (markedColour m) (pixelStep (markedRead m) ∷ []) (pixelStep (markedRead m) ∷ pixelStep (markedRead m) ∷ [])
+    (cond (markedRead m) (mmioRead 0xAC ∷ mmioRead 0xAC ∷ mmioRead 0xAC ∷ []) []) r g
 
 returns : tie.Need-returns
 returns c =
     let taken = c .before .before .before .before in
-    rw (at-red (taken .before .before .before .args .marks) (taken .if1 .taken)) (c .before .before .put-step .ensures)
+    rw (at-red (taken .before .args .marks) (taken .if1 .taken)) (c .before .before .put-step .ensures)
 
 returns-2 : tie.Need-returns-2
 returns-2 c =
     let second = c .before .before in
     let first = second .before .before .before .before in
     let taken = first .before .before in
-    rw (at-green (taken .before .before .before .before .before .args .marks) (taken .if2 .taken)) (append-then (first .put-step2 .ensures) (second .put-step3 .ensures))
+    rw (at-green (taken .before .before .args .marks) (taken .if2 .taken)) (append-then (first .put-step2 .ensures) (second .put-step3 .ensures))
 
 returns-3 : tie.Need-returns-3
 returns-3 c =
-    let green = c .before .before in
-    let red = green .before .before in
-    let m = red .before .before .before .args .marks in
-    rw (at-blue m (red .if1 .left) (green .if2 .left), not-true (m .reading) (c .if3 .taken)) (append-none _ _)
+    let green = c .before in
+    let red = green .before in
+    let m = red .before .args .marks in
+    rw (at-blue m (red .if1 .left) (green .if2 .left), not-true (markedRead m) (c .if3 .taken)) (append-none _ _)
 
 returns-4 : tie.Need-returns-4
 returns-4 c =
@@ -55,10 +53,10 @@ returns-4 c =
     let second = third .before .before .before .before in
     let first = second .before .before .before .before in
     let read = first .before .before in
-    let green = read .before .before in
-    let red = green .before .before in
-    let m = red .before .before .before .args .marks in
-    rw (at-blue m (red .if1 .left) (green .if2 .left), not-false (m .reading) (read .if3 .left))
+    let green = read .before in
+    let red = green .before in
+    let m = red .before .args .marks in
+    rw (at-blue m (red .if1 .left) (green .if2 .left), not-false (markedRead m) (read .if3 .left))
     (append-then (append-then (first .mmio-read .ensures) (second .mmio-read2 .ensures)) (third .mmio-read3 .ensures))
 
 pub put-marks-spec : {M : Type 1} → statement M
