@@ -1,7 +1,7 @@
 -- An access to a sound file leaves a sound file. Assumes nothing.
 use Prim.Native.Nat.{ℕ}
 use mathlib.Core.Path.{_≡_, sym, subst}
-use mathlib.Core.Bool.{Bool, true, false, _&&_}
+use mathlib.Core.Bool.{true, false, _&&_}
 use lib.Dec.{T, eqb, eqb→eq}
 use Rattle.bits.specs.Store.{within, store}
 use Rattle.bits.proofs.Stored.{within-self}

@@ -53,7 +53,7 @@ dacState p = cond (p .reading) 3 0
 abbrev pub marksOf : Bool → ℕ → ℕ
 marksOf reading colour = cond reading 4 0 + colour
 
--- and apart: direction 1 is a read
+-- 02, 1/13, 'direction and colour', taken from the marks; direction 1 is a read
 abbrev pub markedDirection : ℕ → ℕ
 markedDirection m = m / 4
 

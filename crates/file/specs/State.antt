@@ -1,5 +1,5 @@
--- The small parts of a file beside its registers and colours: the palette pointer, the toggle, which says whether the next 3C0h write is data,
--- and the marks of the last pixel data access.
+-- The small parts of a file beside its registers and colours: the palette pointer, the marks of the last pixel data access, and the toggle, which says
+-- whether the next 3C0h write is data.
 -- Assumes nothing.
 use Prim.Native.Nat.{ℕ}
 use mathlib.Core.Bool.{Bool, false, cond, not, _&&_}

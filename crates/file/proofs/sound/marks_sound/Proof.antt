@@ -1,7 +1,6 @@
 -- `marks_sound` meets its contract. Assumes nothing.
 use borrow.Author.Tests.{le-leb, lt-leb}
 use Rattle.file.specs.Palette.{marksSound}
-use borrow.Author.Needs.{needs}
 use Rattle.file.proofs.sound.marks_sound.Statement.{statement}
 use Rattle.file.proofs.sound.marks_sound.Tie as tie
 

@@ -31,20 +31,20 @@ at-blue m r g =
 returns : tie.Need-returns
 returns c =
     let taken = c .before .before .before .before in
-    rw (at-red (taken .before .args .marks) (taken .if1 .taken)) (c .before .before .put-step .ensures)
+    rw (at-red (taken .before .before .args .marks) (taken .if1 .taken)) (c .before .before .put-step .ensures)
 
 returns-2 : tie.Need-returns-2
 returns-2 c =
     let second = c .before .before in
     let first = second .before .before .before .before in
     let taken = first .before .before in
-    rw (at-green (taken .before .before .args .marks) (taken .if2 .taken)) (append-then (first .put-step2 .ensures) (second .put-step3 .ensures))
+    rw (at-green (taken .before .before .before .args .marks) (taken .if2 .taken)) (append-then (first .put-step2 .ensures) (second .put-step3 .ensures))
 
 returns-3 : tie.Need-returns-3
 returns-3 c =
     let green = c .before in
     let red = green .before in
-    let m = red .before .args .marks in
+    let m = red .before .before .args .marks in
     rw (at-blue m (red .if1 .left) (green .if2 .left), not-true (markedRead m) (c .if3 .taken)) (append-none _ _)
 
 returns-4 : tie.Need-returns-4
@@ -55,7 +55,7 @@ returns-4 c =
     let read = first .before .before in
     let green = read .before in
     let red = green .before in
-    let m = red .before .args .marks in
+    let m = red .before .before .args .marks in
     rw (at-blue m (red .if1 .left) (green .if2 .left), not-false (markedRead m) (read .if3 .left))
     (append-then (append-then (first .mmio-read .ensures) (second .mmio-read2 .ensures)) (third .mmio-read3 .ensures))
 

@@ -1,7 +1,6 @@
 -- `Pointer::marks` meets its contract. Assumes nothing.
 use mathlib.Core.Path.{sym}
 use native.Mathlib.Nat.{zero-add}
-use native.Mathlib.Omega.{arith}
 use Rattle.file.specs.Palette.{marksFrom}
 use borrow.Author.Needs.{needs}
 use Rattle.file.proofs.palette.Pointer.marks.Statement.{statement}
