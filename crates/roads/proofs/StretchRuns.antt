@@ -114,10 +114,6 @@ third-leaves f bank entry c m up h =
     next : (entry % 256 + 1) % 256 ≡ suc entry % 256
     next = omega arith
 
--- the marks after a write of a colour
-abbrev written : ℕ → ℕ
-written colour = marksOf false colour
-
 -- the three writes of an entry
 entry-runs : (f : File) (bank : Bool) (entry : ℕ) (c : Colour) (m : ℕ) → PaletteReady f bank → T (marksSound m) → entry < entryCount bank
     → c .red < 256 → c .green < 256 → c .blue < 256
@@ -126,16 +122,16 @@ entry-runs : (f : File) (bank : Bool) (entry : ℕ) (c : Colour) (m : ℕ) → P
 unfolding pixelWrite stores afterWrite moved marksFrom apply withStep addressed marksSound pointerSound
 entry-runs f bank entry c m up t h r g b =
     runs-then (mmioWrite 0xAC (c .red) ∷ []) (mmioWrite 0xAC (c .green) ∷ mmioWrite 0xAC (c .blue) ∷ [])
-    (withStep (addressed false (entry % 256)) m f) (withStep (between (entry % 256) 1 (c .red) 0) (written 0) f)
+    (withStep (addressed false (entry % 256)) m f) (withStep (between (entry % 256) 1 (c .red) 0) (marksOf false 0) f)
     (withStep (addressed false (suc entry % 256)) writeBlue (paintIn bank entry c f))
     (pixel-runs f bank (addressed false (entry % 256)) m (c .red) up t tt r)
     (runs-then (mmioWrite 0xAC (c .green) ∷ []) (mmioWrite 0xAC (c .blue) ∷ [])
-    (withStep (between (entry % 256) 1 (c .red) 0) (written 0) f) (withStep (between (entry % 256) 2 (c .red) (c .green)) (written 1) f)
+    (withStep (between (entry % 256) 1 (c .red) 0) (marksOf false 0) f) (withStep (between (entry % 256) 2 (c .red) (c .green)) (marksOf false 1) f)
     (withStep (addressed false (suc entry % 256)) writeBlue (paintIn bank entry c f))
-    (pixel-runs f bank (between (entry % 256) 1 (c .red) 0) (written 0) (c .green) up tt tt g)
-    (subst (λ (x : File). RunsInto (withStep (between (entry % 256) 2 (c .red) (c .green)) (written 1) f) (mmioWrite 0xAC (c .blue) ∷ []) x)
-    (third-leaves f bank entry c (written 1) up h)
-    (pixel-runs f bank (between (entry % 256) 2 (c .red) (c .green)) (written 1) (c .blue) up tt tt b)))
+    (pixel-runs f bank (between (entry % 256) 1 (c .red) 0) (marksOf false 0) (c .green) up tt tt g)
+    (subst (λ (x : File). RunsInto (withStep (between (entry % 256) 2 (c .red) (c .green)) (marksOf false 1) f) (mmioWrite 0xAC (c .blue) ∷ []) x)
+    (third-leaves f bank entry c (marksOf false 1) up h)
+    (pixel-runs f bank (between (entry % 256) 2 (c .red) (c .green)) (marksOf false 1) (c .blue) up tt tt b)))
 
 -- ---- a stretch of entries
 
