@@ -94,7 +94,7 @@ unfoldable pub answerAt : Bool → File → Place → Answer
 unfolding profile writeAnswer readAnswer
 answerAt write f place = cond write (writeAnswer f (profile place .writing)) (readAnswer f (profile place .reading))
 
--- a 3C9h write: 'at blue it stores held red, held green and this byte'; 02, 1/13: it is the last access
+-- a 3C9h write: 'at blue it stores held red, held green and this byte'; by 02, 1/13 it becomes the last 3C9h access
 unfoldable pub pixelWrite : File → ℕ → Effect
 pixelWrite f byte =
     cond (stores (f .state .pointer))
@@ -109,7 +109,8 @@ writeEffect reach f (setsAddress reading) value = Move (addressed reading value)
 writeEffect reach f writesPixel value = pixelWrite f value
 writeEffect reach f (storesNothing flips) value = cond flips (Toggle (not (f .state .toggle))) Nothing
 
--- what a read does: '3?Ah read (.. sets the toggle to index)', and a 3C9h read moves the pointer and is the last access (02, 1/13)
+-- what a read does: '3?Ah read (.. sets the toggle to index)', and a 3C9h read moves the pointer and becomes the last 3C9h access
+-- (02, 1/13)
 unfoldable pub readEffect : File → Reading → Effect
 readEffect f (givesHeld number) = Nothing
 readEffect f (givesFixed value) = Nothing

@@ -48,8 +48,8 @@ mixed p byte = record { red = p .red; green = p .green; blue = byte }
 unfoldable pub dacState : Pointer → ℕ
 dacState p = cond (p .reading) 3 0
 
--- 02, 1/13, 'bit 2 tells whether the last palette access was a read or a write, and bits 1:0 which colour was last accessed': the marks are the number
--- that B0[2:0] reads
+-- 02, 1/13, 'bit 2 tells whether the last palette access was a read or a write, and bits 1:0 which colour was last accessed'; 003, 5.1: bit 2 is 1 for a
+-- read, bits 1:0 are 0 red, 1 green, 2 blue. The marks are the number that B0[2:0] reads
 abbrev pub marksOf : Bool → ℕ → ℕ
 marksOf reading colour = cond reading 4 0 + colour
 
@@ -63,7 +63,8 @@ markedRead m = eqb (markedDirection m) 1
 abbrev pub markedColour : ℕ → ℕ
 markedColour m = m % 4
 
--- 02, 1/13, 'keep the last 3C9h access, direction and colour': of an access from here; as settled, the colour before the step
+-- 02, 1/13, 'keep the last 3C9h access, direction and colour': of an access (true: a read) with the pointer here; as settled, the colour
+-- before the step
 unfoldable pub marksFrom : Bool → Pointer → ℕ
 marksFrom reading p = marksOf reading (byColour (p .next) 0 1 2)
 

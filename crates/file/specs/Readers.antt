@@ -79,7 +79,7 @@ unfoldable pub readPointer : File → PointerRead
 readPointer f =
     cond (sound f) (record { answer = Done 0; pointer = f .state .pointer }) (record { answer = NotSound; pointer = initial .pointer })
 
--- 02, 1/13, 'the last 3C9h access, direction and colour'; of an unsound file both numbers are 0, as 01 has it of all readers, 'Accesses and replies'
+-- 02, 1/13, 'the last 3C9h access, direction and colour'; of an unsound file write, red (01, 'Accesses and replies': 'all numbers 0')
 unfoldable pub readMarks : File → MarksRead
 readMarks f =
     cond (sound f) (record { answer = Done 0; reading = markedRead (f .state .marks); colour = markedColour (f .state .marks) })

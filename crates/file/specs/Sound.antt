@@ -1,4 +1,4 @@
--- 01, end of 'The palette pointer': soundness.
+-- 01, end of 'The palette pointer', and 02, 1/13: soundness.
 -- Assumes nothing.
 use Prim.Native.Nat.{ℕ}
 use mathlib.Core.Bool.{Bool, true, false, _&&_}
@@ -18,7 +18,8 @@ allWithin [] (value ∷ values) = false
 allWithin (stored ∷ table) [] = false
 allWithin (stored ∷ table) (value ∷ values) = within stored value && allWithin table values
 
--- 'A file is sound if no bit outside the table is set, the next colour is 0 to 2, held green is 0 before blue is due, and held red is 0 at red.' With the marks by 02, 1/13.
+-- 'A file is sound if no bit outside the table is set, the next colour is 0 to 2, held green is 0 before blue is due, and held red is 0 at red.'
+-- 02, 1/13: 'The marks are sound for direction 0 or 1 and colour 0 to 2.'
 unfoldable pub sound : File → Bool
 sound f = allWithin storedTable (f .registers) && stateSound (f .state)
 

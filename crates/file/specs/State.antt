@@ -13,13 +13,15 @@ unfoldable pub initial : State
 unfolding addressed
 initial = record { pointer = addressed false 0; marks = marksOf false 2; toggle = false }
 
--- the state with one part anew
+-- the state with another pointer
 unfoldable pub pointing : Pointer → State → State
 pointing new s = record { pointer = new; marks = s .marks; toggle = s .toggle }
 
+-- 02, 1/13: after a 3C9h access, another pointer and other marks
 unfoldable pub stepping : Pointer → ℕ → State → State
 stepping new marks s = record { pointer = new; marks = marks; toggle = s .toggle }
 
+-- with another toggle
 unfoldable pub toggling : Bool → State → State
 toggling new s = record { pointer = s .pointer; marks = s .marks; toggle = new }
 

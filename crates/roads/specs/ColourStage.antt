@@ -63,7 +63,7 @@ withEntries bank cs f = cond bank (withBank cs f) (withPalette cs f)
 unfoldable pub painted : Bool → ℕ → List Colour → File → File
 painted bank first cs f = withEntries bank (sets (entriesIn bank f) first cs) f
 
--- where the pointer stands among the three bytes of an entry
+-- the pointer among the three bytes of an entry, in write mode: address, next colour, held red, held green
 abbrev pub between : ℕ → ℕ → ℕ → ℕ → Pointer
 between address next red green = record { address = address; reading = false; next = next; red = red; green = green }
 
@@ -76,12 +76,12 @@ withStep pointer marks f = withState (stepping pointer marks (f .state)) f
 abbrev pub writeBlue : ℕ
 writeBlue = marksOf false 2
 
--- the marks after some entries
+-- the marks after some entries, from those before; no entry leaves them
 unfoldable pub marksAfter : ℕ → List Colour → ℕ
 marksAfter m [] = m
 marksAfter m (c ∷ cs) = writeBlue
 
--- the file after it
+-- the file after a stretch: its colours, the pointer behind them, the marks that they leave
 unfoldable pub afterStretch : Bool → Stretch → File → File
 afterStretch bank stretch f =
     withStep (addressed false ((stretch .first + length (stretch .colours)) % 256)) (marksAfter (f .state .marks) (stretch .colours))

@@ -80,11 +80,11 @@ entries first cs = mmioWrite 0xA8 first ∷ pixels cs
 unfoldable pub colours : List Colour → List Colour → List Record
 colours palette bank = entries 0 palette ++ write toB0 openBank ∷ entries 0 bank
 
--- 02, 1/13, 'the last 3C9h access, direction and colour': one access in that direction, a write holding 0
+-- 02, 1/13, 'the last 3C9h access, direction and colour': one access in the wanted direction; a write's byte is 0
 abbrev pub pixelStep : Bool → Record
 pixelStep reading = cond reading (mmioRead 0xAC) (mmioWrite 0xAC 0)
 
--- 02, 1/13, as settled: from before red up to the colour wanted; the entries leave write, blue, which needs none
+-- 02, 1/13, as settled: from before red up to and with the colour wanted; the entries leave write, blue, which needs none
 unfoldable pub pixelSteps : Bool → ℕ → List Record
 pixelSteps reading colour =
     byColour colour (pixelStep reading ∷ []) (pixelStep reading ∷ pixelStep reading ∷ [])
@@ -100,7 +100,7 @@ unfoldable pub indices : List ℕ → Bool → List Record
 indices wanted toggle =
     along wanted (indexRoads (getD wanted MISC 0)) ++ write toARX (getD wanted ARX 0) ∷ toggleRead (getD wanted MISC 0) toggle ∷ []
 
--- the pointer; then what was open, PCI04 last
+-- the pointer, whose address write clears what the marking held; then what was open, PCI04 last
 unfoldable pub closing : List ℕ → Pointer → List Record
 closing wanted pointer = pointerWrite pointer ∷ along wanted closingRoads
 

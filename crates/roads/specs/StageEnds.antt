@@ -31,15 +31,15 @@ withMISC w f = withRegister MISC (getD w MISC 0) (withPaletteUp f)
 unfoldable pub opened : List ℕ → File → File
 opened w f = withToggle false (withMISC w f)
 
--- the file with all colours as wanted, the pointer behind the bank's, its last byte the last access
+-- the file with all colours as wanted, the pointer behind the bank's last entry, the marks write, blue
 unfoldable pub coloured : List Colour → List Colour → File → File
 coloured palette bank f = withStep (addressed false 16) writeBlue (withBank bank (withPalette palette (withRegister B0 openBank f)))
 
--- 02, 1/13: where the pointer then stands once the marks are as wanted
+-- 02, 1/13: where the marking leaves the pointer, from behind the bank
 unfoldable pub markedPointer : ℕ → Pointer
 markedPointer m = byColour (markedColour m) (between 16 1 0 0) (between 16 2 0 0) (addressed false (cond (markedRead m) 17 16))
 
--- the file with the marks as wanted
+-- the file after the marking of sound marks: the marks as wanted, the pointer where that leaves it
 unfoldable pub marked : ℕ → File → File
 marked m f = withStep (markedPointer m) m f
 
