@@ -19,6 +19,7 @@ static inline bool same_file(const struct sc_file *a, const struct sc_file *b)
         && a->pointer.address == b->pointer.address && a->pointer.reading == b->pointer.reading
         && a->pointer.colour == b->pointer.colour
         && !memcmp(a->pointer.held, b->pointer.held, sizeof a->pointer.held)
+        && a->last.reading == b->last.reading && a->last.colour == b->last.colour
         && !memcmp(a->palette, b->palette, sizeof a->palette)
         && !memcmp(a->bank, b->bank, sizeof a->bank);
 }

@@ -50,6 +50,7 @@ static void print_file(const struct sc_file *f)
 
     printf("next %u\nheld %02X %02X\n", p->colour, p->held[0], p->held[1]);
     printf("address %02X\nmode %s\n", p->address, p->reading ? "read" : "write");
+    printf("last %s %u\n", f->last.reading ? "read" : "write", f->last.colour);
     printf("toggle %s\n", f->data_next ? "data" : "index");
     print("PCI04", f->pci04);
     print("MISC", f->misc);

@@ -558,11 +558,11 @@ static bool point24(void)
         || poke(&f, 0xAC, 2) != -9 || !points_at(&f, 7, false, SC_GREEN, 1, 0))
         return false;
     return in(&f, 0x3C8) == 7 && out(&f, 0x3C7, 8) == 0 && out(&f, 0x3C6, 0x5A) == 0
-        && in(&f, 0x3C6) == 0x5A && peek(&f, 0xA0) == 0x5A && peek(&f, 0xB0) == 0x86
+        && in(&f, 0x3C6) == 0x5A && peek(&f, 0xA0) == 0x5A && peek(&f, 0xB0) == 0x80
         && poke(&f, 0xB0, 0) == 0 && in(&f, 0x3C9) == 0;
 }
 
-/* Every pointer with held bytes 0 or not; B0's low bits as 01 gives them. */
+/* Every pointer with held bytes 0 or not; B0's low bits by the last access (02, 1/13). */
 static bool point25(void)
 {
     for (int colour = 0; colour < 256; colour++)
@@ -573,10 +573,29 @@ static bool point25(void)
             f.pointer = pointer(3, true, colour, red, green);
             if (sc_sound(&f) != sound)
                 return false;
-            if (sound ? peek(&f, 0xB0) != (4 | (colour + 2) % 3) : peek(&f, 0xB0) != -12)
+            if (peek(&f, 0xB0) != (sound ? SC_BLUE : -12))
                 return false;
         }
     return true;
+}
+
+/* 02, 1/13: "after a 3C7h write we see 'read' before anything was read". */
+static bool last_access(void)
+{
+    struct sc_file f = opened();
+
+    if (peek(&f, 0xB0) != 2 || out(&f, 0x3C7, 9) != 0 || peek(&f, 0xB0) != 2 || in(&f, 0x3C7) != 3)
+        return false;
+    if (in(&f, 0x3C9) != 0 || peek(&f, 0xB0) != 4 || peek(&f, 0xAC) != 0 || peek(&f, 0xB0) != 5)
+        return false;
+    if (out(&f, 0x3C8, 1) != 0 || peek(&f, 0xB0) != 5 || poke(&f, 0xAC, 7) != 0
+        || peek(&f, 0xB0) != 0)
+        return false;
+    if (poke(&f, 0xB0, 0x88) != 0 || in(&f, 0x3C9) != -9 || out(&f, 0x3C9, 1) != -9
+        || peek(&f, 0xB0) != 0x88)
+        return false;
+    f.last.colour = 3;
+    return !sc_sound(&f) && peek(&f, 0xB0) == -12;
 }
 
 /* ---- Timing, cursor, window ---- */
@@ -965,6 +984,7 @@ int main(void)
         { "point 26", "every number's range", point26 },
         { "point 27", "bits the timing writer leaves", point27 },
         { "point 28", "the timing writer's order of codes", point28 },
+        { "02, 1/13", "B0 shows the last pixel data access", last_access },
         { "point 29", "the cursor", point29 },
         { "point 30", "window 2", point30 },
         { "point 31", "readers of an unsound file", point31 },

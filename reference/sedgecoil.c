@@ -72,7 +72,7 @@ enum {
 
 void sc_power_on(struct sc_file *f)
 {
-    *f = (struct sc_file){ 0 };
+    *f = (struct sc_file){ .last = { .colour = SC_BLUE } };
 }
 
 /* ---- Soundness ---- */
@@ -108,7 +108,7 @@ static bool pointer_sound(const struct sc_pointer *p)
 
 bool sc_sound(const struct sc_file *f)
 {
-    return bits_sound(f) && pointer_sound(&f->pointer);
+    return bits_sound(f) && pointer_sound(&f->pointer) && f->last.colour < SC_COLOURS;
 }
 
 /* ---- Where an access goes ---- */
@@ -235,11 +235,18 @@ static uint8_t *entry(struct sc_file *f)
     return f->palette[f->pointer.address];
 }
 
+/* 02, 1/13: "keep the last 3C9h access, direction and colour", the colour before the step. */
+static void mark(struct sc_file *f, bool reading)
+{
+    f->last = (struct sc_last){ .reading = reading, .colour = f->pointer.colour };
+}
+
 static uint8_t read_pixel(struct sc_file *f, uint16_t *value)
 {
     if (f->pipe[SC_B0] & B0_POWER_DOWN)
         return SC_POWERED_DOWN;
     *value = entry(f)[f->pointer.colour];
+    mark(f, true);
     step(&f->pointer);
     return SC_DONE;
 }
@@ -258,14 +265,15 @@ static uint8_t write_pixel(struct sc_file *f, uint8_t value)
     } else {
         p->held[p->colour] = value;
     }
+    mark(f, false);
     step(p);
     return SC_DONE;
 }
 
-/* 01 "The palette pointer": B0[2] shows the mode, B0[1:0] the next colour. */
+/* 02, 1/13: bit 2 "whether the last palette access was a read", bits 1:0 "which colour". */
 static uint16_t read_b0(const struct sc_file *f)
 {
-    return f->pipe[SC_B0] | (f->pointer.reading ? B0_READING : 0) | (f->pointer.colour + 2) % 3;
+    return f->pipe[SC_B0] | (f->last.reading ? B0_READING : 0) | f->last.colour;
 }
 
 /* ---- One register read or written ---- */
@@ -734,6 +742,16 @@ static uint8_t *put_entries(uint8_t *end, uint8_t b0, const uint8_t *component, 
     return end;
 }
 
+/* 02, 1/13: behind the entries the last access is write, blue; the pointer is before red. */
+static uint8_t *put_last(uint8_t *end, const struct sc_last *last)
+{
+    if (!last->reading && last->colour == SC_BLUE)
+        return end;
+    for (unsigned i = 0; i <= last->colour; i++)
+        end = last->reading ? put(end, SC_MMIO_READ, 1, 0xAC, 0) : put_mmio(end, 0xAC, 0);
+    return end;
+}
+
 /* Index and data of every register of a group that stores anything. */
 static uint8_t *put_group(uint8_t *end, uint16_t index, uint16_t data, const uint8_t *bank,
                           const uint8_t *mask, uint8_t count)
@@ -792,6 +810,7 @@ uint8_t sc_plan(const struct sc_file *wanted, uint8_t *buffer, size_t room, size
     end = put_opening(end, wanted);
     end = put_entries(end, 0, wanted->palette[0], sizeof wanted->palette);
     end = put_entries(end, B0_BANK, wanted->bank[0], sizeof wanted->bank);
+    end = put_last(end, &wanted->last);
     end = put_registers(end, wanted);
     end = put_indices(end, wanted);
     end = put_closing(end, wanted);

@@ -72,6 +72,12 @@ struct sc_pointer {
     uint8_t held[2];    /* red, green */
 };
 
+/* 02, 1/13: the last pixel data access that was done. */
+struct sc_last {
+    bool reading;
+    uint8_t colour;
+};
+
 /* Each array spans its whole index range; a number that stores nothing stays 0. */
 enum { SC_SRS = 0x20, SC_CRS = 0x40, SC_GRS = 0x40, SC_ARS = 0x20 };
 enum { SC_PALETTE_ENTRIES = 256, SC_BANK_ENTRIES = 16 };
@@ -85,6 +91,7 @@ struct sc_file {
     uint8_t sr[SC_SRS], cr[SC_CRS], gr[SC_GRS], ar[SC_ARS];
     uint16_t pipe[SC_PIPES];
     struct sc_pointer pointer;
+    struct sc_last last;
     uint8_t palette[SC_PALETTE_ENTRIES][SC_COLOURS];
     uint8_t bank[SC_BANK_ENTRIES][SC_COLOURS];
 };
@@ -123,10 +130,13 @@ struct sc_progress {
     size_t rest_length;
 };
 
-/* 01 "Places": all stored bits and entries 0, toggle at index, pointer at 0, write mode, red. */
+/*
+ * 01 "Places": all stored bits and entries 0, toggle at index, pointer at 0, write mode, red;
+ * 02, 1/13: "power-on is write, blue".
+ */
 void sc_power_on(struct sc_file *f);
 
-/* 01 "The palette pointer", last sentence: is the file sound? */
+/* 01 "The palette pointer", last sentence, and 02, 1/13: is the file sound? */
 bool sc_sound(const struct sc_file *f);
 
 /* 01 "Accesses and replies": the 8 bytes of a record read, the 8 bytes of a reply written. */

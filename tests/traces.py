@@ -329,6 +329,26 @@ def palette(chance):
     return kept_open(chance, records())
 
 
+def polls(chance):
+    """pixel data both ways, address writes and refusals, with B0h and 3C7h read in between"""
+    def records():
+        while True:
+            read_address, write_address, data = PIXEL_PORTS if chance.one_in(2) else PIXEL_MMIO
+            kind = chance.below(12)
+            if kind < 4:
+                yield read(*data)
+            elif kind < 8:
+                yield write(*data, chance.fitting(1))
+            elif kind < 10:
+                yield write(*chance.pick((read_address, write_address)), chance.below(256))
+            else:
+                yield write(MMIO, 0xB0, chance.pick((0x00, 0x00, 0x08, 0x80)))
+            yield read(MMIO, 0xB0)
+            if chance.one_in(4):
+                yield read(PORT, 0x3C7)
+    return kept_open(chance, records())
+
+
 SR_HELD = [0x00, 0x01, 0x02, 0x03, 0x04, 0x07, *range(0x09, 0x0F), 0x14, 0x15, *range(0x1B, 0x1F)]
 CR_HELD = [*range(0x1C), 0x1D, 0x1E]
 INDEXED = ((0x3C4, SR_HELD), (0x3D4, CR_HELD), (0x3D4, CR_HELD), (0x3CE, range(0x09)))
@@ -433,7 +453,7 @@ def tail(chance, seed):
 
 def long(chance):
     """stretches of all the other kinds"""
-    streams = [make(chance) for make in (noise, mixed, index, toggles, palette, timing, geometry, sweep)]
+    streams = [make(chance) for make in (noise, mixed, index, toggles, palette, polls, timing, geometry, sweep)]
     yield OPEN
     while True:
         yield from itertools.islice(chance.pick(streams), 20 + chance.below(1500))
@@ -450,6 +470,7 @@ KINDS = {
     "index": index,
     "toggles": toggles,
     "palette": palette,
+    "polls": polls,
     "ports": ports,
     "timing": timing,
     "geometry": geometry,

@@ -9,7 +9,7 @@ use Rattle.bits.specs.Store.{bit}
 use Rattle.bits.proofs.Bit.{bit-of-zero, by-bits}
 use Rattle.bits.proofs.Test.{right}
 use Rattle.file.specs.declared.effect.Effect.{Effect}
-use Rattle.file.specs.declared.effect.Effect.the-variants.{Nothing, Store, Toggle, Move, Paint}
+use Rattle.file.specs.declared.effect.Effect.the-variants.{Nothing, Store, Toggle, Move, Step, Paint}
 use Rattle.file.specs.declared.registers.File.{File}
 use Rattle.file.specs.Effects.{apply, reachOf}
 use Rattle.file.specs.File.{register}
@@ -90,7 +90,7 @@ module _ (f : File) (value i : ℕ) where
     written writing t =
         by-write Lands (reachIn f) f writing value (none Nothing refl)
         (λ number flip e. stored number (reachIn f number) flip (ltb→lt number registerCount (subst (λ (w : Writing). T (writesFile w)) e t)))
-        (λ reading. none (Move _) refl) (none (Move _) refl) (none (Paint _ _ _ _) refl) (λ e. none (Toggle _) refl)
+        (λ reading. none (Move _) refl) (none (Step _ _) refl) (none (Paint _ _ _ _ _) refl) (λ e. none (Toggle _) refl)
 
   read : (reading : Reading) → reachOf (readEffect f reading) .bits ≡ 0
   unfolding reachOf

@@ -6,11 +6,11 @@ use lib.Dec.{T}
 use Rattle.bits.proofs.Test.{by-test, is-true}
 use Rattle.file.specs.declared.answer.Answer.the-variants.{NotSound}
 use Rattle.file.specs.declared.effect.Effect.{Effect}
-use Rattle.file.specs.declared.effect.Effect.the-variants.{Nothing, Store, Toggle, Move, Paint}
+use Rattle.file.specs.declared.effect.Effect.the-variants.{Nothing, Store, Toggle, Move, Step, Paint}
 use Rattle.file.specs.declared.registers.File.{File}
 use Rattle.file.specs.Answers.{codeOf, refused}
 use Rattle.file.specs.Effects.{apply}
-use Rattle.file.specs.Palette.{addressed, afterWrite, afterRead, stores, mixed}
+use Rattle.file.specs.Palette.{addressed, afterWrite, afterRead, stores, mixed, marksFrom}
 use Rattle.file.specs.Sound.{sound}
 use Rattle.places.specs.Profile.{Reading, givesHeld, givesFixed, givesToggle, givesPaletteState, givesDacState, givesAddress, givesPixel, resetsToggle, namesNothing, Writing, storesTo, readOnly, setsAddress, writesPixel, storesNothing, profile}
 use Rattle.access.specs.declared.record.Record.{Record}
@@ -39,7 +39,7 @@ unsound-effect f r e = refusal-does-nothing f r (ap refused (unsound-answer f r 
 
 -- what a read does is nothing, the pointer's step or, at 3?Ah alone, the toggle set to index
 pub by-read : (P : Effect → Type 0) (f : File) (reading : Reading)
-    → P Nothing → P (Move (afterRead (f .state .pointer))) → (reading ≡ resetsToggle → P (Toggle false)) → P (readEffect f reading)
+    → P Nothing → P (Step (afterRead (f .state .pointer)) (marksFrom true (f .state .pointer))) → (reading ≡ resetsToggle → P (Toggle false)) → P (readEffect f reading)
 unfolding readEffect
 by-read P f (givesHeld number) none move toggle = none
 by-read P f (givesFixed value) none move toggle = none
@@ -54,8 +54,8 @@ by-read P f namesNothing none move toggle = none
 -- what a write does is nothing, a store, an address, a pixel's byte held or stored, or the toggle flipped
 pub by-write : (P : Effect → Type 0) (reach : ℕ → ℕ) (f : File) (writing : Writing) (value : ℕ)
     → P Nothing → ((number : ℕ) (flips : Bool) → writing ≡ storesTo number flips → P (Store flips number (reach number) value))
-    → ((reading : Bool) → P (Move (addressed reading value))) → P (Move (afterWrite (f .state .pointer) value))
-    → P (Paint (inBank f) (entryNumber f) (afterWrite (f .state .pointer) value) (mixed (f .state .pointer) value))
+    → ((reading : Bool) → P (Move (addressed reading value))) → P (Step (afterWrite (f .state .pointer) value) (marksFrom false (f .state .pointer)))
+    → P (Paint (inBank f) (entryNumber f) (afterWrite (f .state .pointer) value) (mixed (f .state .pointer) value) (marksFrom false (f .state .pointer)))
     → (writing ≡ storesNothing true → P (Toggle (not (f .state .toggle)))) → P (writeEffect reach f writing value)
 unfolding writeEffect pixelWrite
 by-write P reach f (storesTo number flips) value none store addresses held paint toggle = store number flips refl

@@ -1,18 +1,19 @@
 -- An access to a sound file leaves a sound file. Assumes nothing.
 use Prim.Native.Nat.{ℕ}
 use mathlib.Core.Path.{_≡_, sym, subst}
-use mathlib.Core.Bool.{Bool, _&&_}
+use mathlib.Core.Bool.{true, false, _&&_}
 use lib.Dec.{T, eqb, eqb→eq}
 use Rattle.bits.specs.Store.{within, store}
 use Rattle.bits.proofs.Stored.{within-self}
-use Rattle.bits.proofs.Test.{right, chosen-by, passes}
+use Rattle.bits.proofs.Test.{both, right, chosen-by, passes}
 use Rattle.file.specs.declared.effect.Effect.{Effect}
 use Rattle.file.specs.declared.registers.File.{File}
 use Rattle.file.specs.File.{crtcLocked}
 use Rattle.file.specs.Names.{CR7}
+use Rattle.file.specs.Palette.{afterWrite, afterRead, marksFrom, marksSound, pointerSound}
 use Rattle.file.specs.Registers.{storedBits}
 use Rattle.file.specs.Sound.{sound, keeps}
-use Rattle.file.proofs.Soundness.{apply-sound, addressed-sound, afterWrite-sound, afterRead-sound, pointer-sound}
+use Rattle.file.proofs.Soundness.{apply-sound, addressed-sound, afterWrite-sound, afterRead-sound, marksFrom-sound, pointer-sound}
 use Rattle.places.specs.Profile.{Reading, Writing, profile}
 use Rattle.access.specs.declared.record.Record.{Record}
 use Rattle.access.specs.Access.{placeOf, lockedReach, reachIn, writeEffect, readEffect, effect, access}
@@ -32,13 +33,20 @@ module _ (f : File) (s : T (sound f)) where
   unfolding keeps
   write-keeps writing value =
       by-write (λ (e : Effect). T (keeps e)) (reachIn f) f writing value tt (λ number flips e. reach-within f number)
-      (λ reading. addressed-sound reading value) (afterWrite-sound (f .state .pointer) value (pointer-sound f s))
-      (afterWrite-sound (f .state .pointer) value (pointer-sound f s)) (λ e. tt)
+      (λ reading. addressed-sound reading value) stepped stepped (λ e. tt)
+    where
+      stepped : T (marksSound (marksFrom false (f .state .pointer)) && pointerSound (afterWrite (f .state .pointer) value))
+      stepped =
+          both (marksSound (marksFrom false (f .state .pointer))) (pointerSound (afterWrite (f .state .pointer) value))
+          (marksFrom-sound false (f .state .pointer)) (afterWrite-sound (f .state .pointer) value (pointer-sound f s))
 
   read-keeps : (reading : Reading) → T (keeps (readEffect f reading))
   unfolding keeps
   read-keeps reading =
-      by-read (λ (e : Effect). T (keeps e)) f reading tt (afterRead-sound (f .state .pointer) (pointer-sound f s)) (λ e. tt)
+      by-read (λ (e : Effect). T (keeps e)) f reading tt
+      (both (marksSound (marksFrom true (f .state .pointer))) (pointerSound (afterRead (f .state .pointer)))
+      (marksFrom-sound true (f .state .pointer)) (afterRead-sound (f .state .pointer) (pointer-sound f s)))
+      (λ e. tt)
 
   pub access-sound : (r : Record) → T (sound (access f r .file))
   unfolding access keeps

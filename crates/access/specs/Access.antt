@@ -8,7 +8,7 @@ use Rattle.bits.specs.Store.{bit, store}
 use Rattle.file.specs.declared.answer.Answer.{Answer}
 use Rattle.file.specs.declared.answer.Answer.the-variants.{Done, NoRegister, Malformed, ReadOnly, Locked, PaletteDown, NotSound}
 use Rattle.file.specs.declared.effect.Effect.{Effect}
-use Rattle.file.specs.declared.effect.Effect.the-variants.{Nothing, Store, Toggle, Move, Paint}
+use Rattle.file.specs.declared.effect.Effect.the-variants.{Nothing, Store, Toggle, Move, Step, Paint}
 use Rattle.file.specs.declared.effect.Reach.{Reach}
 use Rattle.file.specs.declared.palette.Colour.{Colour}
 use Rattle.file.specs.declared.registers.File.{File}
@@ -16,7 +16,7 @@ use Rattle.file.specs.Answers.{codeOf, valueOf, refused}
 use Rattle.file.specs.Effects.{apply, reachOf}
 use Rattle.file.specs.File.{register, black, bankCount, crtcLocked}
 use Rattle.file.specs.Names.{CR0, CR6, CR7, B0}
-use Rattle.file.specs.Palette.{component, addressed, afterWrite, afterRead, stores, mixed, dacState, paletteState}
+use Rattle.file.specs.Palette.{component, addressed, afterWrite, afterRead, stores, mixed, dacState, marksFrom}
 use Rattle.file.specs.Registers.{storedBits}
 use Rattle.file.specs.Sound.{sound}
 use Rattle.places.specs.declared.place.Place.{Place}
@@ -64,7 +64,8 @@ entry f = cond (inBank f) (getD (f .bank) (entryNumber f) black) (getD (f .palet
 unfoldable pub shownIn : File → ℕ
 shownIn f = component (entry f) (f .state .pointer .next)
 
--- 'B0[2] reads ..; B0[1:0] reads ..': the bits of B0 that the pointer's state is read in
+-- 02, 1/13, 'bit 2 tells whether the last palette access was a read or a write, and bits 1:0 which colour was last accessed': the bits of B0 that read
+-- the marks
 unfoldable pub shownState : ℕ
 shownState = 0x07
 
@@ -73,7 +74,7 @@ unfoldable pub readAnswer : File → Reading → Answer
 readAnswer f (givesHeld number) = Done (register f number)
 readAnswer f (givesFixed value) = Done value
 readAnswer f givesToggle = Done (cond (f .state .toggle) 0x80 0x00)
-readAnswer f givesPaletteState = Done (store shownState (register f B0) (paletteState (f .state .pointer)))
+readAnswer f givesPaletteState = Done (store shownState (register f B0) (f .state .marks))
 readAnswer f givesDacState = Done (dacState (f .state .pointer))
 readAnswer f givesAddress = Done (f .state .pointer .address)
 readAnswer f givesPixel = cond (paletteUp f) (Done (shownIn f)) PaletteDown
@@ -93,12 +94,12 @@ unfoldable pub answerAt : Bool → File → Place → Answer
 unfolding profile writeAnswer readAnswer
 answerAt write f place = cond write (writeAnswer f (profile place .writing)) (readAnswer f (profile place .reading))
 
--- a 3C9h write: 'at blue it stores held red, held green and this byte'
+-- a 3C9h write: 'at blue it stores held red, held green and this byte'; by 02, 1/13 it becomes the last 3C9h access
 unfoldable pub pixelWrite : File → ℕ → Effect
 pixelWrite f byte =
     cond (stores (f .state .pointer))
-    (Paint (inBank f) (entryNumber f) (afterWrite (f .state .pointer) byte) (mixed (f .state .pointer) byte))
-    (Move (afterWrite (f .state .pointer) byte))
+    (Paint (inBank f) (entryNumber f) (afterWrite (f .state .pointer) byte) (mixed (f .state .pointer) byte) (marksFrom false (f .state .pointer)))
+    (Step (afterWrite (f .state .pointer) byte) (marksFrom false (f .state .pointer)))
 
 -- what a write does, given the bits of each register that it may change
 unfoldable pub writeEffect : (ℕ → ℕ) → File → Writing → ℕ → Effect
@@ -108,7 +109,8 @@ writeEffect reach f (setsAddress reading) value = Move (addressed reading value)
 writeEffect reach f writesPixel value = pixelWrite f value
 writeEffect reach f (storesNothing flips) value = cond flips (Toggle (not (f .state .toggle))) Nothing
 
--- what a read does: '3?Ah read (.. sets the toggle to index)', and a 3C9h read moves the pointer
+-- what a read does: '3?Ah read (.. sets the toggle to index)', and a 3C9h read moves the pointer and becomes the last 3C9h access
+-- (02, 1/13)
 unfoldable pub readEffect : File → Reading → Effect
 readEffect f (givesHeld number) = Nothing
 readEffect f (givesFixed value) = Nothing
@@ -116,7 +118,7 @@ readEffect f givesToggle = Nothing
 readEffect f givesPaletteState = Nothing
 readEffect f givesDacState = Nothing
 readEffect f givesAddress = Nothing
-readEffect f givesPixel = Move (afterRead (f .state .pointer))
+readEffect f givesPixel = Step (afterRead (f .state .pointer)) (marksFrom true (f .state .pointer))
 readEffect f resetsToggle = Toggle false
 readEffect f namesNothing = Nothing
 

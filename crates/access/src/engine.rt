@@ -15,7 +15,6 @@ ghost use Rattle.places.specs.Profile.{profile, storesTo, writesPixel, givesPix
 ghost use Rattle.access.specs.Access.{lockedOut, paletteUp, inBank, pixelWrite, shownState};
 ghost use Rattle.bits.specs.Store.{store as storeBits};
 ghost use Rattle.file.specs.Names.{B0 as B0Number};
-ghost use Rattle.file.specs.Palette.{paletteState};
 ghost use Rattle.access.specs.Checks.{malformed, spaceOff};
 ghost use Rattle.access.specs.Engine.{otherRow, lookedBy, reachBy, decidedWrite, decidedRead, decidedBy};
 use crate::record::Record;
@@ -248,16 +247,21 @@ fn pixel_write(registers: &[u16; REGISTERS], state: State, byte: u8) -> Effect
 {
     let pointer = state.pointer;
     let after = pointer.after_write(byte);
+    let marks = pointer.marks(false);
     if !pointer.stores() {
-        return Effect::Move(after);
+        return Effect::Step {
+            pointer: after,
+            marks,
+        };
     }
     let bank = is_in_bank(registers);
     let entry = entry_number(bank, pointer.address);
     Effect::Paint {
         bank,
         entry,
-        colour: pointer.mixed(byte),
         pointer: after,
+        colour: pointer.mixed(byte),
+        marks,
     }
 }
 
@@ -311,19 +315,21 @@ fn read_pixel(registers: &[u16; REGISTERS], state: State) -> Decision
     if is_palette_up(registers) {
         return Decision {
             answer: Answer::Done(0),
-            effect: Effect::Move(pointer.after_read()),
+            effect: Effect::Step {
+                pointer: pointer.after_read(),
+                marks: pointer.marks(true),
+            },
             pixel: true,
         };
     }
     only(Answer::PaletteDown)
 }
 
-// What B0 reads: the pointer's state in its low bits.
+// What B0 reads: the last pixel data access in its low bits.
 fn palette_state(registers: &[u16; REGISTERS], state: State) -> u16
-    ensures { λ r. ⌜ r ≡ storeBits shownState (getD (now (registers .entry)) B0Number 0) (paletteState (state .pointer)) ⌝ }
+    ensures { λ r. ⌜ r ≡ storeBits shownState (getD (now (registers .entry)) B0Number 0) (state .marks) ⌝ }
 {
-    let pointer = state.pointer;
-    bits::store(0x07, registers[B0], pointer.palette_state())
+    bits::store(0x07, registers[B0], state.marks as u16)
 }
 
 // A read at a place.

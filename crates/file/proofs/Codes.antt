@@ -10,12 +10,13 @@ use Rattle.file.specs.declared.answer.Answer.the-variants.{Done, NoRegis
 use Rattle.file.specs.declared.palette.Colour.{Colour}
 use Rattle.file.specs.declared.readers.EntryRead.{EntryRead}
 use Rattle.file.specs.declared.readers.NumberRead.{NumberRead}
+use Rattle.file.specs.declared.readers.MarksRead.{MarksRead}
 use Rattle.file.specs.declared.readers.PointerRead.{PointerRead}
 use Rattle.file.specs.declared.readers.ToggleRead.{ToggleRead}
 use Rattle.file.specs.declared.registers.File.{File}
 use Rattle.file.specs.Answers.{codeOf, oneOf, listed, isListed}
 use Rattle.file.specs.File.{register, black, paletteCount, bankCount}
-use Rattle.file.specs.Readers.{numberOf, readRegister, readNamed, readNumber, noEntry, entryTold, readPalette, readBank, readPointer, readToggle}
+use Rattle.file.specs.Readers.{numberOf, readRegister, readNamed, readNumber, noEntry, entryTold, readPalette, readBank, readPointer, readMarks, readToggle}
 use Rattle.file.specs.Registers.{registerCount}
 use Rattle.file.specs.Sound.{sound}
 
@@ -68,6 +69,10 @@ bank-codes f n = told-codes (sound f) (ltb n bankCount) (getD (f .bank) n black)
 pub pointer-codes : (f : File) → T (oneOf (0 ∷ 12 ∷ []) (readPointer f .answer))
 unfolding oneOf codeOf readPointer
 pointer-codes f = chosen (λ (r : PointerRead). oneOf (0 ∷ 12 ∷ []) (r .answer)) (sound f) _ _ tt tt
+
+pub marks-codes : (f : File) → T (oneOf (0 ∷ 12 ∷ []) (readMarks f .answer))
+unfolding oneOf codeOf readMarks
+marks-codes f = chosen (λ (r : MarksRead). oneOf (0 ∷ 12 ∷ []) (r .answer)) (sound f) _ _ tt tt
 
 pub toggle-codes : (f : File) → T (oneOf (0 ∷ 12 ∷ []) (readToggle f .answer))
 unfolding oneOf codeOf readToggle

@@ -9,7 +9,7 @@ use Rattle.bits.specs.Store.{bit, store}
 use Rattle.bits.proofs.Piece.{stored-outside}
 use Rattle.bits.proofs.Stored.{inside}
 use Rattle.file.specs.declared.effect.Effect.{Effect}
-use Rattle.file.specs.declared.effect.Effect.the-variants.{Nothing, Store, Toggle, Move, Paint}
+use Rattle.file.specs.declared.effect.Effect.the-variants.{Nothing, Store, Toggle, Move, Step, Paint}
 use Rattle.file.specs.declared.registers.File.{File}
 use Rattle.file.specs.Effects.{apply, reachOf, storeIn}
 use Rattle.file.specs.File.{register, black}
@@ -27,32 +27,44 @@ stored-inside f number reach value i h e =
 pub same-outside : (e : Effect) (f : File) → SameOutside (reachOf e) f (apply e f)
 unfolding reachOf apply register
 same-outside Nothing f =
-    record { registers = λ n i h. refl; palette = λ n h. refl; bank = λ n h. refl; pointer = λ h. refl; toggle = λ h. refl }
+    record { registers = λ n i h. refl; palette = λ n h. refl; bank = λ n h. refl; pointer = λ h. refl; marks = λ h. refl; toggle = λ h. refl }
 same-outside (Store flips number reach value) f =
     record {
       registers = stored-outside (f .registers) number reach value;
       palette = λ n h. refl;
       bank = λ n h. refl;
       pointer = λ h. refl;
+      marks = λ h. refl;
       toggle = λ h. rw h refl;
     }
 same-outside (Toggle toggle) f =
-    record { registers = λ n i h. refl; palette = λ n h. refl; bank = λ n h. refl; pointer = λ h. refl; toggle = λ h. absurd (true≢false h) }
+    record { registers = λ n i h. refl; palette = λ n h. refl; bank = λ n h. refl; pointer = λ h. refl; marks = λ h. refl; toggle = λ h. absurd (true≢false h) }
 same-outside (Move pointer) f =
-    record { registers = λ n i h. refl; palette = λ n h. refl; bank = λ n h. refl; pointer = λ h. absurd (true≢false h); toggle = λ h. refl }
-same-outside (Paint true entry pointer colour) f =
+    record { registers = λ n i h. refl; palette = λ n h. refl; bank = λ n h. refl; pointer = λ h. absurd (true≢false h); marks = λ h. refl; toggle = λ h. refl }
+same-outside (Step pointer marks) f =
+    record {
+      registers = λ n i h. refl;
+      palette = λ n h. refl;
+      bank = λ n h. refl;
+      pointer = λ h. absurd (true≢false h);
+      marks = λ h. absurd (true≢false h);
+      toggle = λ h. refl;
+    }
+same-outside (Paint true entry pointer colour marks) f =
     record {
       registers = λ n i h. refl;
       palette = λ n h. refl;
       bank = λ n h. getD-set-other (f .bank) entry n colour black (h refl);
       pointer = λ h. absurd (true≢false h);
+      marks = λ h. absurd (true≢false h);
       toggle = λ h. refl;
     }
-same-outside (Paint false entry pointer colour) f =
+same-outside (Paint false entry pointer colour marks) f =
     record {
       registers = λ n i h. refl;
       palette = λ n h. getD-set-other (f .palette) entry n colour black (h refl);
       bank = λ n h. refl;
       pointer = λ h. absurd (true≢false h);
+      marks = λ h. absurd (true≢false h);
       toggle = λ h. refl;
     }

@@ -1,29 +1,31 @@
 -- Soundness is kept: by a store within the stored bits, by every step of the pointer, and so by an effect made of these.
 -- Assumes nothing.
-use Prim.Native.Nat.{ℕ, zero, suc, _+_, _<_, _≤_}
+use Prim.Native.Nat.{ℕ, zero, suc, _+_, _/_, _%_, _<_, _≤_}
 use mathlib.Core.Path.{_≡_, refl, sym, ap, ap₂, _∙_, subst}
 use mathlib.Core.Bool.{Bool, true, false, cond, not, _&&_}
 use mathlib.Core.List.{List, [], _∷_}
 use native.Mathlib.Numerals.{add-one}
+use native.Mathlib.Omega.{arith}
+use borrow.Author.Tests.{eqb-true, eqb-false}
 use lib.Bits.{bitOr, bitXor}
-use lib.Dec.{T, eqb}
+use lib.Dec.{T, eqb, leb, leb→le}
 use lib.ListN.{getD, set, drop, length, drop-of-length-le}
 use lib.Seq.{drop-cons}
 use Rattle.bits.specs.Store.{store, within}
 use Rattle.bits.proofs.Stored.{store-within, within-le, none-or, none-stray}
-use Rattle.bits.proofs.Test.{left, right, both, and-assoc, and-true}
+use Rattle.bits.proofs.Test.{left, right, both, by-test, and-assoc, and-true}
 use Rattle.file.specs.declared.effect.Effect.{Effect}
-use Rattle.file.specs.declared.effect.Effect.the-variants.{Nothing, Store, Toggle, Move, Paint}
+use Rattle.file.specs.declared.effect.Effect.the-variants.{Nothing, Store, Toggle, Move, Step, Paint}
 use Rattle.file.specs.declared.palette.Colour.{Colour}
 use Rattle.file.specs.declared.palette.Pointer.{Pointer}
 use Rattle.file.specs.declared.registers.File.{File}
 use Rattle.file.specs.declared.state.State.{State}
 use Rattle.file.specs.Effects.{apply, storeIn, paintIn}
 use Rattle.file.specs.File.{register, powerOn}
-use Rattle.file.specs.Palette.{byColour, addressed, moved, afterWrite, afterRead, pointerSound}
+use Rattle.file.specs.Palette.{byColour, addressed, moved, afterWrite, afterRead, marksOf, markedRead, markedColour, marksFrom, marksSound, pointerSound}
 use Rattle.file.specs.Registers.{registerCount, storedBits, storedTable}
 use Rattle.file.specs.Sound.{allWithin, sound, keeps}
-use Rattle.file.specs.State.{pointing, toggling, stateSound}
+use Rattle.file.specs.State.{pointing, stepping, toggling, stateSound}
 
 -- a register of a sound file is within its row
 pub at : (table values : List ℕ) (number : ℕ) → T (allWithin table values) → T (within (getD table number 0) (getD values number 0))
@@ -144,7 +146,11 @@ sound-by f = both (allWithin storedTable (f .registers)) (stateSound (f .state))
 -- a state with a part anew
 pub pointing-sound : (p : Pointer) (s : State) → T (pointerSound p) → T (stateSound s) → T (stateSound (pointing p s))
 unfolding stateSound pointing
-pointing-sound p s t h = t
+pointing-sound p s t h = both (marksSound (s .marks)) (pointerSound p) (left (marksSound (s .marks)) (pointerSound (s .pointer)) h) t
+
+pub stepping-sound : (p : Pointer) (m : ℕ) (s : State) → T (marksSound m && pointerSound p) → T (stateSound (stepping p m s))
+unfolding stateSound stepping
+stepping-sound p m s t = t
 
 pub toggling-sound : (toggle : Bool) (s : State) → T (stateSound s) → T (stateSound (toggling toggle s))
 unfolding stateSound toggling
@@ -152,7 +158,33 @@ toggling-sound toggle s h = h
 
 pub pointer-sound : (f : File) → T (sound f) → T (pointerSound (f .state .pointer))
 unfolding stateSound
-pointer-sound f s = state-sound f s
+pointer-sound f s = right (marksSound (f .state .marks)) (pointerSound (f .state .pointer)) (state-sound f s)
+
+pub marks-sound : (f : File) → T (sound f) → T (marksSound (f .state .marks))
+unfolding stateSound
+marks-sound f s = left (marksSound (f .state .marks)) (pointerSound (f .state .pointer)) (state-sound f s)
+
+-- the marks of an access from any pointer
+marks-by : (reading : Bool) (next : ℕ) → T (marksSound (marksOf reading (byColour next 0 1 2)))
+unfolding marksSound
+marks-by true zero = tt
+marks-by true (suc zero) = tt
+marks-by true (suc (suc next)) = tt
+marks-by false zero = tt
+marks-by false (suc zero) = tt
+marks-by false (suc (suc next)) = tt
+
+pub marksFrom-sound : (reading : Bool) (p : Pointer) → T (marksSound (marksFrom reading p))
+unfolding marksFrom
+marksFrom-sound reading p = marks-by reading (p .next)
+
+-- sound marks are those of their direction and colour
+pub marks-parted : (m : ℕ) → T (marksSound m) → marksOf (markedRead m) (markedColour m) ≡ m
+unfolding marksSound
+marks-parted m t =
+    by-test (markedRead m)
+    (λ e. rw e (omega (arith, eqb-true (m / 4) 1 e)))
+    (λ e. rw e (omega (arith, eqb-false (m / 4) 1 e, leb→le (m / 4) 1 (left (leb (m / 4) 1) (leb (m % 4) 2) t))))
 
 -- a sound file has all registers
 pub sound-count : (f : File) → T (sound f) → length (f .registers) ≡ registerCount
@@ -187,14 +219,15 @@ apply-sound (Store flips number reach value) f k s =
     (toggling-sound (cond flips (not (f .state .toggle)) (f .state .toggle)) (f .state) (state-sound f s))
 apply-sound (Toggle toggle) f k s = sound-by (apply (Toggle toggle) f) (registers-sound f s) (toggling-sound toggle (f .state) (state-sound f s))
 apply-sound (Move pointer) f k s = sound-by (apply (Move pointer) f) (registers-sound f s) (pointing-sound pointer (f .state) k (state-sound f s))
-apply-sound (Paint bank entry pointer colour) f k s =
-    sound-by (apply (Paint bank entry pointer colour) f)
+apply-sound (Step pointer marks) f k s = sound-by (apply (Step pointer marks) f) (registers-sound f s) (stepping-sound pointer marks (f .state) k)
+apply-sound (Paint bank entry pointer colour marks) f k s =
+    sound-by (apply (Paint bank entry pointer colour marks) f)
     (subst (λ (l : List ℕ). T (allWithin storedTable l)) (sym (paint-keeps f bank entry colour)) (registers-sound f s))
-    (pointing-sound pointer (f .state) k (state-sound f s))
+    (stepping-sound pointer marks (f .state) k)
 
 -- the file at power-on is sound
 pub powerOn-sound : T (sound powerOn)
-unfolding sound stateSound powerOn allWithin storedTable within store pointerSound
+unfolding sound stateSound powerOn allWithin storedTable within store marksSound pointerSound
 powerOn-sound = tt
 
 -- a register of a sound file is at most its stored bits

@@ -58,6 +58,7 @@ abbrev pub bankCount : ℕ
 bankCount = 16
 
 -- 01, end of 'Places': 'At power-on all stored bits and entries are 0, the toggle is index, and the pointer is at address 0, write mode, red, nothing held.'
+-- 02, 1/13: 'power-on is write, blue'
 unfoldable pub powerOn : File
 unfolding initial black
 powerOn =

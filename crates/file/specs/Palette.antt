@@ -1,6 +1,6 @@
--- 01, 'The palette pointer'.
+-- 01, 'The palette pointer', and 02, 1/13: the marks of the last access.
 -- Assumes nothing.
-use Prim.Native.Nat.{ℕ, zero, suc, _+_, _*_, _%_}
+use Prim.Native.Nat.{ℕ, zero, suc, _+_, _*_, _/_, _%_}
 use mathlib.Core.Bool.{Bool, true, false, cond, _&&_, _||_}
 use lib.Dec.{leb, eqb}
 use Rattle.file.specs.declared.palette.Colour.{Colour}
@@ -48,9 +48,29 @@ mixed p byte = record { red = p .red; green = p .green; blue = byte }
 unfoldable pub dacState : Pointer → ℕ
 dacState p = cond (p .reading) 3 0
 
--- 'B0[2] reads 1 in read mode; B0[1:0] reads (next colour + 2) mod 3.'
-unfoldable pub paletteState : Pointer → ℕ
-paletteState p = cond (p .reading) 4 0 + (p .next + 2) % 3
+-- 02, 1/13, 'bit 2 tells whether the last palette access was a read or a write, and bits 1:0 which colour was last accessed'; 003, 5.1: bit 2 is 1 for a
+-- read, bits 1:0 are 0 red, 1 green, 2 blue. The marks are the number that B0[2:0] reads
+abbrev pub marksOf : Bool → ℕ → ℕ
+marksOf reading colour = cond reading 4 0 + colour
+
+-- 02, 1/13, 'direction and colour', taken from the marks; direction 1 is a read
+abbrev pub markedDirection : ℕ → ℕ
+markedDirection m = m / 4
+
+abbrev pub markedRead : ℕ → Bool
+markedRead m = eqb (markedDirection m) 1
+
+abbrev pub markedColour : ℕ → ℕ
+markedColour m = m % 4
+
+-- 02, 1/13, 'keep the last 3C9h access, direction and colour': of an access (true: a read) with the pointer here; as settled, the colour
+-- before the step
+unfoldable pub marksFrom : Bool → Pointer → ℕ
+marksFrom reading p = marksOf reading (byColour (p .next) 0 1 2)
+
+-- 02, 1/13, 'The marks are sound for direction 0 or 1 and colour 0 to 2'
+unfoldable pub marksSound : ℕ → Bool
+marksSound m = leb (markedDirection m) 1 && leb (markedColour m) 2
 
 -- 'the next colour is 0 to 2, held green is 0 before blue is due, and held red is 0 at red'
 unfoldable pub pointerSound : Pointer → Bool

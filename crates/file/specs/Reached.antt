@@ -9,10 +9,11 @@ use Rattle.file.specs.declared.effect.Reach.{Reach}
 use Rattle.file.specs.declared.registers.File.{File}
 use Rattle.file.specs.File.{register, black}
 
--- outside the reach every bit of every register, every entry, the pointer and the toggle are as before
+-- outside the reach every bit of every register, every entry, the pointer, the marks (02, 1/13) and the toggle are as before
 pub record SameOutside (r : Reach) (before after : File) : Type 0 where
   pub registers : (number i : ℕ) → (number ≡ r .register → bit i (r .bits) ≡ 0) → bit i (register after number) ≡ bit i (register before number)
   pub palette : (n : ℕ) → (r .palette ≡ true → n ≡ r .entry → ⊥) → getD (after .palette) n black ≡ getD (before .palette) n black
   pub bank : (n : ℕ) → (r .bank ≡ true → n ≡ r .entry → ⊥) → getD (after .bank) n black ≡ getD (before .bank) n black
   pub pointer : r .pointer ≡ false → after .state .pointer ≡ before .state .pointer
+  pub marks : r .marks ≡ false → after .state .marks ≡ before .state .marks
   pub toggle : r .toggle ≡ false → after .state .toggle ≡ before .state .toggle

@@ -12,10 +12,12 @@ use Rattle.file.specs.declared.answer.Answer.the-variants.{Done, NoRegis
 use Rattle.file.specs.declared.palette.Colour.{Colour}
 use Rattle.file.specs.declared.readers.EntryRead.{EntryRead}
 use Rattle.file.specs.declared.readers.NumberRead.{NumberRead}
+use Rattle.file.specs.declared.readers.MarksRead.{MarksRead}
 use Rattle.file.specs.declared.readers.PointerRead.{PointerRead}
 use Rattle.file.specs.declared.readers.ToggleRead.{ToggleRead}
 use Rattle.file.specs.declared.registers.File.{File}
 use Rattle.file.specs.File.{register, black, paletteCount, bankCount}
+use Rattle.file.specs.Palette.{markedRead, markedColour}
 use Rattle.file.specs.Registers.{Register, registerCount, registers}
 use Rattle.file.specs.Sound.{sound}
 use Rattle.file.specs.State.{initial}
@@ -76,6 +78,12 @@ readBank f n = entryTold (sound f) (ltb n bankCount) (getD (f .bank) n black)
 unfoldable pub readPointer : File → PointerRead
 readPointer f =
     cond (sound f) (record { answer = Done 0; pointer = f .state .pointer }) (record { answer = NotSound; pointer = initial .pointer })
+
+-- 02, 1/13, 'the last 3C9h access, direction and colour'; of an unsound file write, red (01, 'Accesses and replies': 'all numbers 0')
+unfoldable pub readMarks : File → MarksRead
+readMarks f =
+    cond (sound f) (record { answer = Done 0; reading = markedRead (f .state .marks); colour = markedColour (f .state .marks) })
+    (record { answer = NotSound; reading = false; colour = 0 })
 
 -- 01, 'Places': the toggle says whether the next 3C0h write is data
 unfoldable pub readToggle : File → ToggleRead

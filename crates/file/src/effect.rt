@@ -25,21 +25,28 @@ pub enum Effect {
     Toggle(bool),
     // the pointer's new state
     Move(Pointer),
-    // an entry of the bank or the palette, and the pointer behind it
+    // a pixel data access that stores no entry: the pointer behind it, and its marks
+    Step {
+        pointer: Pointer,
+        marks: u8,
+    },
+    // an entry of the bank or the palette, the pointer behind it, and the marks
     Paint {
         bank: bool,
         entry: usize,
         pointer: Pointer,
         colour: Colour,
+        marks: u8,
     },
 }
 
-// What an access may change: bits of one register, the toggle, the pointer, an entry of the bank or the palette.
+// What an access may change: bits of one register, the toggle, the pointer, the marks, an entry of the bank or the palette.
 pub struct Reach {
     pub register: usize,
     pub bits: u16,
     pub toggle: bool,
     pub pointer: bool,
+    pub marks: bool,
     pub palette: bool,
     pub bank: bool,
     pub entry: usize,
@@ -100,14 +107,16 @@ impl Effect {
             }
             Effect::Toggle(toggle) => stated(file, file.state.toggling(toggle)),
             Effect::Move(pointer) => stated(file, file.state.pointing(pointer)),
+            Effect::Step { pointer, marks } => stated(file, file.state.stepping(pointer, marks)),
             Effect::Paint {
                 bank,
                 entry,
-                colour,
                 pointer,
+                colour,
+                marks,
             } => stated(
                 painted(file, bank, entry, colour),
-                file.state.pointing(pointer),
+                file.state.stepping(pointer, marks),
             ),
         }
     }
@@ -125,13 +134,18 @@ impl Effect {
                 flips,
             } => Reach::bits_of(register, reach, flips),
             Effect::Toggle(_) => Reach::bits_of(0, 0, true),
-            Effect::Move(_) => Reach::colours(false, false, 0),
+            Effect::Move(_) => Reach::colours(false, false, false, 0),
+            Effect::Step {
+                pointer: _,
+                marks: _,
+            } => Reach::colours(true, false, false, 0),
             Effect::Paint {
                 bank,
                 entry,
-                colour: _,
                 pointer: _,
-            } => Reach::colours(!bank, bank, entry),
+                colour: _,
+                marks: _,
+            } => Reach::colours(true, !bank, bank, entry),
         }
     }
 }
@@ -146,28 +160,30 @@ impl Reach {
 
     // Bits of a register, and perhaps the toggle.
     fn bits_of(register: usize, bits: u16, toggle: bool) -> Reach
-        ensures { λ r. ⌜ r ≡ record { register = register; bits = bits; toggle = toggle; pointer = false; palette = false; bank = false; entry = 0 } ⌝ }
+        ensures { λ r. ⌜ r ≡ record { register = register; bits = bits; toggle = toggle; pointer = false; marks = false; palette = false; bank = false; entry = 0 } ⌝ }
     {
         Reach {
             register,
             bits,
             toggle,
             pointer: false,
+            marks: false,
             palette: false,
             bank: false,
             entry: 0,
         }
     }
 
-    // The pointer, and perhaps an entry.
-    fn colours(palette: bool, bank: bool, entry: usize) -> Reach
-        ensures { λ r. ⌜ r ≡ record { register = 0; bits = 0; toggle = false; pointer = true; palette = palette; bank = bank; entry = entry } ⌝ }
+    // The pointer, and perhaps the marks and an entry.
+    fn colours(marks: bool, palette: bool, bank: bool, entry: usize) -> Reach
+        ensures { λ r. ⌜ r ≡ record { register = 0; bits = 0; toggle = false; pointer = true; marks = marks; palette = palette; bank = bank; entry = entry } ⌝ }
     {
         Reach {
             register: 0,
             bits: 0,
             toggle: false,
             pointer: true,
+            marks,
             palette,
             bank,
             entry,

@@ -1,4 +1,4 @@
-// The register file of the CL-GD546X as a value: registers, palette, bank, and a state with pointer and toggle; what an access may do to it.
+// The register file of the CL-GD546X as a value: registers, palette, bank, and a state with pointer, marks and toggle; what an access may do to it.
 mod answer;
 mod effect;
 mod numbered;
@@ -42,6 +42,7 @@ pub use pointer::read_pixel;
 pub use pointer::write_address;
 pub use pointer::write_pixel;
 pub use readers::EntryRead;
+pub use readers::MarksRead;
 pub use readers::NumberRead;
 pub use readers::PointerRead;
 pub use readers::ToggleRead;

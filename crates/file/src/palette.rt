@@ -1,6 +1,6 @@
 ghost use mathlib.Core.Path.{_≡_};
-ghost use Prim.Native.Nat.{_+_, _%_};
-ghost use Rattle.file.specs.Palette.{component as componentOf, addressed as addressedAt, afterWrite, afterRead, stores as storesNow, mixed as mixedWith, dacState, paletteState};
+ghost use Prim.Native.Nat.{_+_, _%_, _≤_};
+ghost use Rattle.file.specs.Palette.{byColour, component as componentOf, addressed as addressedAt, afterWrite, afterRead, stores as storesNow, mixed as mixedWith, dacState, marksFrom};
 
 // An entry of the palette or of the bank: three whole bytes.
 pub struct Colour {
@@ -118,13 +118,20 @@ impl Pointer {
         if self.reading { 3 } else { 0 }
     }
 
-    // What B0[2:0] reads.
-    pub fn palette_state(self) -> u16
-        ensures { λ r. ⌜ r ≡ paletteState self ⌝ }
+    // The marks of a pixel data access from here, as B0[2:0] reads them: 4 for a read, and the colour.
+    pub fn marks(self, reading: bool) -> u8
+        ensures { λ r. ⌜ r ≡ marksFrom reading self ⌝ }
     {
-        let colour = (to_u16(self.next) + 2) % 3;
-        if self.reading { 4 + colour } else { colour }
+        let colour = colour_of(self.next);
+        if reading { 4 + colour } else { colour }
     }
+}
+
+// The colour that is next: what is neither red nor green is blue.
+fn colour_of(next: u8) -> u8
+    ensures { λ r. ⌜ (r ≡ byColour next 0 1 2) × (r ≤ 2) ⌝ }
+{
+    if next < 2 { next } else { 2 }
 }
 
 // An address one higher, modulo 256.
@@ -132,10 +139,4 @@ fn risen(address: u8) -> u8
     ensures { λ r. ⌜ r ≡ (address + 1) % 256 ⌝ }
 {
     if address == 255 { 0 } else { address + 1 }
-}
-
-fn to_u16(x: u8) -> u16
-    ensures { λ r. ⌜ r ≡ x ⌝ }
-{
-    x as u16
 }

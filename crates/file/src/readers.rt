@@ -5,7 +5,7 @@ ghost use Prim.Native.Nat.{_<_};
 ghost use lib.Dec.{eqb};
 ghost use lib.ListN.{getD, length};
 ghost use Rattle.file.specs.Registers.{registerCount};
-ghost use Rattle.file.specs.Readers.{nameTable, numberOf, same, readRegister, readNamed, readNumber, readPalette, readBank, readPointer, readToggle, noEntry, entryTold};
+ghost use Rattle.file.specs.Readers.{nameTable, numberOf, same, readRegister, readNamed, readNumber, readPalette, readBank, readPointer, readMarks, readToggle, noEntry, entryTold};
 use crate::answer::Answer;
 use crate::palette::Colour;
 use crate::palette::Pointer;
@@ -25,6 +25,13 @@ pub struct EntryRead {
 pub struct PointerRead {
     pub answer: Answer,
     pub pointer: Pointer,
+}
+
+// The last pixel data access: whether it was a read, and the colour that was next before it; write, red where the answer is not 0.
+pub struct MarksRead {
+    pub answer: Answer,
+    pub reading: bool,
+    pub colour: u8,
 }
 
 // The toggle; off where the answer is not 0.
@@ -296,6 +303,26 @@ impl File {
             PointerRead {
                 answer: Answer::NotSound,
                 pointer: Pointer::addressed(false, 0),
+            }
+        }
+    }
+
+    // The marks of the last pixel data access.
+    pub fn marks_now(self) -> MarksRead
+        ensures { λ r. ⌜ r ≡ readMarks self ⌝ }
+    {
+        if is_sound(self) {
+            let marks = self.state.marks;
+            MarksRead {
+                answer: Answer::Done(0),
+                reading: marks / 4 == 1,
+                colour: marks % 4,
+            }
+        } else {
+            MarksRead {
+                answer: Answer::NotSound,
+                reading: false,
+                colour: 0,
             }
         }
     }

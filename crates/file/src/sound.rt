@@ -1,5 +1,5 @@
 ghost use mathlib.Core.Path.{_≡_};
-ghost use Rattle.file.specs.Palette.{pointerSound};
+ghost use Rattle.file.specs.Palette.{marksSound, pointerSound};
 ghost use Rattle.file.specs.Sound.{sound};
 ghost use Rattle.file.specs.State.{stateSound};
 use crate::palette::Pointer;
@@ -25,11 +25,24 @@ pub fn is_sound(file: File) -> bool
     }
 }
 
-// The pointer is one that its steps can reach.
+// The marks name a direction and a colour, and the pointer is one that its steps can reach.
 fn state_sound(state: State) -> bool
     ensures { λ r. ⌜ r ≡ stateSound state ⌝ }
 {
+    if !marks_sound(state.marks) {
+        return false;
+    }
     pointer_sound(state.pointer)
+}
+
+// Direction 0 or 1, colour 0 to 2.
+fn marks_sound(marks: u8) -> bool
+    ensures { λ r. ⌜ r ≡ marksSound marks ⌝ }
+{
+    if 1 < marks / 4 {
+        return false;
+    }
+    marks % 4 <= 2
 }
 
 // The next colour is 0 to 2, green is held before blue only, and red after red only.

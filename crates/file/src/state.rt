@@ -1,20 +1,23 @@
 ghost use mathlib.Core.Path.{_≡_};
-ghost use Rattle.file.specs.State.{initial, pointing as pointingTo, toggling as togglingTo, flipped as flippedState};
+ghost use Rattle.file.specs.State.{initial, pointing as pointingTo, stepping as steppingTo, toggling as togglingTo, flipped as flippedState};
 use crate::palette::Pointer;
 
-// The small parts of a file beside its registers and colours. The toggle says whether the next 3C0h write is data.
+// The small parts of a file beside its registers and colours. The toggle says whether the next 3C0h write is data; the marks of the last pixel
+// data access are what B0[2:0] reads.
 pub struct State {
     pub pointer: Pointer,
+    pub marks: u8,
     pub toggle: bool,
 }
 
 impl State {
-    // The pointer at address 0, write mode, red, nothing held; the toggle at index.
+    // The pointer at address 0, write mode, red, nothing held; the toggle at index; the marks at write, blue.
     pub fn power_on() -> State
         ensures { λ r. ⌜ r ≡ initial ⌝ }
     {
         State {
             pointer: Pointer::addressed(false, 0),
+            marks: 2,
             toggle: false,
         }
     }
@@ -24,6 +27,15 @@ impl State {
         ensures { λ r. ⌜ r ≡ pointingTo pointer self ⌝ }
     {
         self.pointer = pointer;
+        self
+    }
+
+    // The state after a pixel data access: another pointer, and its marks.
+    pub fn stepping(mut self, next: Pointer, marks: u8) -> State
+        ensures { λ r. ⌜ r ≡ steppingTo next marks self ⌝ }
+    {
+        self.pointer = next;
+        self.marks = marks;
         self
     }
 

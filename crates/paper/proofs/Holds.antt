@@ -7,7 +7,7 @@ use Rattle.bits.specs.Store.{bits, bit, store, within}
 use Rattle.file.specs.Answers.{codeOf, valueOf, refused}
 use Rattle.file.specs.Effects.{storeIn, apply}
 use Rattle.file.specs.File.{register, crtcLocked, withRegisters, powerOn}
-use Rattle.file.specs.Palette.{component, addressed, moved, afterWrite, afterRead, stores, mixed, dacState, paletteState, pointerSound}
+use Rattle.file.specs.Palette.{component, addressed, moved, afterWrite, afterRead, stores, mixed, dacState, marksFrom, marksSound, pointerSound}
 use Rattle.file.specs.Registers.{storedBits}
 use Rattle.file.specs.Sound.{allWithin, sound}
 use Rattle.file.specs.State.{stateSound}
@@ -21,5 +21,5 @@ use Rattle.geometry.specs.Geometry.{mark, cursorIn, bottom, windowIn, readGeome
 use Rattle.paper.specs.Examples.{setRegister, started, mode12, examples, sameNumbers, sameInteger, stepsHold, afterSteps, colourIs, writingHolds, lookHolds, holds, allHold}
 
 pub examples-hold : T (allHold examples)
-unfolding endAfter meant storedFor inRange readFrom readNumbers rangesFrom allInRange writeNumbers width held gather pieceReach put scatter bits bit store within codeOf valueOf refused storeIn apply register crtcLocked withRegisters powerOn component addressed moved afterWrite afterRead stores mixed dacState paletteState pointerSound storedBits allWithin sound stateSound isOneOf selects matches first rowAt placeOfRow placeAt places placeOf lockedOut lockedReach reachIn paletteUp inBank entryNumber entry shownIn shownState answerAt pixelWrite answer effectAt effect access isWrite isPort isMmio notSound malformed spaceOff noRow notHeld otherHalf otherWidth wrongWidth checks firstRefusal wide table timingOf numbersOf timingIn readTiming withTiming timingAnswer writtenFile writeTiming mark cursorIn bottom windowIn readGeometry setRegister started mode12 examples sameNumbers sameInteger stepsHold afterSteps colourIs writingHolds lookHolds holds allHold
+unfolding endAfter meant storedFor inRange readFrom readNumbers rangesFrom allInRange writeNumbers width held gather pieceReach put scatter bits bit store within codeOf valueOf refused storeIn apply register crtcLocked withRegisters powerOn component addressed moved afterWrite afterRead stores mixed dacState marksFrom marksSound pointerSound storedBits allWithin sound stateSound isOneOf selects matches first rowAt placeOfRow placeAt places placeOf lockedOut lockedReach reachIn paletteUp inBank entryNumber entry shownIn shownState answerAt pixelWrite answer effectAt effect access isWrite isPort isMmio notSound malformed spaceOff noRow notHeld otherHalf otherWidth wrongWidth checks firstRefusal wide table timingOf numbersOf timingIn readTiming withTiming timingAnswer writtenFile writeTiming mark cursorIn bottom windowIn readGeometry setRegister started mode12 examples sameNumbers sameInteger stepsHold afterSteps colourIs writingHolds lookHolds holds allHold
 examples-hold = tt

@@ -1,4 +1,4 @@
--- 01, 'Marked examples': P1 to P11 as one table.
+-- 01, 'Marked examples': P1 to P11 as one table, and behind them rows of our own for 02's requests.
 -- Assumes nothing.
 use Prim.Native.Nat.{ℕ, zero, suc, _+_}
 use Prim.Native.String.{String}
@@ -131,6 +131,16 @@ examples =
     ∷ example "P10" (CR1B ≔ 0x20 ∷ opened) [] (writing (blanked 256) 0)
     ∷ example "P10" (CR1B ≔ 0x20 ∷ opened) [] (writing (blanked 257) 10)
     ∷ example "P11" (E0 ≔ 0x0005 ∷ E4 ≔ 0x0A00 ∷ opened) [] (cursorIs (negsuc 4) 54)
+    ∷ example "02, 1/13" opened
+    (portWrite 0x3C7 0x00 gives 0 ∷ portRead 0x3C7 reads 0x03 ∷ mmioRead 0xB0 reads 0x02 ∷ portRead 0x3C9 reads 0x00 ∷ mmioRead 0xB0 reads 0x04 ∷ portRead 0x3C9 reads 0x00
+    ∷ mmioRead 0xB0 reads 0x05 ∷ portWrite 0x3C8 0x00 gives 0 ∷ mmioRead 0xB0 reads 0x05 ∷ portWrite 0x3C9 7 gives 0 ∷ mmioRead 0xB0 reads 0x00
+    ∷ portWrite 0x3C9 8 gives 0 ∷ portWrite 0x3C9 9 gives 0 ∷ mmioRead 0xB0 reads 0x02 ∷ [])
+    nothing
+    ∷ example "02, 1/13" opened
+    (mmioWrite 0xAC 1 gives 0 ∷ mmioWrite 0xAC 2 gives 0 ∷ mmioRead 0xB0 reads 0x01 ∷ mmioRead 0xAC reads 0x00 ∷ mmioRead 0xB0 reads 0x06
+    ∷ mmioWrite 0xA4 0x00 gives 0 ∷ mmioWrite 0xA8 0x00 gives 0 ∷ mmioWrite 0xB0 0x80 gives 0 ∷ mmioRead 0xB0 reads 0x86 ∷ mmioRead 0xAC gives 9
+    ∷ portWrite 0x3C9 7 gives 9 ∷ mmioRead 0xB0 reads 0x86 ∷ mmioRead 0xA4 reads 0x00 ∷ [])
+    nothing
     ∷ []
 
 -- the tests

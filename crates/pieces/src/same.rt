@@ -45,5 +45,7 @@ pub fn same_files(a: File, b: File) -> bool {
         }
         n += 1;
     }
-    a.state.toggle == b.state.toggle && same_pointer(a.state.pointer, b.state.pointer)
+    a.state.toggle == b.state.toggle
+        && same_pointer(a.state.pointer, b.state.pointer)
+        && a.state.marks == b.state.marks
 }

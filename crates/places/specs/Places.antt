@@ -99,7 +99,7 @@ crtcPorts base =
     ++ port (base + 5) any Unnamed
     ++ reads (base + 0xA) any ToggleReset
 
--- B0 shows the pointer's state beside its stored bits
+-- 02, 1/13: B0 shows the last pixel data access beside its stored bits
 unfoldable pub pipelinePlace : ℕ → Place
 pipelinePlace n = cond (eqb n B0) PaletteState (Register n)
 

@@ -1,4 +1,4 @@
--- 01, 'Places' and 'The palette pointer': what a place is, said once. What an access answers and does goes by this.
+-- 01, 'Places' and 'The palette pointer', and 02, 1/13: what a place is, said once. What an access answers and does goes by this.
 -- Assumes nothing.
 use Prim.Native.Nat.{ℕ}
 use mathlib.Core.Bool.{Bool, true, false}
@@ -7,8 +7,8 @@ use Rattle.file.specs.Registers.{registerCount}
 use Rattle.places.specs.declared.place.Place.{Place}
 use Rattle.places.specs.declared.place.Place.the-variants.{Register, Attribute, Fixed, ToggleState, AttributeIndex, PaletteState, ReadAddress, WriteAddress, PixelData, ToggleReset, Unnamed, UnnamedAttribute}
 
--- what a read gives: what a register holds; a number that never changes; the toggle; B0 with the pointer's state; the DAC state; the address; the
--- pixel's component, and the pointer moves; 0, and the toggle is set to index; no register is named
+-- what a read gives: what a register holds; a number that never changes; the toggle; B0 with the last pixel data access (02, 1/13); the DAC state;
+-- the address; the pixel's component, and the pointer moves and the marks are set; 0, and the toggle is set to index; no register is named
 pub data Reading : Type 0 where
   givesHeld : ℕ → Reading
   givesFixed : ℕ → Reading

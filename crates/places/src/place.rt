@@ -10,7 +10,7 @@ pub enum Place {
     ToggleState,
     // CR26
     AttributeIndex,
-    // B0: a register that also shows the pointer's state
+    // B0: a register that also shows the marks of the last pixel data access
     PaletteState,
     // 3C7h: read the DAC state, write the read address
     ReadAddress,

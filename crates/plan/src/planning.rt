@@ -9,6 +9,7 @@ use crate::rows::register_rows;
 use crate::stages::put_closing;
 use crate::stages::put_colours;
 use crate::stages::put_indices;
+use crate::stages::put_marks;
 use crate::stages::put_opening;
 use file::Answer;
 use file::File;
@@ -32,6 +33,7 @@ fn put_plan(wanted: File, buffer: &mut [u8], at: usize) -> usize
     let rows = register_rows();
     let at = put_opening(registers, buffer, at);
     let at = put_colours(palette, bank, buffer, at);
+    let at = put_marks(wanted.state.marks, buffer, at);
     let at = put_registers(&rows, registers, buffer, at);
     let at = put_indices(registers, wanted.state.toggle, buffer, at);
     put_closing(registers, wanted.state.pointer, buffer, at)

@@ -7,7 +7,7 @@ ghost use lib.Dec.{eqb};
 ghost use lib.ListN.{length};
 ghost use Rattle.bits.specs.Store.{bit};
 ghost use Rattle.plan.specs.Appended.{Appended};
-ghost use Rattle.roads.specs.Plan.{configWrite, portWrite, portRead, mmioWrite};
+ghost use Rattle.roads.specs.Plan.{configWrite, portWrite, portRead, mmioWrite, mmioRead};
 use access::Record;
 use trace::record_bytes;
 
@@ -80,6 +80,20 @@ pub fn mmio_write(address: u16, value: u32, buffer: &mut [u8], at: usize) -> usi
         width: 1,
         address,
         value,
+    };
+    put(written, buffer, at)
+}
+
+// MMIO's byte.
+pub fn mmio_read(address: u16, buffer: &mut [u8], at: usize) -> usize
+    requires { ⌜ at + 8 ≤ length (now buffer) ⌝ }
+    ensures { λ r. ⌜ Appended (now (buffer .entry)) at (mmioRead address ∷ []) (now (buffer .exit)) r ⌝ }
+{
+    let written = Record {
+        kind: 4,
+        width: 1,
+        address,
+        value: 0,
     };
     put(written, buffer, at)
 }

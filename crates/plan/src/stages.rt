@@ -4,9 +4,10 @@ ghost use mathlib.Core.List.{[], _∷_};
 ghost use Prim.Native.Nat.{_+_, _*_, _≤_};
 ghost use lib.ListN.{length};
 ghost use Rattle.plan.specs.Appended.{Appended};
-ghost use Rattle.roads.specs.Plan.{opening, pixel, entries, colours, toggleRead, indices, pointerWrite, closing};
+ghost use Rattle.roads.specs.Plan.{opening, pixel, entries, colours, pixelStep, marking, toggleRead, indices, pointerWrite, closing};
 use crate::records::by_half;
 use crate::records::config_write;
+use crate::records::mmio_read;
 use crate::records::mmio_write;
 use crate::records::port_read;
 use crate::records::port_write;
@@ -91,6 +92,39 @@ pub fn put_colours(
     let at = put_palette(palette, buffer, at);
     let at = mmio_write(0xB0, 0x08, buffer, at);
     put_bank(bank, buffer, at)
+}
+
+// A pixel data access: a read, or a write of 0.
+fn put_step(reading: bool, buffer: &mut [u8], at: usize) -> usize
+    requires { ⌜ at + 8 ≤ length (now buffer) ⌝ }
+    ensures { λ r. ⌜ Appended (now (buffer .entry)) at (pixelStep reading ∷ []) (now (buffer .exit)) r ⌝ }
+{
+    if reading {
+        return mmio_read(0xAC, buffer, at);
+    }
+    mmio_write(0xAC, 0, buffer, at)
+}
+
+// The marks, up to their colour from red on: the entries leave write, blue.
+pub fn put_marks(marks: u8, buffer: &mut [u8], at: usize) -> usize
+    requires { ⌜ at + 8 * 3 ≤ length (now buffer) ⌝ }
+    ensures { λ r. ⌜ Appended (now (buffer .entry)) at (marking marks) (now (buffer .exit)) r ⌝ }
+{
+    let reading = marks / 4 == 1;
+    let colour = marks % 4;
+    if colour == 0 {
+        return put_step(reading, buffer, at);
+    }
+    if colour == 1 {
+        let at = put_step(reading, buffer, at);
+        return put_step(reading, buffer, at);
+    }
+    if !reading {
+        return at;
+    }
+    let at = mmio_read(0xAC, buffer, at);
+    let at = mmio_read(0xAC, buffer, at);
+    mmio_read(0xAC, buffer, at)
 }
 
 // What leaves the toggle, which is at data, as wanted: a 3C0h read moves nothing, a 3?Ah read sets it to index.

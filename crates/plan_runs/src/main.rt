@@ -72,6 +72,7 @@ fn same(a: File, b: File) -> bool {
         && same_entries(a, b)
         && same_pointer(a.state.pointer, b.state.pointer)
         && a.state.toggle == b.state.toggle
+        && a.state.marks == b.state.marks
 }
 
 // A number and a byte that differ from place to place.
@@ -95,7 +96,7 @@ fn varied_registers() -> [u16; REGISTERS] {
     registers
 }
 
-// A file that has other values nearly everywhere: the pointer in read mode, the toggle at data.
+// A file that has other values nearly everywhere: the pointer in read mode, the toggle at data, the marks at read, green.
 fn varied() -> File {
     let mut palette = [colour_at(0); 256];
     let mut bank = [colour_at(0); 16];
@@ -112,6 +113,7 @@ fn varied() -> File {
         state: State {
             pointer: Pointer::addressed(true, 0x7B),
             toggle: true,
+            marks: 5,
         },
     }
 }
@@ -126,7 +128,7 @@ fn pointer_before(next: u8, red: u8, green: u8) -> Pointer {
     }
 }
 
-// Every stored bit set: locked by CR11, powered down and at the bank by B0; white, the toggle at data, the pointer before blue with two held bytes.
+// Every stored bit set: locked by CR11, powered down and at the bank by B0; white, the toggle at data, the pointer before blue with two held bytes, the marks at read, red.
 fn everything_set() -> File {
     let white = Colour {
         red: 255,
@@ -140,6 +142,7 @@ fn everything_set() -> File {
         state: State {
             pointer: pointer_before(2, 0x5A, 0xC3),
             toggle: true,
+            marks: 4,
         },
     }
 }

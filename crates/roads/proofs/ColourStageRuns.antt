@@ -1,5 +1,5 @@
 -- The stage of colours, over any list of stretches of entries: every record is accepted, what the stretches name holds the wanted colours, and all else but
--- the pointer is as before. Assumes nothing.
+-- the pointer and the marks is as before. Assumes nothing.
 use Prim.Native.Nat.{ℕ, zero, suc, _+_, _-_, _≤_, _<_}
 use mathlib.Core.Path.{_≡_, refl, sym, ap, _∙_, subst}
 use mathlib.Core.Bool.{Bool, true, false, not, _&&_, _||_}
@@ -13,28 +13,34 @@ use Rattle.file.specs.declared.palette.Colour.{Colour}
 use Rattle.file.specs.declared.palette.Pointer.{Pointer}
 use Rattle.file.specs.declared.registers.File.{File}
 use Rattle.file.specs.declared.state.State.{State}
-use Rattle.file.specs.State.{stateSound}
-use Rattle.file.specs.File.{withPalette, withBank, withPointer, black}
-use Rattle.file.specs.Palette.{addressed, pointerSound}
+use Rattle.file.specs.File.{withPalette, withBank, black}
+use Rattle.file.specs.Palette.{addressed, marksSound, pointerSound}
 use Rattle.file.specs.Registers.{storedTable}
 use Rattle.file.specs.Sound.{allWithin, sound}
-use Rattle.file.proofs.Soundness.{registers-sound, sound-by, state-sound, pointing-sound, addressed-sound}
+use Rattle.file.proofs.Soundness.{registers-sound, sound-by, state-sound, marks-sound, stepping-sound, addressed-sound}
 use Rattle.roads.specs.Plan.{entries}
 use Rattle.roads.specs.Restores.{RunsInto}
-use Rattle.roads.specs.ColourStage.{PaletteReady, entryCount, entriesIn, withEntries, painted, Stretch, inRange, afterStretch, stretchRecords, everyStretch, afterStretches, entriesAfter, inStretch, Agrees, AllAgree, colourEndsWanted}
-use Rattle.roads.proofs.StretchRuns.{up-as, painted-registers, painted-state, stretch-runs}
+use Rattle.roads.specs.ColourStage.{PaletteReady, entryCount, entriesIn, withEntries, painted, Stretch, inRange, withStep, marksAfter, afterStretch, stretchRecords, everyStretch, afterStretches, entriesAfter, inStretch, Agrees, AllAgree, colourEndsWanted}
+use Rattle.roads.proofs.StretchRuns.{up-as, painted-registers, stretch-runs}
 use Rattle.roads.proofs.RunsCompose.{runs-none, runs-then}
 
+-- the marks after some entries are sound
+marks-after-sound : (m : ℕ) (cs : List Colour) → T (marksSound m) → T (marksSound (marksAfter m cs))
+unfolding marksAfter marksSound
+marks-after-sound m [] t = t
+marks-after-sound m (c ∷ cs) t = tt
+
 after-sound : (bank : Bool) (stretch : Stretch) (f : File) → T (sound f) → T (sound (afterStretch bank stretch f))
-unfolding afterStretch withPointer
+unfolding afterStretch withStep
 after-sound bank stretch f s =
     sound-by (afterStretch bank stretch f)
     (subst (λ (rs : List ℕ). T (allWithin storedTable rs)) (sym (painted-registers bank (stretch .first) (stretch .colours) f)) (registers-sound f s))
-    (pointing-sound (addressed false _) (painted bank (stretch .first) (stretch .colours) f .state) (addressed-sound false _)
-    (subst (λ (q : State). T (stateSound q)) (sym (painted-state bank (stretch .first) (stretch .colours) f)) (state-sound f s)))
+    (stepping-sound (addressed false _) (marksAfter (f .state .marks) (stretch .colours)) (painted bank (stretch .first) (stretch .colours) f .state)
+    (both (marksSound (marksAfter (f .state .marks) (stretch .colours))) (pointerSound (addressed false _))
+    (marks-after-sound (f .state .marks) (stretch .colours) (marks-sound f s)) (addressed-sound false _)))
 
 after-registers : (bank : Bool) (stretch : Stretch) (f : File) → afterStretch bank stretch f .registers ≡ f .registers
-unfolding afterStretch withPointer
+unfolding afterStretch withStep
 after-registers bank stretch f = painted-registers bank (stretch .first) (stretch .colours) f
 
 -- every record of any list of stretches is accepted
@@ -50,31 +56,35 @@ stretches-run (stretch ∷ stretches) f bank s up t =
 
 -- ---- what they leave among the entries
 
-one-leaves : (bank : Bool) (stretch : Stretch) (f : File) (p : Pointer) (l : List Colour)
-    → withPointer p (withEntries bank l (afterStretch bank stretch f)) ≡ withPointer p (withEntries bank l f)
-unfolding afterStretch painted withPointer withBank withPalette
-one-leaves true stretch f p l = refl
-one-leaves false stretch f p l = refl
+one-leaves : (bank : Bool) (stretch : Stretch) (f : File) (p : Pointer) (m : ℕ) (l : List Colour)
+    → withStep p m (withEntries bank l (afterStretch bank stretch f)) ≡ withStep p m (withEntries bank l f)
+unfolding afterStretch painted withStep withBank withPalette
+one-leaves true stretch f p m l = refl
+one-leaves false stretch f p m l = refl
 
 one-entries : (bank : Bool) (stretch : Stretch) (f : File) → entriesIn bank (afterStretch bank stretch f) ≡ sets (entriesIn bank f) (stretch .first) (stretch .colours)
-unfolding afterStretch painted withPointer withBank withPalette
+unfolding afterStretch painted withStep withBank withPalette
 one-entries true stretch f = refl
 one-entries false stretch f = refl
 
-none-leaves : (bank : Bool) (f : File) → f ≡ withPointer (f .state .pointer) (withEntries bank (entriesIn bank f) f)
-unfolding withPointer withBank withPalette
+none-leaves : (bank : Bool) (f : File) → f ≡ withStep (f .state .pointer) (f .state .marks) (withEntries bank (entriesIn bank f) f)
+unfolding withStep withBank withPalette
 none-leaves true f = refl
 none-leaves false f = refl
 
--- all but the pointer and the entries is as before
+-- all but the pointer, the marks and the entries is as before
 pub stretches-leave : (bank : Bool) (stretches : List Stretch) (f : File)
-    → afterStretches bank stretches f ≡ withPointer (afterStretches bank stretches f .state .pointer) (withEntries bank (entriesAfter stretches (entriesIn bank f)) f)
+    → afterStretches bank stretches f
+    ≡ withStep (afterStretches bank stretches f .state .pointer) (afterStretches bank stretches f .state .marks) (withEntries bank (entriesAfter stretches (entriesIn bank f)) f)
 unfolding afterStretches entriesAfter
 stretches-leave bank [] f = none-leaves bank f
 stretches-leave bank (stretch ∷ stretches) f =
     stretches-leave bank stretches (afterStretch bank stretch f)
-    ∙ one-leaves bank stretch f (afterStretches bank stretches (afterStretch bank stretch f) .state .pointer) (entriesAfter stretches (entriesIn bank (afterStretch bank stretch f)))
-    ∙ ap (λ (l : List Colour). withPointer (afterStretches bank stretches (afterStretch bank stretch f) .state .pointer) (withEntries bank (entriesAfter stretches l) f)) (one-entries bank stretch f)
+    ∙ one-leaves bank stretch f (last .pointer) (last .marks) (entriesAfter stretches (entriesIn bank (afterStretch bank stretch f)))
+    ∙ ap (λ (l : List Colour). withStep (last .pointer) (last .marks) (withEntries bank (entriesAfter stretches l) f)) (one-entries bank stretch f)
+  where
+    last : State
+    last = afterStretches bank stretches (afterStretch bank stretch f) .state
 
 -- a stretch of all entries leaves none of the old ones
 pub sets-all : (old new : List Colour) → length old ≡ length new → sets old 0 new ≡ new

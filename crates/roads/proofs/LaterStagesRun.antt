@@ -1,6 +1,6 @@
--- The plan's other stages, each from any file that is ready: colours, registers, indices, closing.
+-- The plan's other stages, each from any file that is ready: colours, marks, registers, indices, closing.
 -- Assumes nothing.
-use Prim.Native.Nat.{ℕ, _+_, _%_, _<_}
+use Prim.Native.Nat.{ℕ, _+_, _%_, _≤_, _<_}
 use mathlib.Core.Path.{_≡_, refl, sym, ap, ap₂, _∙_, subst}
 use mathlib.Core.Bool.{Bool, true, false, cond, not, _&&_}
 use mathlib.Core.List.{List, [], _∷_}
@@ -15,25 +15,26 @@ use Rattle.file.specs.declared.palette.Pointer.{Pointer}
 use Rattle.file.specs.declared.registers.File.{File}
 use Rattle.file.specs.File.{register, withRegisters, withPalette, withBank, withPointer, withToggle}
 use Rattle.file.specs.Names.{MISC, ARX, PCI04, CR11, B0}
-use Rattle.file.specs.Palette.{addressed, pointerSound}
+use Rattle.file.specs.Palette.{addressed, marksSound, pointerSound}
 use Rattle.file.specs.Registers.{storedBits, storedTable}
 use Rattle.file.specs.Sound.{allWithin, sound}
-use Rattle.file.proofs.Soundness.{registers-sound, sound-by, state-sound, pointing-sound, toggling-sound, addressed-sound}
+use Rattle.file.proofs.Soundness.{registers-sound, sound-by, state-sound, pointing-sound, stepping-sound, toggling-sound}
 use Rattle.file.specs.State.{stateSound}
 use Rattle.places.specs.Lookup.{isOneOf}
 use Rattle.access.specs.Access.{paletteUp, inBank}
 use Rattle.roads.specs.Roads.{toPCI04, toCR11, toB0, toSRX, toGRX, toARX, toCRX, registerRoads, indexRoads, closingRoads, eachRoad, but, byHalf}
-use Rattle.roads.specs.Plan.{toggleRead, pointerWrite, openPalette, openBank, entries, colours, indices, closing}
+use Rattle.roads.specs.Plan.{toggleRead, pointerWrite, openPalette, openBank, entries, colours, marking, indices, closing}
 use Rattle.roads.specs.RoadRecords.{write, selecting, along}
 use Rattle.roads.specs.Restores.{RunsInto, bytes}
 use Rattle.roads.specs.RegisterStage.{withRegister, withFlip, indexFlips, everyRoad, SpacesOn, Ready, loose, selectable, brought, passable, Brings}
-use Rattle.roads.specs.ColourStage.{PaletteReady, entryCount, entriesIn, withEntries, painted, inRange, afterStretch}
-use Rattle.roads.specs.StageEnds.{coloured, indexed, closed}
+use Rattle.roads.specs.ColourStage.{PaletteReady, entryCount, entriesIn, withEntries, painted, inRange, withStep, writeBlue, marksAfter, afterStretch}
+use Rattle.roads.specs.StageEnds.{coloured, markedPointer, marked, indexed, closed}
 use Rattle.roads.proofs.RegisterStageRuns.{AllLead, roads-bring, arx-leads}
 use Rattle.roads.proofs.LookupBySelectors.{selectorsOf}
 use Rattle.roads.proofs.StretchRuns.{stretch-runs, address-runs}
 use Rattle.roads.proofs.RunsCompose.{runs-then}
 use Rattle.roads.proofs.ColourStageRuns.{sets-all}
+use Rattle.roads.proofs.MarksRun.{steps-run, marked-pointer-sound}
 use Rattle.roads.proofs.RoadsLead.{withIndex, leads, leading, single-roads-lead, registers-lead, crx-leads}
 use Rattle.roads.proofs.OpeningRuns.{config-runs, open-fits}
 use Rattle.roads.proofs.ReadyRuns.{at-any, with-sound, wanted-within, ready-runs, ready-with, ready-flipped}
@@ -62,15 +63,27 @@ unfolding openPalette openBank paletteUp inBank bit
 chosen-up w f true ready b0 = record { isSound = ready .isSound; on = ready .on; up = rw b0; chosen = rw b0 }
 chosen-up w f false ready b0 = record { isSound = ready .isSound; on = ready .on; up = rw b0; chosen = rw b0 }
 
+-- where there is an entry the marks end at write, blue
+ends-blue : (m : ℕ) (cs : List Colour) → 1 ≤ length cs → marksAfter m cs ≡ writeBlue
+unfolding marksAfter
+ends-blue m [] h = absurd (omega arith)
+ends-blue m (c ∷ cs) h = refl
+
+some-entries : (bank : Bool) → 1 ≤ entryCount bank
+some-entries true = omega arith
+some-entries false = omega arith
+
 -- all entries, from the first on
 all-run : (w : List ℕ) (f : File) (bank : Bool) (new : List Colour) → Ready w f → register f B0 ≡ choosing bank
     → length (entriesIn bank f) ≡ entryCount bank → length new ≡ entryCount bank → T (bytes new)
-    → RunsInto f (entries 0 new) (withPointer (addressed false (entryCount bank % 256)) (withEntries bank new f))
+    → RunsInto f (entries 0 new) (withStep (addressed false (entryCount bank % 256)) writeBlue (withEntries bank new f))
 unfolding afterStretch painted inRange
 all-run w f bank new ready b0 old many t =
     subst (λ (g : File). RunsInto f (entries 0 new) g)
-    (ap₂ (λ (a : ℕ) (l : List Colour). withPointer (addressed false (a % 256)) (withEntries bank l f)) total
-    (sets-all (entriesIn bank f) new (old ∙ sym many)))
+    (ap₂ (λ (a : ℕ) (l : List Colour). withStep (addressed false (a % 256)) (marksAfter (f .state .marks) new) (withEntries bank l f)) total
+    (sets-all (entriesIn bank f) new (old ∙ sym many))
+    ∙ ap (λ (m : ℕ). withStep (addressed false (entryCount bank % 256)) m (withEntries bank new f))
+    (ends-blue (f .state .marks) new (omega (arith, many, some-entries bank))))
     (stretch-runs (record { first = 0; colours = new }) f bank (ready .isSound) (chosen-up w f bank ready b0)
     (both (leb (0 + length new) (entryCount bank)) (bytes new) (le→leb (0 + length new) (entryCount bank) (omega (arith, many))) t))
   where
@@ -82,11 +95,11 @@ module _ (w : List ℕ) (palette bank : List Colour) (f : File) (all : length pa
     (many : length (f .palette) ≡ 256) (few : length (f .bank) ≡ 16) where
   -- between the two
   abbrev half : File
-  half = withPointer (addressed false 0) (withPalette palette f)
+  half = withStep (addressed false 0) writeBlue (withPalette palette f)
 
   half-ready : Ready w half
-  unfolding withPointer withPalette addressed pointerSound
-  half-ready = ready-as w f half refl (pointing-sound (addressed false 0) (f .state) (addressed-sound false 0) (state-sound f (ready .isSound))) ready
+  unfolding withStep withPalette addressed marksSound pointerSound
+  half-ready = ready-as w f half refl (stepping-sound (addressed false 0) writeBlue (f .state) tt) ready
 
   switched-ready : Ready w (withRegister B0 openBank half)
   unfolding loose isOneOf
@@ -94,7 +107,7 @@ module _ (w : List ℕ) (palette bank : List Colour) (f : File) (all : length pa
 
   -- the stage
   pub colours-run : RunsInto f (colours palette bank) (coloured palette bank f)
-  unfolding colours coloured indexFlips withFlip withRegister withRegisters withPointer withPalette withBank
+  unfolding colours coloured indexFlips withFlip withRegister withRegisters withStep withPalette withBank
   colours-run =
       runs-then (entries 0 palette) (write toB0 openBank ∷ entries 0 bank) f half (coloured palette bank f)
       (all-run w f false palette ready b0 many all allBytes)
@@ -104,10 +117,25 @@ module _ (w : List ℕ) (palette bank : List Colour) (f : File) (all : length pa
       sixteen bankBytes))
 
   pub coloured-ready : Ready w (coloured palette bank f)
-  unfolding coloured withRegister withRegisters withPointer withPalette addressed pointerSound withBank
+  unfolding coloured withRegister withRegisters withStep withPalette addressed marksSound pointerSound withBank
   coloured-ready =
-      ready-as w (withRegister B0 openBank half) (coloured palette bank f) refl
-      (pointing-sound (addressed false 16) (f .state) (addressed-sound false 16) (state-sound f (ready .isSound))) switched-ready
+      ready-as w (withRegister B0 openBank half) (coloured palette bank f) refl (stepping-sound (addressed false 16) writeBlue (f .state) tt) switched-ready
+
+  coloured-bank : register (coloured palette bank f) B0 ≡ openBank
+  unfolding coloured withRegister withRegisters withStep withPalette withBank register
+  coloured-bank = at-any half B0 openBank B0 (half-ready .isSound) (lit< tt)
+
+  -- the next stage: the marks
+  pub marks-run : (m : ℕ) → T (marksSound m) → RunsInto (coloured palette bank f) (marking m) (marked m (coloured palette bank f))
+  unfolding coloured withStep marked
+  marks-run m t = steps-run (coloured palette bank f) true m (chosen-up w (coloured palette bank f) true coloured-ready coloured-bank) t
+
+  pub marked-ready : (m : ℕ) → T (marksSound m) → Ready w (marked m (coloured palette bank f))
+  unfolding marked withStep
+  marked-ready m t =
+      ready-as w (coloured palette bank f) (marked m (coloured palette bank f)) refl
+      (stepping-sound (markedPointer m) m (coloured palette bank f .state) (both (marksSound m) (pointerSound (markedPointer m)) t (marked-pointer-sound m)))
+      coloured-ready
 
 -- ---- registers
 

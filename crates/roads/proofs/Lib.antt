@@ -7,6 +7,7 @@ pub mod ReadyRuns
 pub mod RegisterStageRuns
 pub mod StretchRuns
 pub mod ColourStageRuns
+pub mod MarksRun
 pub mod ToggleReads
 pub mod OpeningRuns
 pub mod LaterStagesRun

@@ -1,15 +1,17 @@
--- How many records a plan has: 973 for every wanted file, within 01's 1,024.
+-- How many records a plan has: 973 for every wanted file, and up to 3 for its marks, within 01's 1,024.
 -- Assumes nothing.
-use Prim.Native.Nat.{ℕ, _+_, _*_, _≤_}
-use mathlib.Core.Path.{_≡_, refl, _∙_}
+use Prim.Native.Nat.{ℕ, zero, suc, _+_, _*_, _≤_}
+use mathlib.Core.Path.{_≡_, refl}
+use mathlib.Core.Bool.{Bool, true, false}
 use mathlib.Core.List.{List, [], _∷_}
 use native.Mathlib.Omega.{arith}
 use lib.ListN.{length, length-append}
 use Rattle.places.specs.Lookup.{isOneOf}
 use Rattle.file.specs.declared.palette.Colour.{Colour}
 use Rattle.file.specs.declared.registers.File.{File}
+use Rattle.file.specs.Palette.{markedRead, markedColour}
 use Rattle.roads.specs.Roads.{toB0, eachRoad, but, registerRoads, indexRoads, closingRoads}
-use Rattle.roads.specs.Plan.{openBank, opening, pixel, pixels, entries, colours, indices, closing, planRecords}
+use Rattle.roads.specs.Plan.{openBank, opening, pixel, pixels, entries, colours, pixelSteps, marking, indices, closing, planRecords}
 use Rattle.roads.specs.RoadRecords.{write, selecting, along}
 use Rattle.roads.specs.Restores.{IsFile}
 
@@ -34,14 +36,27 @@ unfolding colours
 colours-parts palette bank = omega (arith, length-append (entries 0 palette) (write toB0 openBank ∷ entries 0 bank))
 
 pub plan-parts : (w : File)
-    → length (planRecords w) ≡ 5 + length (colours (w .palette) (w .bank)) + length (along (w .registers) registerRoads) + 5 + 4
+    → length (planRecords w)
+    ≡ 5 + length (colours (w .palette) (w .bank)) + length (marking (w .state .marks)) + length (along (w .registers) registerRoads) + 5 + 4
 unfolding planRecords opening indices closing closingRoads along selecting indexRoads
 plan-parts w = simp length-append
 
-pub plan-count : (w : File) → IsFile w → length (planRecords w) ≡ 973
+pub plan-count : (w : File) → IsFile w → length (planRecords w) ≡ 973 + length (marking (w .state .marks))
 plan-count w wf =
-    plan-parts w ∙ simp (colour-records (w .palette) (w .bank) (wf .palette) (wf .bank), register-records (w .registers))
+    omega (arith, plan-parts w, colour-records (w .palette) (w .bank) (wf .palette) (wf .bank), register-records (w .registers))
+
+-- 02, 1/13, 'within the same 1,024 records': at most 3 for the marks
+few-by : (reading : Bool) (colour : ℕ) → length (pixelSteps reading colour) ≤ 3
+unfolding pixelSteps
+few-by reading zero = omega arith
+few-by reading (suc zero) = omega arith
+few-by true (suc (suc colour)) = omega arith
+few-by false (suc (suc colour)) = omega arith
+
+pub marking-few : (m : ℕ) → length (marking m) ≤ 3
+unfolding marking
+marking-few m = few-by (markedRead m) (markedColour m)
 
 -- 'at most 1,024 records'
 pub plan-room : (w : File) → IsFile w → length (planRecords w) ≤ 1024
-plan-room w wf = omega (arith, plan-count w wf)
+plan-room w wf = omega (arith, plan-count w wf, marking-few (w .state .marks))

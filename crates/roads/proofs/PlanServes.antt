@@ -17,7 +17,7 @@ use Rattle.file.specs.Names.{MISC, B0}
 use Rattle.file.specs.Registers.{registerCount, storedTable, sequencer, crtc, graphics, attribute, pipeline}
 use Rattle.file.specs.Answers.{codeOf, refused}
 use Rattle.file.specs.Sound.{allWithin, sound}
-use Rattle.file.proofs.Soundness.{registers-sound, pointer-sound, sound-count}
+use Rattle.file.proofs.Soundness.{registers-sound, marks-sound, pointer-sound, sound-count}
 use Rattle.places.specs.Lookup.{isOneOf}
 use Rattle.access.specs.declared.record.Item.{Item}
 use Rattle.access.specs.declared.record.Item.the-variants.{Whole}
@@ -25,18 +25,19 @@ use Rattle.access.specs.declared.record.Record.{Record}
 use Rattle.trace.specs.Records.{items}
 use Rattle.trace.specs.Run.{fileAfter, answers}
 use Rattle.roads.specs.Roads.{Road, toARX, eachRoad, but, registerRoads, indexRoads, closingRoads}
-use Rattle.roads.specs.Plan.{openPalette, opening, colours, indices, closing, planRecords}
+use Rattle.roads.specs.Plan.{openPalette, opening, colours, marking, indices, closing, planRecords}
 use Rattle.roads.specs.RoadRecords.{along}
 use Rattle.roads.specs.Refusals.{planAnswer, restoreAnswer, answerByRun}
 use Rattle.roads.specs.Restores.{allAccepted, RunsInto, IsFile, Plans, PlanWritten}
 use Rattle.roads.specs.RegisterStage.{withRegister, Ready, afterSelecting, afterRoads, brought, moves, endsWanted, Brings}
-use Rattle.roads.specs.StageEnds.{opened, coloured, indexed, closed}
+use Rattle.roads.specs.ColourStage.{withStep}
+use Rattle.roads.specs.StageEnds.{opened, coloured, marked, indexed, closed}
 use Rattle.roads.proofs.RegisterStageRuns.{ends-wanted, after-length, after-append}
 use Rattle.roads.proofs.RunsCompose.{runs-then}
 use Rattle.roads.proofs.PlanCount.{plan-room}
 use Rattle.roads.proofs.AcceptedFits.{run-fits, trace-items}
 use Rattle.roads.proofs.OpeningRuns.{opening-runs, opened-ready, opened-up}
-use Rattle.roads.proofs.LaterStagesRun.{colours-run, coloured-ready, registers-bring, indices-run, indexed-ready, closing-runs}
+use Rattle.roads.proofs.LaterStagesRun.{colours-run, marks-run, marked-ready, registers-bring, indices-run, indexed-ready, closing-runs}
 
 -- ---- every register is named
 
@@ -78,8 +79,11 @@ module _ (w f : File) (ws : T (sound w)) (fs : T (sound f)) (wf : IsFile w) (red
   abbrev afterColours : File
   afterColours = coloured (w .palette) (w .bank) afterOpening
 
+  abbrev afterMarks : File
+  afterMarks = marked (w .state .marks) afterColours
+
   abbrev afterRegisters : File
-  afterRegisters = brought (w .registers) registerRoads afterColours
+  afterRegisters = brought (w .registers) registerRoads afterMarks
 
   abbrev afterIndices : File
   afterIndices = indexed (w .registers) (w .state .toggle) afterRegisters
@@ -96,39 +100,47 @@ module _ (w f : File) (ws : T (sound w)) (fs : T (sound f)) (wf : IsFile w) (red
       colours-run (w .registers) (w .palette) (w .bank) afterOpening (wf .palette) (wf .paletteBytes) (wf .bank) (wf .bankBytes)
       opening-ready opening-up many few
 
-  colours-ready : Ready (w .registers) afterColours
+  third-runs : RunsInto afterColours (marking (w .state .marks)) afterMarks
   unfolding opened withToggle withRegister withRegisters
-  colours-ready =
-      coloured-ready (w .registers) (w .palette) (w .bank) afterOpening (wf .palette) (wf .paletteBytes) (wf .bank) (wf .bankBytes)
-      opening-ready opening-up many few
+  third-runs =
+      marks-run (w .registers) (w .palette) (w .bank) afterOpening (wf .palette) (wf .paletteBytes) (wf .bank) (wf .bankBytes)
+      opening-ready opening-up many few (w .state .marks) (marks-sound w ws)
 
-  third-brings : Brings (w .registers) afterColours registerRoads
-  unfolding coloured opened withToggle withPointer withBank withPalette withRegister withRegisters
-  third-brings = registers-bring (w .registers) afterColours within-bits colours-ready refl
+  marks-ready : Ready (w .registers) afterMarks
+  unfolding opened withToggle withRegister withRegisters
+  marks-ready =
+      marked-ready (w .registers) (w .palette) (w .bank) afterOpening (wf .palette) (wf .paletteBytes) (wf .bank) (wf .bankBytes)
+      opening-ready opening-up many few (w .state .marks) (marks-sound w ws)
+
+  fourth-brings : Brings (w .registers) afterMarks registerRoads
+  unfolding marked coloured opened withToggle withStep withBank withPalette withRegister withRegisters
+  fourth-brings = registers-bring (w .registers) afterMarks within-bits marks-ready refl
 
   ends-in : closed (w .registers) (w .state .pointer) afterIndices ≡ w
-  unfolding closed indexed brought coloured withRegister withRegisters withToggle withPointer planRoads lastRoads closingRoads indexRoads afterRoads afterSelecting register withBank withPalette
+  unfolding closed indexed brought marked coloured withRegister withRegisters withToggle withPointer withStep planRoads lastRoads closingRoads indexRoads afterRoads afterSelecting register withBank withPalette
   ends-in =
       ap (λ (rs : List ℕ). withRegisters rs w)
-      (sym (after-append (w .registers) registerRoads (lastRoads (getD (w .registers) MISC 0)) (afterColours .registers))
-      ∙ registers-as-wanted (w .registers) (afterColours .registers) (getD (w .registers) MISC 0) within-bits
-      (sound-count afterColours (colours-ready .isSound) ∙ sym (sound-count w ws)) (sound-count w ws) (colours-ready .misc))
+      (sym (after-append (w .registers) registerRoads (lastRoads (getD (w .registers) MISC 0)) (afterMarks .registers))
+      ∙ registers-as-wanted (w .registers) (afterMarks .registers) (getD (w .registers) MISC 0) within-bits
+      (sound-count afterMarks (marks-ready .isSound) ∙ sym (sound-count w ws)) (sound-count w ws) (marks-ready .misc))
 
   pub plan-restores : RunsInto f (planRecords w) w
-  unfolding planRecords brought withRegisters coloured opened withToggle withPointer withBank withPalette withRegister
+  unfolding planRecords brought withRegisters marked coloured opened withToggle withStep withBank withPalette withRegister
   plan-restores =
       subst (λ (g : File). RunsInto f (planRecords w) g) ends-in
-      (runs-then (opening (w .registers) ++ colours (w .palette) (w .bank) ++ along (w .registers) registerRoads ++ indices (w .registers) (w .state .toggle))
+      (runs-then (opening (w .registers) ++ colours (w .palette) (w .bank) ++ marking (w .state .marks) ++ along (w .registers) registerRoads ++ indices (w .registers) (w .state .toggle))
       (closing (w .registers) (w .state .pointer)) f afterIndices (closed (w .registers) (w .state .pointer) afterIndices)
-      (runs-then (opening (w .registers) ++ colours (w .palette) (w .bank) ++ along (w .registers) registerRoads) (indices (w .registers) (w .state .toggle))
+      (runs-then (opening (w .registers) ++ colours (w .palette) (w .bank) ++ marking (w .state .marks) ++ along (w .registers) registerRoads) (indices (w .registers) (w .state .toggle))
       f afterRegisters afterIndices
-      (runs-then (opening (w .registers) ++ colours (w .palette) (w .bank)) (along (w .registers) registerRoads) f afterColours afterRegisters
+      (runs-then (opening (w .registers) ++ colours (w .palette) (w .bank) ++ marking (w .state .marks)) (along (w .registers) registerRoads) f afterMarks afterRegisters
+      (runs-then (opening (w .registers) ++ colours (w .palette) (w .bank)) (marking (w .state .marks)) f afterColours afterMarks
       (runs-then (opening (w .registers)) (colours (w .palette) (w .bank)) f afterOpening afterColours (opening-runs (w .registers) f within-bits fs)
       second-runs)
-      (third-brings .runs))
-      (indices-run (w .registers) (w .state .toggle) afterRegisters within-bits (third-brings .ready) refl))
+      third-runs)
+      (fourth-brings .runs))
+      (indices-run (w .registers) (w .state .toggle) afterRegisters within-bits (fourth-brings .ready) refl))
       (closing-runs (w .registers) (w .state .pointer) afterIndices within-bits (pointer-sound w ws) red (wf .address)
-      (indexed-ready (w .registers) (w .state .toggle) afterRegisters within-bits (third-brings .ready) refl)))
+      (indexed-ready (w .registers) (w .state .toggle) afterRegisters within-bits (fourth-brings .ready) refl)))
 
 -- demand 3, as a plan's definition says it
 pub plan-serves : (w : File) → IsFile w → T (sound w) → w .state .pointer .next ≡ 0 → Plans w (planRecords w)

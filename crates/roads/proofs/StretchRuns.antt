@@ -1,5 +1,5 @@
 -- A stretch of entries of the palette or of the bank, from any entry on: every record is accepted, the entries hold the colours, and all else but
--- the pointer is as before. Assumes nothing.
+-- the pointer and the marks is as before. Assumes nothing.
 use Prim.Native.Nat.{ℕ, suc, _+_, _%_, _≤_, _<_}
 use mathlib.Core.Path.{_≡_, refl, sym, ap, ap₂, _∙_, subst}
 use mathlib.Core.Bool.{Bool, true, false, cond}
@@ -19,11 +19,11 @@ use Rattle.file.specs.declared.state.State.{State}
 use Rattle.file.specs.Answers.{codeOf}
 use Rattle.file.specs.Effects.{apply, paintIn}
 use Rattle.file.specs.File.{register, withRegisters, withPalette, withBank, withPointer, withState}
-use Rattle.file.specs.State.{pointing, stateSound}
-use Rattle.file.specs.Palette.{addressed, moved, afterWrite, stores, mixed, pointerSound}
+use Rattle.file.specs.State.{stepping, stateSound}
+use Rattle.file.specs.Palette.{addressed, moved, afterWrite, stores, mixed, marksOf, marksFrom, marksSound, pointerSound}
 use Rattle.file.specs.Registers.{storedTable, sequencer, crtc, graphics, attribute, pipeline}
 use Rattle.file.specs.Sound.{allWithin, sound}
-use Rattle.file.proofs.Soundness.{paint-keeps, sound-by, registers-sound, state-sound, pointing-sound, paint-keeps-state}
+use Rattle.file.proofs.Soundness.{paint-keeps, sound-by, registers-sound, state-sound, stepping-sound, marks-sound, paint-keeps-state}
 use Rattle.places.specs.declared.place.Place.{Place}
 use Rattle.places.specs.declared.place.Place.the-variants.{ReadAddress, WriteAddress, PixelData}
 use Rattle.access.specs.Access.{paletteUp, inBank, entryNumber, answerAt, pixelWrite, effectAt, answer}
@@ -33,7 +33,7 @@ use Rattle.places.specs.Places.{Row, any, places}
 use Rattle.roads.specs.Plan.{mmioWrite, pixel, pixels, entries}
 use Rattle.roads.specs.Restores.{accepted, RunsInto, bytes}
 use Rattle.roads.specs.RegisterStage.{SpacesOn}
-use Rattle.roads.specs.ColourStage.{PaletteReady, entryCount, painted, Stretch, inRange, afterStretch}
+use Rattle.roads.specs.ColourStage.{PaletteReady, entryCount, between, painted, Stretch, inRange, withStep, writeBlue, marksAfter, afterStretch}
 use Rattle.roads.proofs.ChecksPassed.{answered-by-place, does-as-place}
 use Rattle.roads.proofs.RunsCompose.{runs-none, runs-one, runs-then}
 use Rattle.roads.proofs.ReadyRuns.{spaces-on}
@@ -77,59 +77,61 @@ up-as f g bank e t up =
       chosen = subst (λ (rs : List ℕ). inBank (withRegisters rs f) ≡ bank) (sym e) (up .chosen);
     }
 
-pixel-runs : (f : File) (bank : Bool) (p : Pointer) (value : ℕ) → PaletteReady f bank → T (pointerSound p) → value < 256
-    → RunsInto (withPointer p f) (mmioWrite 0xAC value ∷ []) (apply (pixelWrite (withPointer p f) value) (withPointer p f))
-unfolding rowAt first matches selects places answerAt effectAt sound withPointer paletteUp register SpacesOn
-pixel-runs f bank p value up t h =
-    byte-runs (withPointer p f) 0xAC value PixelData (sound-by (withPointer p f) (registers-sound f (up .isSound)) (pointing-sound p (f .state) t (state-sound f (up .isSound)))) (up .on) h refl
-    (rw (up .up))
+-- another pointer and other marks leave it so
+pub step-up : (f : File) (bank : Bool) (p : Pointer) (m : ℕ) → PaletteReady f bank → T (marksSound m) → T (pointerSound p)
+    → PaletteReady (withStep p m f) bank
+unfolding withStep
+step-up f bank p m up t h = up-as f (withStep p m f) bank refl (stepping-sound p m (f .state) (both (marksSound m) (pointerSound p) t h)) up
 
--- where the pointer stands among the three
-abbrev between : ℕ → ℕ → ℕ → ℕ → Pointer
-between address next red green = record { address = address; reading = false; next = next; red = red; green = green }
+pub pixel-runs : (f : File) (bank : Bool) (p : Pointer) (m : ℕ) (value : ℕ) → PaletteReady f bank → T (marksSound m) → T (pointerSound p) → value < 256
+    → RunsInto (withStep p m f) (mmioWrite 0xAC value ∷ []) (apply (pixelWrite (withStep p m f) value) (withStep p m f))
+unfolding rowAt first matches selects places answerAt effectAt
+pixel-runs f bank p m value up t s h =
+    let ready = step-up f bank p m up t s in
+    byte-runs (withStep p m f) 0xAC value PixelData (ready .isSound) (ready .on) h refl (rw (ready .up))
 
 -- the entry that an address means
 entry-at : (bank : Bool) (entry : ℕ) → entry < entryCount bank → cond bank (entry % 256 % 16) (entry % 256) ≡ entry
 entry-at true entry h = omega arith
 entry-at false entry h = omega arith
 
--- the pointer that stood before the entry was stored does not matter
-repainted : (bank : Bool) (entry : ℕ) (c : Colour) (p q : Pointer) (f : File)
-    → withState (pointing q (withPointer p f .state)) (paintIn bank entry c (withPointer p f)) ≡ withPointer q (paintIn bank entry c f)
-unfolding paintIn withPointer
-repainted true entry c p q f = refl
-repainted false entry c p q f = refl
+-- the pointer and the marks that stood before the entry was stored do not matter
+repainted : (bank : Bool) (entry : ℕ) (c : Colour) (p q : Pointer) (m n : ℕ) (f : File)
+    → withState (stepping q n (withStep p m f .state)) (paintIn bank entry c (withStep p m f)) ≡ withStep q n (paintIn bank entry c f)
+unfolding paintIn withStep
+repainted true entry c p q m n f = refl
+repainted false entry c p q m n f = refl
 
 -- what the third byte leaves
-third-leaves : (f : File) (bank : Bool) (entry : ℕ) (c : Colour) → PaletteReady f bank → entry < entryCount bank
-    → apply (pixelWrite (withPointer (between (entry % 256) 2 (c .red) (c .green)) f) (c .blue)) (withPointer (between (entry % 256) 2 (c .red) (c .green)) f)
-    ≡ withPointer (addressed false (suc entry % 256)) (paintIn bank entry c f)
-unfolding pixelWrite stores afterWrite moved mixed apply withPointer addressed inBank entryNumber register
-third-leaves f bank entry c up h =
-    rw (up .chosen, entry-at bank entry h) (ap (λ (a : ℕ). withState (pointing (addressed false a) (f .state)) (paintIn bank entry c (withPointer (between (entry % 256) 2 (c .red) (c .green)) f))) next
-    ∙ repainted bank entry c (between (entry % 256) 2 (c .red) (c .green)) (addressed false (suc entry % 256)) f)
+third-leaves : (f : File) (bank : Bool) (entry : ℕ) (c : Colour) (m : ℕ) → PaletteReady f bank → entry < entryCount bank
+    → apply (pixelWrite (withStep (between (entry % 256) 2 (c .red) (c .green)) m f) (c .blue)) (withStep (between (entry % 256) 2 (c .red) (c .green)) m f)
+    ≡ withStep (addressed false (suc entry % 256)) writeBlue (paintIn bank entry c f)
+unfolding pixelWrite stores afterWrite moved mixed marksFrom apply withStep addressed inBank entryNumber register
+third-leaves f bank entry c m up h =
+    rw (up .chosen, entry-at bank entry h) (ap (λ (a : ℕ). withState (stepping (addressed false a) writeBlue (f .state)) (paintIn bank entry c (withStep (between (entry % 256) 2 (c .red) (c .green)) m f))) next
+    ∙ repainted bank entry c (between (entry % 256) 2 (c .red) (c .green)) (addressed false (suc entry % 256)) m writeBlue f)
   where
     next : (entry % 256 + 1) % 256 ≡ suc entry % 256
     next = omega arith
 
 -- the three writes of an entry
-entry-runs : (f : File) (bank : Bool) (entry : ℕ) (c : Colour) → PaletteReady f bank → entry < entryCount bank
+entry-runs : (f : File) (bank : Bool) (entry : ℕ) (c : Colour) (m : ℕ) → PaletteReady f bank → T (marksSound m) → entry < entryCount bank
     → c .red < 256 → c .green < 256 → c .blue < 256
-    → RunsInto (withPointer (addressed false (entry % 256)) f) (mmioWrite 0xAC (c .red) ∷ mmioWrite 0xAC (c .green) ∷ mmioWrite 0xAC (c .blue) ∷ [])
-    (withPointer (addressed false (suc entry % 256)) (paintIn bank entry c f))
-unfolding pixelWrite stores afterWrite moved apply withPointer addressed pointerSound
-entry-runs f bank entry c up h r g b =
+    → RunsInto (withStep (addressed false (entry % 256)) m f) (mmioWrite 0xAC (c .red) ∷ mmioWrite 0xAC (c .green) ∷ mmioWrite 0xAC (c .blue) ∷ [])
+    (withStep (addressed false (suc entry % 256)) writeBlue (paintIn bank entry c f))
+unfolding pixelWrite stores afterWrite moved marksFrom apply withStep addressed marksSound pointerSound
+entry-runs f bank entry c m up t h r g b =
     runs-then (mmioWrite 0xAC (c .red) ∷ []) (mmioWrite 0xAC (c .green) ∷ mmioWrite 0xAC (c .blue) ∷ [])
-    (withPointer (addressed false (entry % 256)) f) (withPointer (between (entry % 256) 1 (c .red) 0) f)
-    (withPointer (addressed false (suc entry % 256)) (paintIn bank entry c f))
-    (pixel-runs f bank (addressed false (entry % 256)) (c .red) up tt r)
+    (withStep (addressed false (entry % 256)) m f) (withStep (between (entry % 256) 1 (c .red) 0) (marksOf false 0) f)
+    (withStep (addressed false (suc entry % 256)) writeBlue (paintIn bank entry c f))
+    (pixel-runs f bank (addressed false (entry % 256)) m (c .red) up t tt r)
     (runs-then (mmioWrite 0xAC (c .green) ∷ []) (mmioWrite 0xAC (c .blue) ∷ [])
-    (withPointer (between (entry % 256) 1 (c .red) 0) f) (withPointer (between (entry % 256) 2 (c .red) (c .green)) f)
-    (withPointer (addressed false (suc entry % 256)) (paintIn bank entry c f))
-    (pixel-runs f bank (between (entry % 256) 1 (c .red) 0) (c .green) up tt g)
-    (subst (λ (x : File). RunsInto (withPointer (between (entry % 256) 2 (c .red) (c .green)) f) (mmioWrite 0xAC (c .blue) ∷ []) x)
-    (third-leaves f bank entry c up h)
-    (pixel-runs f bank (between (entry % 256) 2 (c .red) (c .green)) (c .blue) up tt b)))
+    (withStep (between (entry % 256) 1 (c .red) 0) (marksOf false 0) f) (withStep (between (entry % 256) 2 (c .red) (c .green)) (marksOf false 1) f)
+    (withStep (addressed false (suc entry % 256)) writeBlue (paintIn bank entry c f))
+    (pixel-runs f bank (between (entry % 256) 1 (c .red) 0) (marksOf false 0) (c .green) up tt tt g)
+    (subst (λ (x : File). RunsInto (withStep (between (entry % 256) 2 (c .red) (c .green)) (marksOf false 1) f) (mmioWrite 0xAC (c .blue) ∷ []) x)
+    (third-leaves f bank entry c (marksOf false 1) up h)
+    (pixel-runs f bank (between (entry % 256) 2 (c .red) (c .green)) (marksOf false 1) (c .blue) up tt tt b)))
 
 -- ---- a stretch of entries
 
@@ -144,35 +146,39 @@ unfolding painted paintIn withBank withPalette
 painted-next true first c cs f = refl
 painted-next false first c cs f = refl
 
-pub painted-state : (bank : Bool) (first : ℕ) (cs : List Colour) (f : File) → painted bank first cs f .state ≡ f .state
-unfolding painted withBank withPalette
-painted-state true first cs f = refl
-painted-state false first cs f = refl
-
 pub painted-registers : (bank : Bool) (first : ℕ) (cs : List Colour) (f : File) → painted bank first cs f .registers ≡ f .registers
 unfolding painted withBank withPalette
 painted-registers true first cs f = refl
 painted-registers false first cs f = refl
 
-pixels-run : (cs : List Colour) (f : File) (bank : Bool) (first : ℕ) → PaletteReady f bank → first + length cs ≤ entryCount bank → T (bytes cs)
-    → RunsInto (withPointer (addressed false (first % 256)) f) (pixels cs)
-    (withPointer (addressed false ((first + length cs) % 256)) (painted bank first cs f))
-unfolding pixels pixel bytes
-pixels-run [] f bank first up h t =
-    subst (λ (g : File). RunsInto (withPointer (addressed false (first % 256)) f) [] g)
-    (ap₂ (λ (n : ℕ) (g : File). withPointer (addressed false (n % 256)) g) (sym (add-zero first)) (painted-none bank first f))
-    (runs-none (withPointer (addressed false (first % 256)) f))
-pixels-run (c ∷ cs) f bank first up h t =
+-- after an entry the marks stay at write, blue
+blue-stays : (cs : List Colour) → marksAfter writeBlue cs ≡ writeBlue
+unfolding marksAfter
+blue-stays [] = refl
+blue-stays (c ∷ cs) = refl
+
+pixels-run : (cs : List Colour) (f : File) (bank : Bool) (first : ℕ) (m : ℕ) → PaletteReady f bank → T (marksSound m)
+    → first + length cs ≤ entryCount bank → T (bytes cs)
+    → RunsInto (withStep (addressed false (first % 256)) m f) (pixels cs)
+    (withStep (addressed false ((first + length cs) % 256)) (marksAfter m cs) (painted bank first cs f))
+unfolding pixels pixel bytes marksAfter marksSound
+pixels-run [] f bank first m up s h t =
+    subst (λ (g : File). RunsInto (withStep (addressed false (first % 256)) m f) [] g)
+    (ap₂ (λ (n : ℕ) (g : File). withStep (addressed false (n % 256)) m g) (sym (add-zero first)) (painted-none bank first f))
+    (runs-none (withStep (addressed false (first % 256)) m f))
+pixels-run (c ∷ cs) f bank first m up s h t =
     runs-then (mmioWrite 0xAC (c .red) ∷ mmioWrite 0xAC (c .green) ∷ mmioWrite 0xAC (c .blue) ∷ []) (pixels cs)
-    (withPointer (addressed false (first % 256)) f) (withPointer (addressed false (suc first % 256)) (paintIn bank first c f))
-    (withPointer (addressed false ((first + suc (length cs)) % 256)) (painted bank first (c ∷ cs) f))
-    (entry-runs f bank first c up (omega arith) (ltb→lt (c .red) 256 (search (left, right))) (ltb→lt (c .green) 256 (search (left, right)))
+    (withStep (addressed false (first % 256)) m f) (withStep (addressed false (suc first % 256)) writeBlue (paintIn bank first c f))
+    (withStep (addressed false ((first + suc (length cs)) % 256)) writeBlue (painted bank first (c ∷ cs) f))
+    (entry-runs f bank first c m up s (omega arith) (ltb→lt (c .red) 256 (search (left, right))) (ltb→lt (c .green) 256 (search (left, right)))
     (ltb→lt (c .blue) 256 (search (left, right))))
-    (subst (λ (g : File). RunsInto (withPointer (addressed false (suc first % 256)) (paintIn bank first c f)) (pixels cs) g)
-    (ap₂ (λ (n : ℕ) (g : File). withPointer (addressed false (n % 256)) g) onward (painted-next bank first c cs f))
-    (pixels-run cs (paintIn bank first c f) bank (suc first) (up-as f (paintIn bank first c f) bank (paint-keeps f bank first c)
-    (subst (λ (q : State). T (stateSound q)) (sym (paint-keeps-state f bank first c)) (state-sound f (up .isSound))) up)
-    (omega arith) (search (left, right))))
+    (subst (λ (n : ℕ). RunsInto (withStep (addressed false (suc first % 256)) writeBlue (paintIn bank first c f)) (pixels cs) (withStep (addressed false ((first + suc (length cs)) % 256)) n (painted bank first (c ∷ cs) f)))
+    (blue-stays cs)
+    (subst (λ (g : File). RunsInto (withStep (addressed false (suc first % 256)) writeBlue (paintIn bank first c f)) (pixels cs) g)
+    (ap₂ (λ (n : ℕ) (g : File). withStep (addressed false (n % 256)) (marksAfter writeBlue cs) g) onward (painted-next bank first c cs f))
+    (pixels-run cs (paintIn bank first c f) bank (suc first) writeBlue (up-as f (paintIn bank first c f) bank (paint-keeps f bank first c)
+    (subst (λ (q : State). T (stateSound q)) (sym (paint-keeps-state f bank first c)) (state-sound f (up .isSound))) up) tt
+    (omega arith) (search (left, right)))))
   where
     onward : suc first + length cs ≡ first + suc (length cs)
     onward = omega arith
@@ -180,12 +186,12 @@ pixels-run (c ∷ cs) f bank first up h t =
 -- every record of a stretch is accepted, and its entries hold its colours
 pub stretch-runs : (stretch : Stretch) (f : File) (bank : Bool) → T (sound f) → PaletteReady f bank → T (inRange bank stretch)
     → RunsInto f (entries (stretch .first) (stretch .colours)) (afterStretch bank stretch f)
-unfolding entries inRange afterStretch SpacesOn register
+unfolding entries inRange afterStretch withStep withPointer
 stretch-runs stretch f bank s up t =
     runs-then (mmioWrite 0xA8 (stretch .first) ∷ []) (pixels (stretch .colours)) f (withPointer (addressed false (stretch .first % 256)) f) (afterStretch bank stretch f)
     (rw (mod-eq-of-lt small) (address-runs f false (stretch .first) s (up .on) small))
-    (pixels-run (stretch .colours) f bank (stretch .first) up (leb→le (stretch .first + length (stretch .colours)) (entryCount bank) (search (left, right)))
-    (search (left, right)))
+    (pixels-run (stretch .colours) f bank (stretch .first) (f .state .marks) up (marks-sound f s)
+    (leb→le (stretch .first + length (stretch .colours)) (entryCount bank) (search (left, right))) (search (left, right)))
   where
     small : stretch .first < 256
     small = ltb→lt (stretch .first) 256 (search (left, right))

@@ -8,10 +8,12 @@ use lib.Dec.{T, leb, ltb}
 use lib.ListN.{getD, length}
 use lib.Seq.{sets}
 use Rattle.file.specs.declared.palette.Colour.{Colour}
+use Rattle.file.specs.declared.palette.Pointer.{Pointer}
 use Rattle.file.specs.declared.registers.File.{File}
-use Rattle.file.specs.File.{withPalette, withBank, withPointer, black}
-use Rattle.file.specs.Palette.{addressed}
+use Rattle.file.specs.File.{withPalette, withBank, withState, black}
+use Rattle.file.specs.Palette.{addressed, marksOf}
 use Rattle.file.specs.Sound.{sound}
+use Rattle.file.specs.State.{stepping}
 use Rattle.access.specs.declared.record.Record.{Record}
 use Rattle.access.specs.Access.{paletteUp, inBank}
 use Rattle.roads.specs.Plan.{entries}
@@ -61,10 +63,29 @@ withEntries bank cs f = cond bank (withBank cs f) (withPalette cs f)
 unfoldable pub painted : Bool → ℕ → List Colour → File → File
 painted bank first cs f = withEntries bank (sets (entriesIn bank f) first cs) f
 
--- the file after it
+-- the pointer among the three bytes of an entry, in write mode: address, next colour, held red, held green
+abbrev pub between : ℕ → ℕ → ℕ → ℕ → Pointer
+between address next red green = record { address = address; reading = false; next = next; red = red; green = green }
+
+-- the file with another pointer and other marks
+unfoldable pub withStep : Pointer → ℕ → File → File
+unfolding withState stepping
+withStep pointer marks f = withState (stepping pointer marks (f .state)) f
+
+-- 02, 1/13: the marks that an entry's third byte leaves
+abbrev pub writeBlue : ℕ
+writeBlue = marksOf false 2
+
+-- the marks after some entries, from those before; no entry leaves them
+unfoldable pub marksAfter : ℕ → List Colour → ℕ
+marksAfter m [] = m
+marksAfter m (c ∷ cs) = writeBlue
+
+-- the file after a stretch: its colours, the pointer behind them, the marks that they leave
 unfoldable pub afterStretch : Bool → Stretch → File → File
 afterStretch bank stretch f =
-    withPointer (addressed false ((stretch .first + length (stretch .colours)) % 256)) (painted bank (stretch .first) (stretch .colours) f)
+    withStep (addressed false ((stretch .first + length (stretch .colours)) % 256)) (marksAfter (f .state .marks) (stretch .colours))
+    (painted bank (stretch .first) (stretch .colours) f)
 
 unfoldable pub afterStretches : Bool → List Stretch → File → File
 afterStretches bank [] f = f

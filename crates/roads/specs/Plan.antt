@@ -8,11 +8,12 @@ use Rattle.file.specs.declared.palette.Colour.{Colour}
 use Rattle.file.specs.declared.palette.Pointer.{Pointer}
 use Rattle.file.specs.declared.registers.File.{File}
 use Rattle.file.specs.Names.{MISC, ARX}
+use Rattle.file.specs.Palette.{byColour, markedRead, markedColour}
 use Rattle.access.specs.declared.record.Record.{Record}
 use Rattle.roads.specs.Roads.{toPCI04, toCR11, toB0, toMISC, toARX, byHalf, registerRoads, indexRoads, closingRoads}
 use Rattle.roads.specs.RoadRecords.{write, along}
 
--- a word to config space, a port's byte, a byte to MMIO
+-- a word to config space, a port's byte, a byte to and from MMIO
 abbrev pub configWrite : ℕ → ℕ → Record
 configWrite address value = record { kind = 1; width = 2; address = address; value = value }
 
@@ -24,6 +25,9 @@ portWrite address value = record { kind = 3; width = 1; address = address; value
 
 abbrev pub mmioWrite : ℕ → ℕ → Record
 mmioWrite address value = record { kind = 5; width = 1; address = address; value = value }
+
+abbrev pub mmioRead : ℕ → Record
+mmioRead address = record { kind = 4; width = 1; address = address; value = 0 }
 
 -- '3?Ah read (gives 0, sets the toggle to index)', by MISC
 abbrev pub toIndex : ℕ → Record
@@ -76,12 +80,27 @@ entries first cs = mmioWrite 0xA8 first ∷ pixels cs
 unfoldable pub colours : List Colour → List Colour → List Record
 colours palette bank = entries 0 palette ++ write toB0 openBank ∷ entries 0 bank
 
+-- 02, 1/13, 'the last 3C9h access, direction and colour': one access in the wanted direction; a write's byte is 0
+abbrev pub pixelStep : Bool → Record
+pixelStep reading = cond reading (mmioRead 0xAC) (mmioWrite 0xAC 0)
+
+-- 02, 1/13, as settled: from before red up to and with the colour wanted; the entries leave write, blue, which needs none
+unfoldable pub pixelSteps : Bool → ℕ → List Record
+pixelSteps reading colour =
+    byColour colour (pixelStep reading ∷ []) (pixelStep reading ∷ pixelStep reading ∷ [])
+    (cond reading (mmioRead 0xAC ∷ mmioRead 0xAC ∷ mmioRead 0xAC ∷ []) [])
+
+-- to the marks that are wanted
+unfoldable pub marking : ℕ → List Record
+unfolding pixelSteps
+marking m = pixelSteps (markedRead m) (markedColour m)
+
 -- SRX, GRX, CRX and ARX, which leaves the toggle at data; then the toggle
 unfoldable pub indices : List ℕ → Bool → List Record
 indices wanted toggle =
     along wanted (indexRoads (getD wanted MISC 0)) ++ write toARX (getD wanted ARX 0) ∷ toggleRead (getD wanted MISC 0) toggle ∷ []
 
--- the pointer; then what was open, PCI04 last
+-- the pointer, whose address write clears what the marking held; then what was open, PCI04 last
 unfoldable pub closing : List ℕ → Pointer → List Record
 closing wanted pointer = pointerWrite pointer ∷ along wanted closingRoads
 
@@ -90,6 +109,7 @@ unfoldable pub planRecords : File → List Record
 planRecords w =
     opening (w .registers)
     ++ colours (w .palette) (w .bank)
+    ++ marking (w .state .marks)
     ++ along (w .registers) registerRoads
     ++ indices (w .registers) (w .state .toggle)
     ++ closing (w .registers) (w .state .pointer)

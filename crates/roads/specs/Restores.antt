@@ -55,7 +55,7 @@ pub record IsFile (f : File) : Type 0 where
   pub bankBytes : T (bytes (f .bank))
   pub address : f .state .pointer .address < 256
 
--- demand 3: records that are a plan of a wanted file. Several are; `planRecords` is one
+-- demand 3: records that are a plan of a wanted file, of which all is restored, the marks too (02, 1/13). Several are; `planRecords` is one
 pub record Plans (w : File) (records : List Record) : Type 0 where
   pub room : length records ≤ 1024
   pub whole : T (allInBytes records)

@@ -1,7 +1,7 @@
 -- The file after each stage of a plan, from the file before it.
 -- Assumes nothing.
 use Prim.Native.Nat.{ℕ}
-use mathlib.Core.Bool.{Bool, false}
+use mathlib.Core.Bool.{Bool, false, cond}
 use mathlib.Core.List.{List}
 use lib.ListN.{getD}
 use Rattle.file.specs.declared.palette.Colour.{Colour}
@@ -9,10 +9,11 @@ use Rattle.file.specs.declared.palette.Pointer.{Pointer}
 use Rattle.file.specs.declared.registers.File.{File}
 use Rattle.file.specs.File.{withPalette, withBank, withPointer, withToggle}
 use Rattle.file.specs.Names.{MISC, ARX, PCI04, CR11, B0}
-use Rattle.file.specs.Palette.{addressed}
+use Rattle.file.specs.Palette.{byColour, addressed, markedRead, markedColour}
 use Rattle.roads.specs.Roads.{indexRoads}
 use Rattle.roads.specs.Plan.{openSpaces, openLock, openPalette, openBank}
 use Rattle.roads.specs.RegisterStage.{withRegister, brought}
+use Rattle.roads.specs.ColourStage.{between, withStep, writeBlue}
 
 -- what the opening leaves, record by record
 abbrev pub withSpacesOn : File → File
@@ -30,9 +31,17 @@ withMISC w f = withRegister MISC (getD w MISC 0) (withPaletteUp f)
 unfoldable pub opened : List ℕ → File → File
 opened w f = withToggle false (withMISC w f)
 
--- the file with all colours as wanted, the pointer behind the bank's
+-- the file with all colours as wanted, the pointer behind the bank's last entry, the marks write, blue
 unfoldable pub coloured : List Colour → List Colour → File → File
-coloured palette bank f = withPointer (addressed false 16) (withBank bank (withPalette palette (withRegister B0 openBank f)))
+coloured palette bank f = withStep (addressed false 16) writeBlue (withBank bank (withPalette palette (withRegister B0 openBank f)))
+
+-- 02, 1/13: where the marking leaves the pointer, from behind the bank
+unfoldable pub markedPointer : ℕ → Pointer
+markedPointer m = byColour (markedColour m) (between 16 1 0 0) (between 16 2 0 0) (addressed false (cond (markedRead m) 17 16))
+
+-- the file after the marking of sound marks: the marks as wanted, the pointer where that leaves it
+unfoldable pub marked : ℕ → File → File
+marked m f = withStep (markedPointer m) m f
 
 -- the file with the index registers and the toggle as wanted
 unfoldable pub indexed : List ℕ → Bool → File → File

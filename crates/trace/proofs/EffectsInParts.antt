@@ -9,7 +9,7 @@ use lib.ListN.{getD, set}
 use Rattle.bits.specs.Store.{store}
 use Rattle.bits.proofs.Test.{left, right, by-test, passes, is-true}
 use Rattle.file.specs.declared.effect.Effect.{Effect}
-use Rattle.file.specs.declared.effect.Effect.the-variants.{Nothing, Store, Toggle, Move, Paint}
+use Rattle.file.specs.declared.effect.Effect.the-variants.{Nothing, Store, Toggle, Move, Step, Paint}
 use Rattle.file.specs.declared.palette.Colour.{Colour}
 use Rattle.file.specs.declared.palette.Pointer.{Pointer}
 use Rattle.file.specs.declared.registers.File.{File}
@@ -18,7 +18,7 @@ use Rattle.file.specs.Answers.{refused}
 use Rattle.file.specs.Effects.{apply}
 use Rattle.file.specs.File.{register, seen, bankCount}
 use Rattle.file.specs.Registers.{registerCount}
-use Rattle.file.specs.State.{pointing, toggling, flipped}
+use Rattle.file.specs.State.{pointing, stepping, toggling, flipped}
 use Rattle.places.specs.EngineCells.{readsFile, writesFile, inFile}
 use Rattle.places.specs.Profile.{Reading, Writing, storesTo, profile, readsPixel}
 use Rattle.places.proofs.RulesOfPlaces.{place-in-file}
@@ -31,11 +31,11 @@ use Rattle.trace.specs.declared.running.Served.{Served}
 use Rattle.trace.specs.EngineServed.{paints, paintsBank, paintsColour, lands, Puts}
 
 -- a file without colours has none to store
-painted-none : (registers : List ℕ) (bank : Bool) (entry : ℕ) (colour : Colour) (pointer : Pointer) (state : State)
-    → apply (Paint bank entry pointer colour) (seen registers state) ≡ seen registers (pointing pointer state)
+painted-none : (registers : List ℕ) (bank : Bool) (entry : ℕ) (pointer : Pointer) (colour : Colour) (marks : ℕ) (state : State)
+    → apply (Paint bank entry pointer colour marks) (seen registers state) ≡ seen registers (stepping pointer marks state)
 unfolding apply seen
-painted-none registers true entry colour pointer state = refl
-painted-none registers false entry colour pointer state = refl
+painted-none registers true entry pointer colour marks state = refl
+painted-none registers false entry pointer colour marks state = refl
 
 -- what is left of a served access, with another state
 abbrev withState : State → Served → Served
@@ -72,16 +72,22 @@ module _ (registers : List ℕ) (before : Served) where
   move-put pointer state e =
       record { code = refl; value = refl; pixel = refl; left = λ t. ap (seen registers) (sym e); painting = λ e. e; bank = refl; colour = refl }
 
-  pub paint-put : (bank : Bool) (entry : ℕ) (colour : Colour) (pointer : Pointer) (state : State) → state ≡ pointing pointer (before .state)
-      → Puts registers before (Paint bank entry pointer colour) registers
+  pub step-put : (pointer : Pointer) (marks : ℕ) (state : State) → state ≡ stepping pointer marks (before .state)
+      → Puts registers before (Step pointer marks) registers (withState state before)
+  unfolding apply seen paints paintsBank paintsColour
+  step-put pointer marks state e =
+      record { code = refl; value = refl; pixel = refl; left = λ t. ap (seen registers) (sym e); painting = λ e. e; bank = refl; colour = refl }
+
+  pub paint-put : (bank : Bool) (entry : ℕ) (pointer : Pointer) (colour : Colour) (marks : ℕ) (state : State) → state ≡ stepping pointer marks (before .state)
+      → Puts registers before (Paint bank entry pointer colour marks) registers
       (record { code = before .code; value = before .value; state = state; pixel = before .pixel; paints = true; bank = bank; colour = colour })
   unfolding paints paintsBank paintsColour
-  paint-put bank entry colour pointer state e =
+  paint-put bank entry pointer colour marks state e =
       record {
         code = refl;
         value = refl;
         pixel = refl;
-        left = λ t. painted-none registers bank entry colour pointer (before .state) ∙ ap (seen registers) (sym e);
+        left = λ t. painted-none registers bank entry pointer colour marks (before .state) ∙ ap (seen registers) (sym e);
         painting = λ e. refl;
         bank = refl;
         colour = refl;
@@ -128,11 +134,12 @@ parts-after Nothing f t = refl
 parts-after (Store flips number reach value) f t = refl
 parts-after (Toggle toggle) f t = refl
 parts-after (Move pointer) f t = refl
-parts-after (Paint true entry pointer colour) f t =
-    ap (λ (n : ℕ). record { registers = f .registers; palette = f .palette; bank = set (f .bank) n colour; state = pointing pointer (f .state) })
+parts-after (Step pointer marks) f t = refl
+parts-after (Paint true entry pointer colour marks) f t =
+    ap (λ (n : ℕ). record { registers = f .registers; palette = f .palette; bank = set (f .bank) n colour; state = stepping pointer marks (f .state) })
     (eqb→eq entry (f .state .pointer .address % bankCount) t)
-parts-after (Paint false entry pointer colour) f t =
-    ap (λ (n : ℕ). record { registers = f .registers; palette = set (f .palette) n colour; bank = f .bank; state = pointing pointer (f .state) })
+parts-after (Paint false entry pointer colour marks) f t =
+    ap (λ (n : ℕ). record { registers = f .registers; palette = set (f .palette) n colour; bank = f .bank; state = stepping pointer marks (f .state) })
     (eqb→eq entry (f .state .pointer .address) t)
 
 -- a read of a pixel moves no register

@@ -7,7 +7,7 @@ use mathlib.Core.List.{List}
 use lib.Dec.{T, eqb, ltb}
 use Rattle.file.specs.declared.answer.Answer.{Answer}
 use Rattle.file.specs.declared.effect.Effect.{Effect}
-use Rattle.file.specs.declared.effect.Effect.the-variants.{Nothing, Store, Toggle, Move, Paint}
+use Rattle.file.specs.declared.effect.Effect.the-variants.{Nothing, Store, Toggle, Move, Step, Paint}
 use Rattle.file.specs.declared.palette.Colour.{Colour}
 use Rattle.file.specs.declared.registers.File.{File}
 use Rattle.file.specs.declared.state.State.{State}
@@ -34,21 +34,24 @@ paints Nothing = false
 paints (Store flips number reach value) = false
 paints (Toggle toggle) = false
 paints (Move pointer) = false
-paints (Paint bank entry pointer colour) = true
+paints (Step pointer marks) = false
+paints (Paint bank entry pointer colour marks) = true
 
 unfoldable pub paintsBank : Bool → Effect → Bool
 paintsBank otherwise Nothing = otherwise
 paintsBank otherwise (Store flips number reach value) = otherwise
 paintsBank otherwise (Toggle toggle) = otherwise
 paintsBank otherwise (Move pointer) = otherwise
-paintsBank otherwise (Paint bank entry pointer colour) = bank
+paintsBank otherwise (Step pointer marks) = otherwise
+paintsBank otherwise (Paint bank entry pointer colour marks) = bank
 
 unfoldable pub paintsColour : Colour → Effect → Colour
 paintsColour otherwise Nothing = otherwise
 paintsColour otherwise (Store flips number reach value) = otherwise
 paintsColour otherwise (Toggle toggle) = otherwise
 paintsColour otherwise (Move pointer) = otherwise
-paintsColour otherwise (Paint bank entry pointer colour) = colour
+paintsColour otherwise (Step pointer marks) = otherwise
+paintsColour otherwise (Paint bank entry pointer colour marks) = colour
 
 -- an effect lands if its register is one of the file's and its entry the one that the pointer names
 unfoldable pub lands : State → Effect → Bool
@@ -56,7 +59,8 @@ lands s Nothing = true
 lands s (Store flips number reach value) = ltb number registerCount
 lands s (Toggle toggle) = true
 lands s (Move pointer) = true
-lands s (Paint bank entry pointer colour) = eqb entry (cond bank (s .pointer .address % bankCount) (s .pointer .address))
+lands s (Step pointer marks) = true
+lands s (Paint bank entry pointer colour marks) = eqb entry (cond bank (s .pointer .address % bankCount) (s .pointer .address))
 
 -- an effect put on registers and state: what was answered stays, and what it paints is told
 pub record Puts (registers : List ℕ) (before : Served) (e : Effect) (after : List ℕ) (s : Served) : Type 0 where

@@ -126,16 +126,20 @@ fn put_effect(registers: &mut [u16; REGISTERS], before: Served, effect: Effect) 
         Effect::Move(pointer) => {
             after.state = before.state.pointing(pointer);
         }
+        Effect::Step { pointer, marks } => {
+            after.state = before.state.stepping(pointer, marks);
+        }
         Effect::Paint {
             bank,
             entry: _,
-            colour,
             pointer,
+            colour,
+            marks,
         } => {
             after.paints = true;
             after.bank = bank;
             after.colour = colour;
-            after.state = before.state.pointing(pointer);
+            after.state = before.state.stepping(pointer, marks);
         }
     }
     after

@@ -6,8 +6,8 @@ use Rattle.access.proofs.engine.palette_state.Tie as tie
 
 returns : tie.Need-returns
 unfolding shownState
-returns c = rw (← c .before .palette-state .ensures) (c .store .ensures)
+returns c = c .store .ensures
 
 pub palette-state-spec : {M : Type 1} → statement M
 palette-state-spec =
-    tie.close (tie.spec (λ c. search needs) (λ c κs. search needs) (λ c κs. search needs) returns)
+    tie.close (tie.spec (λ c. search needs) (λ c. search needs) (λ c κs. search needs) returns)

@@ -1,15 +1,18 @@
 -- `state_sound` meets its contract. Assumes nothing.
+use mathlib.Core.Path.{sym, _∙_}
+use borrow.Author.Tests.{not-true, not-false}
 use Rattle.file.specs.State.{stateSound}
 use borrow.Author.Needs.{needs}
 use Rattle.file.proofs.sound.state_sound.Statement.{statement}
 use Rattle.file.proofs.sound.state_sound.Tie as tie
 
-pointer-sound-requires : tie.Need-pointer-sound-requires
-pointer-sound-requires c κs = search needs
-
 returns : tie.Need-returns
 unfolding stateSound
-returns c = c .pointer-sound .ensures
+returns c = rw (sym (c .before .marks-sound .ensures) ∙ not-true _ (c .if1 .taken))
+
+returns-2 : tie.Need-returns-2
+unfolding stateSound
+returns-2 c = rw (sym (c .before .before .marks-sound .ensures) ∙ not-false _ (c .before .if1 .left)) (c .pointer-sound .ensures)
 
 pub state-sound-spec : {M : Type 1} → statement M
-state-sound-spec = tie.close (tie.spec pointer-sound-requires returns)
+state-sound-spec = tie.close (tie.spec (λ c κs. search needs) returns (λ c κs. search needs) returns-2)

@@ -4,7 +4,7 @@ use native.Mathlib.Omega.{arith}
 use borrow.Author.Needs.{needs}
 use borrow.Author.Tests.{not-true, not-false}
 use denote.Ref.{now}
-use Rattle.roads.proofs.PlanCount.{plan-count}
+use Rattle.roads.proofs.PlanCount.{plan-count, marking-few}
 use Rattle.plan.proofs.FileIsFile.{is-file}
 use Rattle.plan.proofs.PromisesKept.{plan-unsound, plan-not-red, plan-short, plan-made}
 use Rattle.plan.proofs.planning.plan.Statement.{statement}
@@ -30,7 +30,8 @@ returns-3 c =
 put-plan-requires : tie.Need-put-plan-requires
 put-plan-requires c κs =
     let start = c .before .before .before .before .before .before .before in
-    omega (arith, plan-count (start .args .wanted) (is-file (start .args .wanted) _ (start .good .0)), c .before .if3 .left)
+    let w = start .args .wanted in
+    omega (arith, plan-count w (is-file w _ (start .good .0)), marking-few (w .state .marks), c .before .if3 .left)
 
 returns-4 : tie.Need-returns-4
 returns-4 c =

@@ -3,7 +3,7 @@ use Prim.Native.Nat.{_+_}
 use native.Mathlib.Omega.{arith}
 use borrow.Author.Needs.{needs}
 use lib.ListN.{length}
-use Rattle.roads.specs.Plan.{opening, colours, indices, planRecords}
+use Rattle.roads.specs.Plan.{opening, colours, marking, indices, planRecords}
 use Rattle.roads.specs.RoadRecords.{selecting, along}
 use Rattle.roads.specs.Roads.{registerRoads, indexRoads}
 use Rattle.plan.proofs.Appending.{append-then, room-behind}
@@ -22,63 +22,83 @@ put-colours-requires c κs =
     let w = start .args .wanted in
     room-behind (length (colours (w .palette) (w .bank))) (first .put-opening .ensures) (omega (arith, plan-parts w, start .pre))
 
+put-marks-requires : tie.Need-put-marks-requires
+unfolding opening
+put-marks-requires c κs =
+    let second = c .before .before .before in
+    let first = second .before .before .before .before in
+    let start = first .before .before .before .before .before .before .before .before in
+    let w = start .args .wanted in
+    room-behind 3 (second .put-colours .ensures)
+    (room-behind (length (colours (w .palette) (w .bank)) + 3) (first .put-opening .ensures) (omega (arith, plan-parts w, start .pre)))
+
 put-registers-requires : tie.Need-put-registers-requires
 unfolding opening
 put-registers-requires c κs =
-    let second = c .before .before .before .before in
+    let third = c .before .before .before .before in
+    let second = third .before .before .before .before in
     let first = second .before .before .before .before in
     let start = first .before .before .before .before .before .before .before .before in
     let w = start .args .wanted in
     let own = length (along (w .registers) registerRoads) in
+    let marks = length (marking (w .state .marks)) in
     rw (first .before .before .register-rows .ensures)
-    (room-behind own (second .put-colours .ensures)
-    (room-behind (length (colours (w .palette) (w .bank)) + own) (first .put-opening .ensures) (omega (arith, plan-parts w, start .pre))))
+    (room-behind own (third .put-marks .ensures)
+    (room-behind (marks + own) (second .put-colours .ensures)
+    (room-behind (length (colours (w .palette) (w .bank)) + (marks + own)) (first .put-opening .ensures) (omega (arith, plan-parts w, start .pre)))))
 
 put-indices-requires : tie.Need-put-indices-requires
 unfolding opening
 put-indices-requires c κs =
-    let third = c .before .before .before in
-    let second = third .before .before .before .before .before in
+    let fourth = c .before .before .before in
+    let third = fourth .before .before .before .before .before in
+    let second = third .before .before .before .before in
     let first = second .before .before .before .before in
     let start = first .before .before .before .before .before .before .before .before in
     let w = start .args .wanted in
     let before = length (along (w .registers) registerRoads) in
-    room-behind 5 (rw (first .before .before .register-rows .ensures) at (third .put-registers .ensures))
-    (room-behind (before + 5) (second .put-colours .ensures)
-    (room-behind (length (colours (w .palette) (w .bank)) + (before + 5)) (first .put-opening .ensures) (omega (arith, plan-parts w, start .pre))))
+    let marks = length (marking (w .state .marks)) in
+    room-behind 5 (rw (first .before .before .register-rows .ensures) at (fourth .put-registers .ensures))
+    (room-behind (before + 5) (third .put-marks .ensures)
+    (room-behind (marks + (before + 5)) (second .put-colours .ensures)
+    (room-behind (length (colours (w .palette) (w .bank)) + (marks + (before + 5))) (first .put-opening .ensures) (omega (arith, plan-parts w, start .pre)))))
 
 put-closing-requires : tie.Need-put-closing-requires
 unfolding opening indices indexRoads along selecting
 put-closing-requires c κs =
-    let fourth = c .before .before .before in
-    let third = fourth .before .before .before .before in
-    let second = third .before .before .before .before .before in
+    let fifth = c .before .before .before in
+    let fourth = fifth .before .before .before .before in
+    let third = fourth .before .before .before .before .before in
+    let second = third .before .before .before .before in
     let first = second .before .before .before .before in
     let start = first .before .before .before .before .before .before .before .before in
     let w = start .args .wanted in
     let before = length (along (w .registers) registerRoads) in
-    room-behind 4 (fourth .put-indices .ensures)
-    (room-behind 9 (rw (first .before .before .register-rows .ensures) at (third .put-registers .ensures))
-    (room-behind (before + 9) (second .put-colours .ensures)
-    (room-behind (length (colours (w .palette) (w .bank)) + (before + 9)) (first .put-opening .ensures) (omega (arith, plan-parts w, start .pre)))))
+    let marks = length (marking (w .state .marks)) in
+    room-behind 4 (fifth .put-indices .ensures)
+    (room-behind 9 (rw (first .before .before .register-rows .ensures) at (fourth .put-registers .ensures))
+    (room-behind (before + 9) (third .put-marks .ensures)
+    (room-behind (marks + (before + 9)) (second .put-colours .ensures)
+    (room-behind (length (colours (w .palette) (w .bank)) + (marks + (before + 9))) (first .put-opening .ensures) (omega (arith, plan-parts w, start .pre))))))
 
 returns : tie.Need-returns
 unfolding planRecords
 returns c =
-    let fifth = c .before .before in
+    let sixth = c .before .before in
+    let fifth = sixth .before .before .before .before in
     let fourth = fifth .before .before .before .before in
-    let third = fourth .before .before .before .before in
-    let second = third .before .before .before .before .before in
+    let third = fourth .before .before .before .before .before in
+    let second = third .before .before .before .before in
     let first = second .before .before .before .before in
     append-then
     (append-then
-    (append-then (append-then (first .put-opening .ensures) (second .put-colours .ensures))
-    (rw (first .before .before .register-rows .ensures) at (third .put-registers .ensures)))
-    (fourth .put-indices .ensures))
-    (fifth .put-closing .ensures)
+    (append-then (append-then (append-then (first .put-opening .ensures) (second .put-colours .ensures)) (third .put-marks .ensures))
+    (rw (first .before .before .register-rows .ensures) at (fourth .put-registers .ensures)))
+    (fifth .put-indices .ensures))
+    (sixth .put-closing .ensures)
 
 pub put-plan-spec : {M : Type 1} → statement M
 put-plan-spec =
     tie.close
-    (tie.spec (λ c. search needs) (λ c κs. search needs) put-opening-requires put-colours-requires (λ c. search needs) put-registers-requires
-    put-indices-requires put-closing-requires (λ c. search needs) returns)
+    (tie.spec (λ c. search needs) (λ c κs. search needs) put-opening-requires put-colours-requires put-marks-requires (λ c. search needs)
+    put-registers-requires put-indices-requires put-closing-requires (λ c. search needs) returns)

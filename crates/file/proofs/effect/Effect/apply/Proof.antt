@@ -25,12 +25,16 @@ returns-4 c = c .stated3 .ensures ∙ ap (λ s. withState s (c .before .before .
 
 returns-5 : tie.Need-returns-5
 unfolding apply
-returns-5 c = c .stated4 .ensures ∙ ap₂ withState (c .before .pointing2 .ensures) (c .before .before .painted .ensures) ∙ sym (ap (λ (e : Effect). apply e (c .before .before .before .before .before .before .args .file)) (c .before .before .before .before .self4 .given .1))
+returns-5 c = c .stated4 .ensures ∙ ap (λ s. withState s (c .before .before .before .before .before .args .file)) (c .before .stepping .ensures) ∙ sym (ap (λ (e : Effect). apply e (c .before .before .before .before .before .args .file)) (c .before .before .before .self4 .given .1))
+
+returns-6 : tie.Need-returns-6
+unfolding apply
+returns-6 c = c .stated5 .ensures ∙ ap₂ withState (c .before .stepping2 .ensures) (c .before .before .painted .ensures) ∙ sym (ap (λ (e : Effect). apply e (c .before .before .before .before .before .before .args .file)) (c .before .before .before .before .self5 .given .1))
 
 pub apply-spec : {M : Type 1} → statement M
 apply-spec =
     tie.close
     (tie.spec (λ c. search needs) (λ c. search needs) (λ c κs. search needs) (λ c κs. search needs) (λ c κs. search needs)
     (λ c. search needs) (λ c κs. search needs) (λ c κs. search needs) (λ c. search needs) (λ c κs. search needs) (λ c κs. search needs)
-    (λ c. search needs) (λ c κs. search needs) (λ c κs. search needs) (λ c κs. search needs) returns returns-2 returns-3 returns-4
-    returns-5)
+    (λ c. search needs) (λ c κs. search needs) (λ c κs. search needs) (λ c. search needs) (λ c κs. search needs) (λ c κs. search needs)
+    (λ c κs. search needs) returns returns-2 returns-3 returns-4 returns-5 returns-6)

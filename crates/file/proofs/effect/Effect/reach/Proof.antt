@@ -21,11 +21,15 @@ returns-4 c = rw (c .before .enum-told3 .given .1) (c .colours .ensures)
 
 returns-5 : tie.Need-returns-5
 unfolding reachOf
-returns-5 c = rw (c .before .before .self2 .given .1) (c .colours2 .ensures)
+returns-5 c = rw (c .before .enum-told4 .given .1) (c .colours2 .ensures)
+
+returns-6 : tie.Need-returns-6
+unfolding reachOf
+returns-6 c = rw (c .before .before .self2 .given .1) (c .colours3 .ensures)
 
 pub reach-spec : {M : Type 1} → statement M
 reach-spec =
     tie.close
     (tie.spec (λ c. search needs) (λ c κs. search needs) (λ c. search needs) (λ c κs. search needs) (λ c. search needs)
-    (λ c κs. search needs) (λ c. search needs) (λ c κs. search needs) (λ c. search needs) (λ c κs. search needs) returns returns-2
-    returns-3 returns-4 returns-5)
+    (λ c κs. search needs) (λ c. search needs) (λ c κs. search needs) (λ c. search needs) (λ c κs. search needs) (λ c. search needs)
+    (λ c κs. search needs) returns returns-2 returns-3 returns-4 returns-5 returns-6)
