@@ -42,6 +42,16 @@ static bool p5(void)
         && peek(&f, 0x70) == -4 && poke(&f, 0x70, 0) == -4;
 }
 
+/* 02 2/13: 3CCh and, with MISC[0]=1, 3BAh written; config 05h and C1h; 3CAh. */
+static bool request2(void)
+{
+    struct sc_file f = opened();
+
+    return out(&f, 0x3CC, 0) == -16 && out(&f, 0x3C2, 0x01) == 0 && out(&f, 0x3BA, 0) == -16
+        && ask(&f, SC_CONFIG_READ, 1, 5, 0) == -17 && peek(&f, 0xC1) == -17
+        && poke(&f, 0xC1, 0) == -17 && in(&f, 0x3CA) == -4;
+}
+
 static bool p6(void)
 {
     struct sc_file f = opened();
@@ -178,6 +188,7 @@ int main(void)
         { "P9", "IBM mode 12h", p9 },
         { "P10", "the widest H blank", p10 },
         { "P11", "the cursor left of the screen", p11 },
+        { "02 2/13", "three kinds of nothing held", request2 },
         { "replay", "the example", replay_example },
         { "replay", "an empty trace", replay_empty },
         { "replay", "a fragment alone", replay_fragment },

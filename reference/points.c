@@ -220,9 +220,11 @@ static bool point8(void)
 
     for (int misc = 0; misc < 2; misc++) {
         out(&f, 0x3C2, misc);
-        if (in(&f, 0x3C2) != -4 || out(&f, 0x3CC, 0) != -4 || out(&f, 0x3C1, 0) != -4)
+        if (in(&f, 0x3C2) != -16 || out(&f, 0x3CC, 0) != -16 || out(&f, 0x3C1, 0) != -16)
             return false;
-        if (out(&f, 0x3BA, 0) != -4 || out(&f, 0x3DA, 0) != -4)
+        if (out(&f, 0x3BA, 0) != -16 || out(&f, 0x3DA, 0) != -16)
+            return false;
+        if (ask(&f, SC_PORT_WRITE, 2, 0x3BA, 0) != -16 || ask(&f, SC_PORT_READ, 2, 0x3C2, 0) != -16)
             return false;
         if (in(&f, 0x3CA) != -4 || out(&f, 0x3CA, 0) != -4)
             return false;
@@ -277,10 +279,25 @@ static bool point12(void)
 
     for (size_t i = 0; i < LENGTH(wide); i++)
         if (peek(&f, wide[i]) != -6 || poke(&f, wide[i], 0) != -6
-            || peek(&f, wide[i] + 1) != -4 || poke(&f, wide[i] + 1, 0) != -4)
+            || peek(&f, wide[i] + 1) != -17 || poke(&f, wide[i] + 1, 0) != -17
+            || peek16(&f, wide[i] + 1) != -17 || poke16(&f, wide[i] + 1, 0) != -17)
             return false;
-    return ask(&f, SC_CONFIG_READ, 1, 5, 0) == -4 && ask(&f, SC_CONFIG_READ, 1, 4, 0) == -6
+    for (int address = 1; address <= 5; address += 2)
+        if (ask(&f, SC_CONFIG_READ, 1, address, 0) != -17
+            || ask(&f, SC_CONFIG_WRITE, 2, address, 0) != -17)
+            return false;
+    return ask(&f, SC_CONFIG_READ, 1, 6, 0) == -4 && ask(&f, SC_CONFIG_READ, 1, 4, 0) == -6
         && peek16(&f, 0xD4) == -6 && poke16(&f, 0xD4, 0) == -6 && peek(&f, 0xD5) == 0;
+}
+
+/* 02 2/13, of an address that is not held: 16, 17 or 4. */
+static int not_held(int kind, uint32_t address)
+{
+    if (held_width(kind ^ 1, address))
+        return 16;
+    if (address && (held_width(kind, address - 1) == 2 || held_width(kind ^ 1, address - 1) == 2))
+        return 17;
+    return 4;
 }
 
 /* Every address of every space, width and direction, under both MISC[0]. */
@@ -297,7 +314,8 @@ static bool point13(void)
                     bool other = port && address >> 4 == (misc ? 0x3B : 0x3D);
                     bool fixed = (kind == SC_CONFIG_WRITE && address < 4)
                         || (kind == SC_MMIO_WRITE && address >= 0x300 && address < 0x304);
-                    int wanted = !held ? 4 : other ? 5 : held != width ? 6 : fixed ? 7 : 0;
+                    int wanted = !held ? not_held(kind, (uint32_t)address)
+                        : other ? 5 : held != width ? 6 : fixed ? 7 : 0;
                     int got = ask(&f, kind, width, address, 0);
                     if (wanted ? got != -wanted : got < 0)
                         return false;
@@ -945,7 +963,9 @@ static bool sound_kept(void)
             uint8_t bytes[8];
             struct sc_reply reply = sc_access(&g, &r);
             sc_reply_to(&reply, bytes);
-            if (reply.code > 9 || memcmp(bytes, replies + 8 * i, 8))
+            bool in_list = reply.code <= 9 || reply.code == SC_OTHER_DIRECTION
+                || reply.code == SC_INSIDE_WIDER;
+            if (!in_list || memcmp(bytes, replies + 8 * i, 8))
                 return false;
         }
         if (!same_file(&f, &g))
@@ -963,11 +983,11 @@ int main(void)
         { "point 4", "places of a reply buffer", point4 },
         { "point 5", "a run's own code", point5 },
         { "point 7", "3 before 4, config never 3", point7 },
-        { "point 8", "4 by space, address and direction, before 5", point8 },
+        { "point 8", "16 by space, address and direction, before 5", point8 },
         { "point 9", "PCI00 and PCI02 written", point9 },
         { "point 10", "3?Ah of the other base", point10 },
         { "point 11", "width 2 at a port", point11 },
-        { "point 12", "width 1 at 16 bits, odd halves, D4h", point12 },
+        { "point 12", "width 1 at 16 bits, 17 at odd halves, D4h", point12 },
         { "point 13", "every address, no alias", point13 },
         { "point 14", "every index, its bits or code 1", point14 },
         { "point 15", "index registers drop high bits", point15 },

@@ -431,6 +431,27 @@ static bool other_base(const struct sc_file *f, const struct sc_record *r)
     }
 }
 
+/*
+ * 02 2/13, an address with no place: 16 if it is held in the other direction, 17 if it falls inside
+ * a wider register, held in either, 4 if there is nothing at all.
+ */
+static uint8_t not_held(const struct sc_file *f, const struct sc_record *r)
+{
+    struct sc_record other = *r, below = *r, other_below;
+
+    other.kind ^= 1;
+    if (place_of(f, &other).unit != NOWHERE)
+        return SC_OTHER_DIRECTION;
+    if (r->address == 0)
+        return SC_NOT_HELD;
+    below.address--;
+    other_below = below;
+    other_below.kind ^= 1;
+    if (place_of(f, &below).width > 1 || place_of(f, &other_below).width > 1)
+        return SC_INSIDE_WIDER;
+    return SC_NOT_HELD;
+}
+
 /* 01 "Accesses and replies": the checks in their order, on a file known to be sound. */
 static uint8_t perform(struct sc_file *f, const struct sc_record *r, uint16_t *value)
 {
@@ -440,7 +461,7 @@ static uint8_t perform(struct sc_file *f, const struct sc_record *r, uint16_t *v
         return SC_SPACE_OFF;
     struct place at = place_of(f, r);
     if (at.unit == NOWHERE)
-        return SC_NOT_HELD;
+        return not_held(f, r);
     if (other_base(f, r))
         return SC_OTHER_BASE;
     if (r->width != at.width)

@@ -26,7 +26,9 @@ enum sc_code {
     SC_OUT_OF_RANGE = 10,
     SC_SHORT_BUFFER = 11,
     SC_UNSOUND = 12,
-    SC_NOT_BEFORE_RED = 13
+    SC_NOT_BEFORE_RED = 13,
+    SC_OTHER_DIRECTION = 16,    /* 02 2/13 */
+    SC_INSIDE_WIDER = 17
 };
 
 /* 01 "Accesses and replies": byte 0 of a record. */

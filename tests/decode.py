@@ -55,7 +55,9 @@ HELD = places()
 
 
 def place_name(space, write, address):
-    name, _, reads, writes = HELD.get((space, address), ("not held", 0, True, True))
+    around = HELD.get((space, address - 1), ("", 1))
+    missing = f"inside {around[0]}" if around[1] == 2 else "not held"
+    name, _, reads, writes = HELD.get((space, address), (missing, 0, True, True))
     if not (writes if write else reads):
         name = f"{name}, not held for a {'write' if write else 'read'}"
     return name

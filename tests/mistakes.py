@@ -34,9 +34,9 @@ MISTAKES = [
      "    if (at.unit == NOWHERE)\n        return SC_NOT_HELD;\n"
      "    if (space_off(f, r))\n        return SC_SPACE_OFF;\n"),
     ("5 before 4",
-     "    if (at.unit == NOWHERE)\n        return SC_NOT_HELD;\n    if (other_base(f, r))\n",
+     "    if (at.unit == NOWHERE)\n        return not_held(f, r);\n    if (other_base(f, r))\n",
      "    if (other_base(f, r))\n        return SC_OTHER_BASE;\n"
-     "    if (at.unit == NOWHERE)\n        return SC_NOT_HELD;\n    if (other_base(f, r))\n"),
+     "    if (at.unit == NOWHERE)\n        return not_held(f, r);\n    if (other_base(f, r))\n"),
     ("6 before 5",
      "    if (other_base(f, r))\n        return SC_OTHER_BASE;\n"
      "    if (r->width != at.width)\n        return SC_WRONG_WIDTH;\n",
@@ -58,6 +58,23 @@ MISTAKES = [
      "        size_t taken = whole ? SC_RECORD_BYTES : p.rest_length;",
      "bool whole = p.rest_length >= 4;\n"
      "        size_t taken = p.rest_length >= SC_RECORD_BYTES ? SC_RECORD_BYTES : p.rest_length;"),
+
+    # Three kinds of nothing held, 02 2/13
+    ("16 answered 4",
+     "return SC_OTHER_DIRECTION;", "return SC_NOT_HELD;"),
+    ("17 where the other direction holds it",
+     "return SC_OTHER_DIRECTION;", "return SC_INSIDE_WIDER;"),
+    ("16 at width 1 alone",
+     "place_of(f, &other).unit != NOWHERE", "r->width == 1 && place_of(f, &other).unit != NOWHERE"),
+    ("an odd half answered 4",
+     "return SC_INSIDE_WIDER;", "return SC_NOT_HELD;"),
+    ("an odd half answered 17 at width 1 alone",
+     "if (place_of(f, &below).width > 1 || place_of(f, &other_below).width > 1)",
+     "if (r->width == 1 && (place_of(f, &below).width > 1 || place_of(f, &other_below).width > 1))"),
+    ("17 behind a register of 8 bits",
+     "place_of(f, &below).width > 1 ||", "place_of(f, &below).unit != NOWHERE ||"),
+    ("a 16-bit register's own offset answered 17",
+     "        return SC_WRONG_WIDTH;\n", "        return at.width > 1 ? SC_INSIDE_WIDER : SC_WRONG_WIDTH;\n"),
 
     # Places
     ("MMIO mirrored",

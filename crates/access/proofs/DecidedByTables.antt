@@ -11,7 +11,7 @@ use lib.Dec.{T, eqb}
 use Rattle.bits.specs.Store.{bits}
 use Rattle.bits.proofs.Test.{left, either, by-test, is-true, chosen, and-false}
 use Rattle.file.specs.declared.answer.Answer.{Answer}
-use Rattle.file.specs.declared.answer.Answer.the-variants.{Malformed, SpaceOff, NotHeld, OtherHalf, WrongWidth}
+use Rattle.file.specs.declared.answer.Answer.the-variants.{Malformed, SpaceOff, NotHeld, OtherHalf, WrongWidth, OtherDirection, InsideWider}
 use Rattle.file.specs.declared.effect.Effect.{Effect}
 use Rattle.file.specs.declared.effect.Effect.the-variants.{Nothing}
 use Rattle.file.specs.declared.registers.File.{File}
@@ -21,12 +21,13 @@ use Rattle.file.specs.Registers.{storedBits, storedTable}
 use Rattle.file.specs.Sound.{sound}
 use Rattle.file.proofs.Soundness.{at-most, registers-sound}
 use Rattle.places.specs.declared.place.Place.{Place}
-use Rattle.places.specs.EngineCells.{nothingHeld, cellAt, cellWidth, cellIn, cellTable, cellPlace, taken, takesBytes}
+use Rattle.places.specs.EngineCells.{otherWayHeld, widerHeld, heldCell, cellAt, isNothing, cellWidth, cellIn, cellTable, cellPlace, taken, takesBytes}
 use Rattle.places.specs.Lookup.{attributeIndex, matches, placeOfRow, placeAt}
 use Rattle.places.specs.Places.{Row}
 use Rattle.places.specs.Profile.{Reading, givesHeld, givesFixed, givesToggle, givesPaletteState, givesDacState, givesAddress, givesPixel, resetsToggle, namesNothing, Writing, storesTo, readOnly, setsAddress, writesPixel, storesNothing, profile, readsPixel}
 use Rattle.places.proofs.CellsOfRows.{Outcome, nothing, held, outcome, spoken}
 use Rattle.places.proofs.IndexedPorts.{decider, count, Indexed, cell-names}
+use Rattle.places.proofs.NotHeld.{something-held, cell-held}
 use Rattle.places.proofs.Rows.{Passes, row-passes}
 use Rattle.places.proofs.RulesOfPlaces.{narrow, all-narrow}
 use Rattle.places.proofs.TableOfCells.{cell-true}
@@ -36,7 +37,7 @@ use Rattle.access.specs.declared.engine.Looked.the-variants.{Refused, At
 use Rattle.access.specs.declared.record.Record.{Record}
 use Rattle.access.specs.Access.{placeOf, paletteUp, reachIn, readAnswer, writeAnswer, answerAt, writeEffect, readEffect, effectAt, answer, effect}
 use Rattle.access.specs.Checks.{isWrite, malformed, spaceOff}
-use Rattle.access.specs.Engine.{otherRow, lookedBy, reachBy, decidedWrite, decidedRead, decidedBy, asksPixel, decision}
+use Rattle.access.specs.Engine.{otherRow, nothingTold, lookedBy, reachBy, decidedWrite, decidedRead, decidedBy, asksPixel, decision}
 use Rattle.access.proofs.ChecksInOrder.{settled, in-order}
 use Rattle.access.proofs.PassedChecks.{kind-below, value-fits, Passed, passed}
 use Rattle.access.proofs.SeenDecisions.{same-decision}
@@ -57,12 +58,17 @@ refuses : Looked → Bool
 refuses (Refused a) = refused a
 refuses (At cell) = true
 
+told-refuses : (cell : ℕ) → T (refuses (Refused (nothingTold cell)))
+unfolding nothingTold refuses refused codeOf
+told-refuses cell =
+    chosen refused (eqb cell otherWayHeld) OtherDirection _ tt (chosen refused (eqb cell widerHeld) InsideWider NotHeld tt tt)
+
 looked-refuses : (cells : List ℕ) (f : File) (r : Record) → T (refuses (lookedBy cells f r))
 unfolding lookedBy refuses refused codeOf
 looked-refuses cells f r =
     chosen refuses (malformed f r) (Refused Malformed) _ tt
     (chosen refuses (spaceOff f r) (Refused SpaceOff) _ tt
-    (chosen refuses (eqb (cellIn cells (r .kind) (r .address)) nothingHeld) (Refused NotHeld) _ tt
+    (chosen refuses (isNothing (cellIn cells (r .kind) (r .address))) (Refused (nothingTold (cellIn cells (r .kind) (r .address)))) _ (told-refuses (cellIn cells (r .kind) (r .address)))
     (chosen refuses (otherRow f r) (Refused OtherHalf) _ tt
     (chosen refuses (eqb (cellWidth (cellIn cells (r .kind) (r .address))) (r .width)) (At (cellIn cells (r .kind) (r .address))) (Refused WrongWidth) tt tt))))
 
@@ -119,13 +125,16 @@ module _ (f : File) (s : T (sound f)) (r : Record) where
     low : r .kind < 6
     low = kind-below f r (through .formed)
 
-    true-cell : cellIn cellTable (r .kind) (r .address) ≡ cellAt (r .kind) (r .address)
-    true-cell = cell-true (r .kind) low (r .address)
+    some-cell : isNothing (cellAt (r .kind) (r .address)) ≡ false
+    some-cell = ap isNothing (sym (cell-true (r .kind) low (r .address))) ∙ through .something
+
+    true-cell : cellIn cellTable (r .kind) (r .address) ≡ heldCell (r .kind) (r .address)
+    true-cell = cell-true (r .kind) low (r .address) ∙ cell-held (r .kind) (r .address) some-cell
 
     place-there : placeOf f r ≡ cellPlace cellTable f cell
     unfolding placeOf
     place-there =
-        cell-names f (indices f s) (r .kind) (r .address) low (λ n. through .something (true-cell ∙ n))
+        cell-names f (indices f s) (r .kind) (r .address) low (something-held (r .kind) (r .address) some-cell)
         ∙ ap (cellPlace cellTable f) (sym (through .named ∙ true-cell))
 
     answer-there : answer f r ≡ answerAt (isWrite r) f (placeOf f r)
@@ -138,7 +147,7 @@ module _ (f : File) (s : T (sound f)) (r : Record) where
     value-taken w = by (outcome f (r .kind) (r .address) low)
       where
         by : Outcome f (r .kind) (r .address) → taken (profile (placeOf f r) .writing) (r .value) ≡ r .value
-        by (nothing n c) = absurd (through .something (true-cell ∙ c))
+        by (nothing n c) = absurd (something-held (r .kind) (r .address) some-cell c)
         by (held row n k a t) =
             let passes-narrow : T (narrow row && matches f (r .kind) (r .address) row) =
             subst (Passes (λ (row : Row). narrow row && matches f (r .kind) (r .address) row)) n (row-passes f (r .kind) (r .address) narrow all-narrow) in
@@ -146,7 +155,7 @@ module _ (f : File) (s : T (sound f)) (r : Record) where
             (by-test (eqb (row .width) 1)
             (λ one. taken-byte (profile (row .place) .writing) (r .value)
             (subst (λ (m : ℕ). r .value < 256 ^ m)
-            (sym (through .width) ∙ ap cellWidth true-cell ∙ sym (spoken row (cellAt (r .kind) (r .address)) t .width) ∙ eqb-true (row .width) 1 one)
+            (sym (through .width) ∙ ap cellWidth true-cell ∙ sym (spoken row (heldCell (r .kind) (r .address)) t .width) ∙ eqb-true (row .width) 1 one)
             (value-fits f r (through .formed) w)))
             (λ two. taken-whole (profile (row .place) .writing) (r .value)
             (not-true (takesBytes (profile (row .place) .writing))

@@ -8,17 +8,17 @@ use borrow.Author.Tests.{eqb-true, eqb-false, leb-false, ltb-false}
 use lib.Dec.{T, eqb, leb, ltb, ltb→lt}
 use Rattle.bits.proofs.Test.{left, by-test, or-left, or-right}
 use Rattle.file.specs.declared.answer.Answer.{Answer}
-use Rattle.file.specs.declared.answer.Answer.the-variants.{Malformed, SpaceOff, NotHeld, OtherHalf, WrongWidth}
+use Rattle.file.specs.declared.answer.Answer.the-variants.{Malformed, SpaceOff, OtherHalf, WrongWidth}
 use Rattle.file.specs.declared.registers.File.{File}
 use Rattle.file.specs.Registers.{registerCount}
 use Rattle.places.specs.declared.place.Place.{Place}
 use Rattle.places.specs.declared.place.Place.the-variants.{Register, Attribute}
-use Rattle.places.specs.EngineCells.{nothingHeld, cellIn, cellWidth, inFile}
+use Rattle.places.specs.EngineCells.{isNothing, cellIn, cellWidth, inFile}
 use Rattle.access.specs.declared.engine.Looked.{Looked}
 use Rattle.access.specs.declared.engine.Looked.the-variants.{Refused, At}
 use Rattle.access.specs.declared.record.Record.{Record}
 use Rattle.access.specs.Checks.{isWrite, malformed, spaceOff}
-use Rattle.access.specs.Engine.{otherRow, lookedBy}
+use Rattle.access.specs.Engine.{otherRow, nothingTold, lookedBy}
 
 -- a record that is not malformed has a kind up to 5
 pub kind-below : (f : File) (r : Record) → malformed f r ≡ false → r .kind < 6
@@ -51,7 +51,7 @@ isAt (At cell) = true
 
 pub record Passed (cells : List ℕ) (f : File) (r : Record) (cell : ℕ) : Type 0 where
   pub formed : malformed f r ≡ false
-  pub something : cellIn cells (r .kind) (r .address) ≡ nothingHeld → ⊥
+  pub something : isNothing (cellIn cells (r .kind) (r .address)) ≡ false
   pub named : cell ≡ cellIn cells (r .kind) (r .address)
   pub width : cellWidth (cellIn cells (r .kind) (r .address)) ≡ r .width
 
@@ -68,12 +68,12 @@ module _ (cells : List ℕ) (f : File) (r : Record) (cell : ℕ) where
   passed e =
       by-test (malformed f r) (λ m. never Malformed (rw m at e))
       (λ m. by-test (spaceOff f r) (λ o. never SpaceOff (rw (m, o) at e))
-      (λ o. by-test (eqb Here nothingHeld) (λ n. never NotHeld (rw (m, o, n) at e))
+      (λ o. by-test (isNothing Here) (λ n. never (nothingTold Here) (rw (m, o, n) at e))
       (λ n. by-test (otherRow f r) (λ h. never OtherHalf (rw (m, o, n, h) at e))
       (λ h. by-test (eqb (cellWidth Here) (r .width))
       (λ w. record {
         formed = m;
-        something = eqb-false Here nothingHeld n;
+        something = n;
         named = sym (ap atCell (rw (m, o, n, h, w) at e));
         width = eqb-true (cellWidth Here) (r .width) w;
       })

@@ -7,7 +7,7 @@ use mathlib.Core.Option.{Option}
 use lib.Dec.{T}
 use Rattle.bits.proofs.Test.{left, right, by-test, is-true, and-false}
 use Rattle.file.specs.declared.answer.Answer.{Answer}
-use Rattle.file.specs.declared.answer.Answer.the-variants.{Done, Malformed, SpaceOff, NotHeld, OtherHalf, WrongWidth, NotSound}
+use Rattle.file.specs.declared.answer.Answer.the-variants.{Done, Malformed, SpaceOff, NotHeld, OtherHalf, WrongWidth, NotSound, OtherDirection, InsideWider}
 use Rattle.file.specs.declared.effect.Effect.{Effect}
 use Rattle.file.specs.declared.effect.Effect.the-variants.{Nothing}
 use Rattle.file.specs.declared.registers.File.{File}
@@ -15,14 +15,14 @@ use Rattle.file.specs.Answers.{codeOf, refused}
 use Rattle.file.specs.File.{register, seen, crtcLocked}
 use Rattle.file.specs.Sound.{sound}
 use Rattle.places.specs.declared.place.Place.{Place}
-use Rattle.places.specs.Lookup.{rowAt, placeOfRow, placeAt}
-use Rattle.places.specs.Places.{Row}
+use Rattle.places.specs.Lookup.{rowAt, placeOfRow, placeAt, otherWay, heldIn, insideIn}
+use Rattle.places.specs.Places.{Row, places}
 use Rattle.places.specs.Profile.{Reading, givesHeld, givesFixed, givesToggle, givesPaletteState, givesDacState, givesAddress, givesPixel, resetsToggle, namesNothing, Writing, storesTo, readOnly, setsAddress, writesPixel, storesNothing, profile, readsPixel}
 use Rattle.places.proofs.SeenRows.{row-seen}
 use Rattle.access.specs.declared.engine.Decision.{Decision}
 use Rattle.access.specs.declared.record.Record.{Record}
 use Rattle.access.specs.Access.{placeOf, lockedOut, reachIn, paletteUp, inBank, entryNumber, shownIn, readAnswer, writeAnswer, answerAt, pixelWrite, readEffect, writeEffect, effectAt, answer, effect}
-use Rattle.access.specs.Checks.{Check, isWrite, checks, firstRefusal, notSound, malformed, spaceOff, notHeld, noRow, otherHalf, otherWidth, wrongWidth}
+use Rattle.access.specs.Checks.{Check, isWrite, checks, firstRefusal, notSound, malformed, spaceOff, notHeld, noRow, otherDirection, insideWider, otherHalf, otherWidth, wrongWidth}
 use Rattle.access.specs.Engine.{asksPixel, decision}
 
 -- a decision by its parts
@@ -94,11 +94,13 @@ module _ (f : File) where
       cond (not (sound Seen)) NotSound
       (cond (malformed Seen r) Malformed
       (cond (spaceOff Seen r) SpaceOff
+      (cond (noRow row && heldIn places (otherWay (r .kind)) (r .address)) OtherDirection
+      (cond (noRow row && insideIn places (r .kind) (r .address)) InsideWider
       (cond (noRow row) NotHeld
-      (cond (otherHalf Seen r) OtherHalf (cond (otherWidth (r .width) row) WrongWidth otherwise)))))
+      (cond (otherHalf Seen r) OtherHalf (cond (otherWidth (r .width) row) WrongWidth otherwise)))))))
 
   checks-seen : (r : Record) (otherwise : Answer) → firstRefusal checks f r otherwise ≡ firstRefusal checks Seen r otherwise
-  unfolding firstRefusal checks notSound sound malformed spaceOff notHeld otherHalf wrongWidth seen register
+  unfolding firstRefusal checks notSound sound malformed spaceOff notHeld otherDirection insideWider otherHalf wrongWidth seen register
   checks-seen r otherwise = ap (Checked r otherwise) (row-seen f (r .kind) (r .address))
 
   place-seen : (r : Record) → placeOf f r ≡ placeOf Seen r

@@ -1,4 +1,4 @@
--- 01, the table of codes and 'Access checks run 12, 2, 3, 4, 5, 6, then 1 or 7 or 8 or 9.'
+-- 01, the table of codes and 'Access checks run 12, 2, 3, 4, 5, 6, then 1 or 7 or 8 or 9'; 02, 2/13, 'Code 4 is too coarse'.
 -- Assumes nothing.
 use Prim.Native.Nat.{ℕ, _/_, _%_, _^_}
 use mathlib.Core.Bool.{Bool, true, false, cond, not, _&&_, _||_}
@@ -7,14 +7,14 @@ use mathlib.Core.Option.{Option, none, some}
 use lib.Dec.{eqb, leb, ltb}
 use Rattle.bits.specs.Store.{bit}
 use Rattle.file.specs.declared.answer.Answer.{Answer}
-use Rattle.file.specs.declared.answer.Answer.the-variants.{Malformed, SpaceOff, NotHeld, OtherHalf, WrongWidth, NotSound}
+use Rattle.file.specs.declared.answer.Answer.the-variants.{Malformed, SpaceOff, NotHeld, OtherHalf, WrongWidth, NotSound, OtherDirection, InsideWider}
 use Rattle.file.specs.declared.registers.File.{File}
 use Rattle.file.specs.File.{register}
 use Rattle.file.specs.Names.{MISC, PCI04}
 use Rattle.file.specs.Sound.{sound}
 use Rattle.access.specs.declared.record.Record.{Record}
-use Rattle.places.specs.Lookup.{isOneOf, rowAt}
-use Rattle.places.specs.Places.{Row}
+use Rattle.places.specs.Lookup.{isOneOf, rowAt, otherWay, heldIn, insideIn}
+use Rattle.places.specs.Places.{Row, places}
 
 -- 'byte 0 kind (0 config read, 1 config write, 2 port read, 3 port write, 4 MMIO read, 5 MMIO write)'
 unfoldable pub isWrite : Record → Bool
@@ -42,13 +42,20 @@ unfoldable pub spaceOff : File → Record → Bool
 spaceOff f r =
     isPort r && eqb (bit 0 (register f PCI04)) 0 || isMmio r && eqb (bit 1 (register f PCI04)) 0
 
--- code 4: 'address not held in that space and direction'
+-- code 4: 'address not held in that space and direction'; 02, 2/13: '4 now means nothing there'
 unfoldable pub noRow : Option Row → Bool
 noRow none = true
 noRow (some row) = false
 
 unfoldable pub notHeld : File → Record → Bool
 notHeld f r = noRow (rowAt f (r .kind) (r .address))
+
+-- 02, 2/13, codes 16 and 17 among these: 'the address is held in the other direction only; it falls inside a wider register'
+unfoldable pub otherDirection : File → Record → Bool
+otherDirection f r = notHeld f r && heldIn places (otherWay (r .kind)) (r .address)
+
+unfoldable pub insideWider : File → Record → Bool
+insideWider f r = notHeld f r && insideIn places (r .kind) (r .address)
 
 -- code 5: '3B4h/3B5h/3BAh while MISC[0]=1, or 3D4h/3D5h/3DAh while it is 0'
 unfoldable pub otherHalf : File → Record → Bool
@@ -73,12 +80,15 @@ pub record Check : Type 0 where
 abbrev check : Answer → (File → Record → Bool) → Check
 check answer refuses = record { answer = answer; refuses = refuses }
 
--- 'Access checks run 12, 2, 3, 4, 5, 6': the checks that every record passes before its place is asked
+-- 'Access checks run 12, 2, 3, 4, 5, 6': the checks that every record passes before its place is asked. 02, 2/13: at 4's place '16 is tested before 17
+-- and 17 before 4'
 unfoldable pub checks : List Check
 checks =
     check NotSound notSound
     ∷ check Malformed malformed
     ∷ check SpaceOff spaceOff
+    ∷ check OtherDirection otherDirection
+    ∷ check InsideWider insideWider
     ∷ check NotHeld notHeld
     ∷ check OtherHalf otherHalf
     ∷ check WrongWidth wrongWidth

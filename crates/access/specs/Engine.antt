@@ -8,7 +8,7 @@ use lib.Dec.{eqb}
 use lib.ListN.{getD}
 use Rattle.bits.specs.Store.{bit}
 use Rattle.file.specs.declared.answer.Answer.{Answer}
-use Rattle.file.specs.declared.answer.Answer.the-variants.{Malformed, SpaceOff, NotHeld, OtherHalf, WrongWidth}
+use Rattle.file.specs.declared.answer.Answer.the-variants.{Malformed, SpaceOff, NotHeld, OtherHalf, WrongWidth, OtherDirection, InsideWider}
 use Rattle.file.specs.declared.effect.Effect.{Effect}
 use Rattle.file.specs.declared.effect.Effect.the-variants.{Nothing}
 use Rattle.file.specs.declared.registers.File.{File}
@@ -16,7 +16,7 @@ use Rattle.file.specs.Answers.{refused}
 use Rattle.file.specs.File.{register, crtcLocked}
 use Rattle.file.specs.Names.{MISC, CR7}
 use Rattle.places.specs.declared.place.Place.{Place}
-use Rattle.places.specs.EngineCells.{nothingHeld, cellIn, cellWidth, cellPlace, taken}
+use Rattle.places.specs.EngineCells.{otherWayHeld, widerHeld, isNothing, cellIn, cellWidth, cellPlace, taken}
 use Rattle.places.specs.Profile.{Reading, Writing, profile, readsPixel}
 use Rattle.access.specs.declared.engine.Decision.{Decision}
 use Rattle.access.specs.declared.engine.Looked.{Looked}
@@ -31,13 +31,17 @@ otherRow f r =
     isPort r
     && (eqb (r .address / 16) 0x3B && eqb (bit 0 (register f MISC)) 1 || eqb (r .address / 16) 0x3D && eqb (bit 0 (register f MISC)) 0)
 
+-- 02, 2/13: which of 16, 17 and 4 a cell is where nothing is held
+unfoldable pub nothingTold : ℕ → Answer
+nothingTold cell = cond (eqb cell otherWayHeld) OtherDirection (cond (eqb cell widerHeld) InsideWider NotHeld)
+
 -- 'Access checks run .. 2, 3, 4, 5, 6', by the cell of the record's kind and address
 unfoldable pub lookedBy : List ℕ → File → Record → Looked
 lookedBy cells f r =
     let cell = cellIn cells (r .kind) (r .address) in
     cond (malformed f r) (Refused Malformed)
     (cond (spaceOff f r) (Refused SpaceOff)
-    (cond (eqb cell nothingHeld) (Refused NotHeld)
+    (cond (isNothing cell) (Refused (nothingTold cell))
     (cond (otherRow f r) (Refused OtherHalf) (cond (eqb (cellWidth cell) (r .width)) (At cell) (Refused WrongWidth)))))
 
 -- the bits of a register that a write may change, by a table of stored bits

@@ -5,12 +5,17 @@ use mathlib.Core.Bool.{Bool}
 use mathlib.Core.List.{[], _∷_}
 use Rattle.file.specs.declared.answer.Answer.{Answer}
 use Rattle.file.specs.Answers.{codeOf, oneOf}
+use Rattle.places.specs.Lookup.{otherWay}
 use Rattle.access.specs.declared.record.Record.{Record}
 
--- 01's table of codes: those of an access, 0 to 9 and 12
+-- 01's table of codes: those of an access, 0 to 9 and 12; 02, 2/13: 16 and 17
 unfoldable pub accessCode : Answer → Bool
 unfolding oneOf codeOf
-accessCode a = oneOf (0 ∷ 1 ∷ 2 ∷ 3 ∷ 4 ∷ 5 ∷ 6 ∷ 7 ∷ 8 ∷ 9 ∷ 12 ∷ []) a
+accessCode a = oneOf (0 ∷ 1 ∷ 2 ∷ 3 ∷ 4 ∷ 5 ∷ 6 ∷ 7 ∷ 8 ∷ 9 ∷ 12 ∷ 16 ∷ 17 ∷ []) a
+
+-- 02, 2/13: a record in the other direction
+abbrev pub turned : Record → Record
+turned r = record { kind = otherWay (r .kind); width = r .width; address = r .address; value = r .value }
 
 -- a write of CR7 at MMIO 1Ch
 abbrev pub seventh : ℕ → Record

@@ -16,7 +16,7 @@ ghost use Rattle.access.specs.Access.{lockedOut, paletteUp, inBank, pixe
 ghost use Rattle.bits.specs.Store.{store as storeBits};
 ghost use Rattle.file.specs.Names.{B0 as B0Number};
 ghost use Rattle.access.specs.Checks.{malformed, spaceOff};
-ghost use Rattle.access.specs.Engine.{otherRow, lookedBy, reachBy, decidedWrite, decidedRead, decidedBy};
+ghost use Rattle.access.specs.Engine.{otherRow, nothingTold, lookedBy, reachBy, decidedWrite, decidedRead, decidedBy};
 use crate::record::Record;
 use file::ARX;
 use file::Answer;
@@ -33,8 +33,9 @@ use file::Pointer;
 use file::REGISTERS;
 use file::State;
 use places::CELLS;
-use places::NOTHING;
+use places::OTHER_WAY_HELD;
 use places::Place;
+use places::WIDER_HELD;
 
 // What the common checks say: a refusal, or the cell of the place to be asked.
 pub enum Looked {
@@ -103,6 +104,19 @@ fn is_other_row(registers: &[u16; REGISTERS], asked: Record) -> bool
     false
 }
 
+// Codes 16, 17 and 4, by the cell of an address that is not held.
+fn nothing_held(cell: u8) -> Answer
+    ensures { λ r. ⌜ r ≡ nothingTold cell ⌝ }
+{
+    if cell == OTHER_WAY_HELD {
+        return Answer::OtherDirection;
+    }
+    if cell == WIDER_HELD {
+        return Answer::InsideWider;
+    }
+    Answer::NotHeld
+}
+
 // The checks that every record passes before its place is asked, in 01's order.
 fn look(cells: &[u8; CELLS], registers: &[u16; REGISTERS], asked: Record) -> Looked
     ensures { λ r. ⌜ r ≡ lookedBy (now (cells .entry)) (seen (now (registers .entry)) initial) asked ⌝ }
@@ -114,8 +128,8 @@ fn look(cells: &[u8; CELLS], registers: &[u16; REGISTERS], asked: Record) -> Loo
         return Looked::Refused(Answer::SpaceOff);
     }
     let cell = places::cell_at(cells, asked.kind, asked.address);
-    if cell == NOTHING {
-        return Looked::Refused(Answer::NotHeld);
+    if places::is_nothing(cell) {
+        return Looked::Refused(nothing_held(cell));
     }
     if is_other_row(registers, asked) {
         return Looked::Refused(Answer::OtherHalf);

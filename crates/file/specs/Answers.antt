@@ -5,9 +5,9 @@ use mathlib.Core.Bool.{Bool, false, _||_}
 use mathlib.Core.List.{List, [], _∷_}
 use lib.Dec.{eqb, leb}
 use Rattle.file.specs.declared.answer.Answer.{Answer}
-use Rattle.file.specs.declared.answer.Answer.the-variants.{Done, NoRegister, Malformed, SpaceOff, NotHeld, OtherHalf, WrongWidth, ReadOnly, Locked, PaletteDown, OutOfRange, ShortBuffer, NotSound, NotBeforeRed, PlanRefused}
+use Rattle.file.specs.declared.answer.Answer.the-variants.{Done, NoRegister, Malformed, SpaceOff, NotHeld, OtherHalf, WrongWidth, ReadOnly, Locked, PaletteDown, OutOfRange, ShortBuffer, NotSound, NotBeforeRed, PlanRefused, OtherDirection, InsideWider}
 
--- 01's table of codes
+-- 01's table of codes, and 02, 2/13: '4 now means nothing there, 16 other direction only, 17 inside a wider register'
 unfoldable pub codeOf : Answer → ℕ
 codeOf (Done value) = 0
 codeOf NoRegister = 1
@@ -24,6 +24,8 @@ codeOf ShortBuffer = 11
 codeOf NotSound = 12
 codeOf NotBeforeRed = 13
 codeOf PlanRefused = 14
+codeOf OtherDirection = 16
+codeOf InsideWider = 17
 
 -- 'The reply's value is what was read if the code is 0 and it is a read, else 0': a write's `Done` has 0
 unfoldable pub valueOf : Answer → ℕ
@@ -42,6 +44,8 @@ valueOf ShortBuffer = 0
 valueOf NotSound = 0
 valueOf NotBeforeRed = 0
 valueOf PlanRefused = 0
+valueOf OtherDirection = 0
+valueOf InsideWider = 0
 
 -- 'Codes from 2 up leave the file as given and lent bytes as found'; 'Code 1 is no refusal'
 unfoldable pub refused : Answer → Bool
@@ -52,9 +56,9 @@ unfoldable pub oneOf : List ℕ → Answer → Bool
 oneOf [] a = false
 oneOf (code ∷ codes) a = eqb (codeOf a) code || oneOf codes a
 
--- the fixed list: 01's table of codes
+-- the fixed list: 01's table of codes, and 02's
 unfoldable pub listed : List ℕ
-listed = 0 ∷ 1 ∷ 2 ∷ 3 ∷ 4 ∷ 5 ∷ 6 ∷ 7 ∷ 8 ∷ 9 ∷ 10 ∷ 11 ∷ 12 ∷ 13 ∷ 14 ∷ []
+listed = 0 ∷ 1 ∷ 2 ∷ 3 ∷ 4 ∷ 5 ∷ 6 ∷ 7 ∷ 8 ∷ 9 ∷ 10 ∷ 11 ∷ 12 ∷ 13 ∷ 14 ∷ 16 ∷ 17 ∷ []
 
 unfoldable pub isListed : Answer → Bool
 isListed a = oneOf listed a

@@ -1,7 +1,7 @@
 ghost use mathlib.Core.Path.{_≡_};
 ghost use Rattle.file.specs.Answers.{codeOf, valueOf};
 
-// 01's table of codes: what an access, a reader, a writer, a plan or a restore answers.
+// 01's table of codes, and 02's: what an access, a reader, a writer, a plan or a restore answers.
 pub enum Answer {
     // 0, with what a read gave
     Done(u16),
@@ -11,7 +11,7 @@ pub enum Answer {
     Malformed,
     // 3: PCI04 has the space off
     SpaceOff,
-    // 4: the address is not held in that space and direction
+    // 4: nothing is held there
     NotHeld,
     // 5: 3B?h or 3D?h, and MISC[0] has the other
     OtherHalf,
@@ -33,6 +33,10 @@ pub enum Answer {
     NotBeforeRed,
     // 14: a plan's own record, during a restore
     PlanRefused,
+    // 16: the address is held in the other direction only
+    OtherDirection,
+    // 17: the address falls inside a wider register
+    InsideWider,
 }
 
 impl Answer {
@@ -56,6 +60,8 @@ impl Answer {
             Answer::NotSound => 12,
             Answer::NotBeforeRed => 13,
             Answer::PlanRefused => 14,
+            Answer::OtherDirection => 16,
+            Answer::InsideWider => 17,
         }
     }
 

@@ -11,15 +11,15 @@ use Rattle.file.specs.Palette.{component, addressed, moved, afterWrite, afterRe
 use Rattle.file.specs.Registers.{storedBits}
 use Rattle.file.specs.Sound.{allWithin, sound}
 use Rattle.file.specs.State.{stateSound}
-use Rattle.places.specs.Lookup.{isOneOf, selects, matches, first, rowAt, placeOfRow, placeAt}
+use Rattle.places.specs.Lookup.{isOneOf, selects, matches, first, rowAt, placeOfRow, placeAt, otherWay, someRow, heldIn, isWider, insideIn}
 use Rattle.places.specs.Places.{places}
 use Rattle.access.specs.Access.{placeOf, lockedOut, lockedReach, reachIn, paletteUp, inBank, entryNumber, entry, shownIn, shownState, answerAt, pixelWrite, answer, effectAt, effect, access}
-use Rattle.access.specs.Checks.{isWrite, isPort, isMmio, notSound, malformed, spaceOff, noRow, notHeld, otherHalf, otherWidth, wrongWidth, checks, firstRefusal}
+use Rattle.access.specs.Checks.{isWrite, isPort, isMmio, notSound, malformed, spaceOff, noRow, notHeld, otherDirection, insideWider, otherHalf, otherWidth, wrongWidth, checks, firstRefusal}
 use Rattle.timing.specs.Table.{wide, table}
 use Rattle.timing.specs.Timing.{timingOf, numbersOf, timingIn, readTiming, withTiming, timingAnswer, writtenFile, writeTiming}
 use Rattle.geometry.specs.Geometry.{mark, cursorIn, bottom, windowIn, readGeometry}
 use Rattle.paper.specs.Examples.{setRegister, started, mode12, examples, sameNumbers, sameInteger, stepsHold, afterSteps, colourIs, writingHolds, lookHolds, holds, allHold}
 
 pub examples-hold : T (allHold examples)
-unfolding endAfter meant storedFor inRange readFrom readNumbers rangesFrom allInRange writeNumbers width held gather pieceReach put scatter bits bit store within codeOf valueOf refused storeIn apply register crtcLocked withRegisters powerOn component addressed moved afterWrite afterRead stores mixed dacState marksFrom marksSound pointerSound storedBits allWithin sound stateSound isOneOf selects matches first rowAt placeOfRow placeAt places placeOf lockedOut lockedReach reachIn paletteUp inBank entryNumber entry shownIn shownState answerAt pixelWrite answer effectAt effect access isWrite isPort isMmio notSound malformed spaceOff noRow notHeld otherHalf otherWidth wrongWidth checks firstRefusal wide table timingOf numbersOf timingIn readTiming withTiming timingAnswer writtenFile writeTiming mark cursorIn bottom windowIn readGeometry setRegister started mode12 examples sameNumbers sameInteger stepsHold afterSteps colourIs writingHolds lookHolds holds allHold
+unfolding endAfter meant storedFor inRange readFrom readNumbers rangesFrom allInRange writeNumbers width held gather pieceReach put scatter bits bit store within codeOf valueOf refused storeIn apply register crtcLocked withRegisters powerOn component addressed moved afterWrite afterRead stores mixed dacState marksFrom marksSound pointerSound storedBits allWithin sound stateSound isOneOf selects matches first rowAt placeOfRow placeAt otherWay someRow heldIn isWider insideIn places placeOf lockedOut lockedReach reachIn paletteUp inBank entryNumber entry shownIn shownState answerAt pixelWrite answer effectAt effect access isWrite isPort isMmio notSound malformed spaceOff noRow notHeld otherDirection insideWider otherHalf otherWidth wrongWidth checks firstRefusal wide table timingOf numbersOf timingIn readTiming withTiming timingAnswer writtenFile writeTiming mark cursorIn bottom windowIn readGeometry setRegister started mode12 examples sameNumbers sameInteger stepsHold afterSteps colourIs writingHolds lookHolds holds allHold
 examples-hold = tt

@@ -141,6 +141,11 @@ examples =
     ∷ mmioWrite 0xA4 0x00 gives 0 ∷ mmioWrite 0xA8 0x00 gives 0 ∷ mmioWrite 0xB0 0x80 gives 0 ∷ mmioRead 0xB0 reads 0x86 ∷ mmioRead 0xAC gives 9
     ∷ portWrite 0x3C9 7 gives 9 ∷ mmioRead 0xB0 reads 0x86 ∷ mmioRead 0xA4 reads 0x00 ∷ [])
     nothing
+    ∷ example "02, 2/13" (MISC ≔ 0x01 ∷ opened)
+    (portWrite 0x3CC 0x00 gives 16 ∷ portWrite 0x3BA 0x00 gives 16 ∷ portRead 0x3BA gives 5 ∷ portRead 0x3C2 gives 16 ∷ portRead 0x3CA gives 4
+    ∷ configRead 0x05 gives 17 ∷ asking 1 1 0x05 0 gives 17 ∷ configRead 0x06 gives 4
+    ∷ mmioRead 0xC1 gives 17 ∷ asking 5 2 0xC1 0 gives 17 ∷ mmioRead 0xC0 gives 6 ∷ mmioRead 0xC2 gives 4 ∷ mmioRead 0x01 gives 4 ∷ [])
+    nothing
     ∷ []
 
 -- the tests

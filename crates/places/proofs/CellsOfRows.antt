@@ -2,7 +2,7 @@
 use Prim.Native.Nat.{ℕ, zero, suc, _+_, _-_, _%_, _≤_, _<_}
 use mathlib.Core.Path.{_≡_, refl, sym, ap, ap₂, _∙_, subst, subst₂, subst₃}
 use mathlib.Core.Bool.{Bool, true, false, cond, true≢false, not, _&&_, _||_}
-use mathlib.Core.List.{List, [], _∷_}
+use mathlib.Core.List.{List, [], _∷_, cons≢nil}
 use mathlib.Core.Logic.{_⊎_, inl, inr, ⊎-elim}
 use mathlib.Core.Option.{Option, none, some, Option·none-ne-some}
 use lib.Dec.{T, eqb, leb, ltb, eqb→eq, leb→le, ltb→lt}
@@ -10,14 +10,14 @@ use lib.ListN.{getD}
 use native.Mathlib.Omega.{arith}
 use borrow.Author.Tests.{not-true}
 use Rattle.bits.specs.Store.{bits}
-use Rattle.bits.proofs.Test.{left, right, both, either, by-test, passes, is-true, everyBelow, below}
+use Rattle.bits.proofs.Test.{left, right, both, either, second, and-false, by-test, passes, is-true, everyBelow, below}
 use Rattle.file.specs.declared.registers.File.{File}
 use Rattle.file.specs.File.{register, seen}
 use Rattle.file.specs.Names.{SRX, CRX, GRX, ARX}
 use Rattle.places.specs.declared.place.Place.{Place}
 use Rattle.places.specs.declared.place.Place.the-variants.{Unnamed, UnnamedAttribute}
-use Rattle.places.specs.EngineCells.{firstIndexed, nothingHeld, wider, plainPlace, plainCell, indexedCell, ofKind, ofAddress, rowsAt, cellOf, cellAt, cellWidth, chosen}
-use Rattle.places.specs.Lookup.{selects, matches, first, rowAt, placeOfRow, placeAt}
+use Rattle.places.specs.EngineCells.{firstIndexed, nothingHeld, wider, plainPlace, plainCell, indexedCell, ofKind, ofAddress, rowsAt, cellOf, heldCell, isNothing, cellWidth, chosen}
+use Rattle.places.specs.Lookup.{selects, matches, first, rowAt, placeOfRow, placeAt, someRow, heldIn}
 use Rattle.places.specs.Places.{Index, any, sr, cr, gr, ar, indexDue, dataDue, Row, places}
 use Rattle.places.proofs.Rows.{every, Passes, found}
 use Rattle.places.proofs.SamePlace.{samePlace}
@@ -91,7 +91,7 @@ someAny (row ∷ rows) = isAny (row .index) || someAny rows
 -- a cell says of a row that something is held, its width, and its place unless it is an indexed port's
 unfoldable pub says : Row → ℕ → Bool
 says row cell =
-    not (eqb cell nothingHeld)
+    not (isNothing cell)
     && eqb (row .width) (cellWidth cell)
     && (ltb (cell % wider) firstIndexed && samePlace (row .place) (plainPlace (cell % wider)) || isDoor doors (row .kind) (row .address) cell)
 
@@ -100,7 +100,7 @@ unfoldable pub told : List Row → Row → Bool
 told rows row = says row (cellOf (ofAddress (row .address) rows)) && someAny (ofAddress (row .address) rows)
 
 rows-told : (kind : ℕ) → kind < 6 → T (every (told (ofKind kind places)) (ofKind kind places))
-unfolding every told someAny isAny says cellWidth doors sameDoor isDoor samePlace plainPlace plainCell indexedCell ofKind ofAddress cellOf places
+unfolding every told someAny isAny says isNothing cellWidth doors sameDoor isDoor samePlace plainPlace plainCell indexedCell ofKind ofAddress cellOf places
 rows-told zero h = tt
 rows-told (suc zero) h = tt
 rows-told (suc (suc zero)) h = tt
@@ -144,9 +144,9 @@ rows-of all (row ∷ rows) address t =
 
 -- a record finds nothing, and its cell is 127; or a row of which its cell speaks
 pub data Outcome (f : File) (kind address : ℕ) : Type 0 where
-  nothing : rowAt f kind address ≡ none → cellAt kind address ≡ nothingHeld → Outcome f kind address
+  nothing : rowAt f kind address ≡ none → heldCell kind address ≡ nothingHeld → Outcome f kind address
   held : (row : Row) → rowAt f kind address ≡ some row → row .kind ≡ kind → row .address ≡ address
-      → T (says row (cellAt kind address)) → Outcome f kind address
+      → T (says row (heldCell kind address)) → Outcome f kind address
 
 module _ (f : File) (kind address : ℕ) where
   abbrev All : List Row
@@ -171,7 +171,7 @@ module _ (f : File) (kind address : ℕ) where
 
   outcome-of : (o : Option Row) → rowAt f kind address ≡ o → T (someAny (ofAddress address All))
       → Passes (λ (row : Row). told All row && Here row) o → Passes (λ (row : Row). eqb kind (row .kind) && Here row) o → Outcome f kind address
-  unfolding told cellAt rowsAt
+  unfolding told heldCell rowsAt
   outcome-of none e t p k = absurd (finds f (ofAddress address All) t (sym row-found ∙ e))
   outcome-of (some row) e t p k =
       let here : address ≡ row .address =
@@ -181,7 +181,7 @@ module _ (f : File) (kind address : ℕ) where
       (left (says row (cellOf (ofAddress (row .address) All))) (someAny (ofAddress (row .address) All)) (left (told All row) (Here row) p)))
 
   pub outcome : kind < 6 → Outcome f kind address
-  unfolding rowAt cellAt rowsAt cellOf first
+  unfolding rowAt heldCell rowsAt cellOf first
   outcome h =
       ⊎-elim
       (λ e. nothing (row-found ∙ ap (first (λ (row : Row). selects f (row .index))) e) (ap cellOf e))
@@ -191,22 +191,63 @@ module _ (f : File) (kind address : ℕ) where
       (found (λ (row : Row). eqb kind (row .kind)) Here All (kinds places))))
       (rows-of All All address (rows-told kind h))
 
+  -- an address is held for a kind of record, whatever the index, where a file finds a row, and nowhere else
+  found-held : (rows : List Row) (row : Row) → first (matches f kind address) rows ≡ some row → T (heldIn rows kind address)
+  unfolding first matches heldIn someRow
+  found-held [] row e = absurd (Option·none-ne-some row e)
+  found-held (next ∷ rows) row e =
+      by-test (matches f kind address next)
+      (λ m.
+      let same = left (eqb kind (next .kind) && eqb address (next .address)) (selects f (next .index)) (passes (matches f kind address next) m) in
+      rw (
+        is-true (eqb kind (next .kind)) (left (eqb kind (next .kind)) (eqb address (next .address)) same),
+        is-true (eqb address (next .address)) (right (eqb kind (next .kind)) (eqb address (next .address)) same),
+      ) tt)
+      (λ m. second (eqb address (next .address) && eqb kind (next .kind)) (heldIn rows kind address) (found-held rows row (rw m at e)))
+
+  no-rows-held : (rows : List Row) → ofAddress address (ofKind kind rows) ≡ [] → heldIn rows kind address ≡ false
+  unfolding ofAddress ofKind heldIn someRow
+  no-rows-held [] e = refl
+  no-rows-held (row ∷ rows) e =
+      by-test (eqb kind (row .kind))
+      (λ k. by-test (eqb address (row .address))
+      (λ a. absurd (cons≢nil (rw (k, a) at e)))
+      (λ a. rw (k, a) (no-rows-held rows (rw (k, a) at e))))
+      (λ k. rw (k, and-false) (no-rows-held rows (rw k at e)))
+
+  pub some-held : (row : Row) → rowAt f kind address ≡ some row → heldIn places kind address ≡ true
+  unfolding rowAt
+  some-held row e = is-true (heldIn places kind address) (found-held places row e)
+
+  pub none-held : kind < 6 → rowAt f kind address ≡ none → heldIn places kind address ≡ false
+  none-held h e =
+      ⊎-elim (no-rows-held places) (λ t. absurd (finds f (ofAddress address All) t (sym row-found ∙ e))) (rows-of All All address (rows-told kind h))
+
 -- what a cell says of a row, part by part
 pub record Spoken (row : Row) (cell : ℕ) : Type 0 where
-  pub something : eqb cell nothingHeld ≡ false
+  pub something : isNothing cell ≡ false
   pub width : row .width ≡ cellWidth cell
   pub place : T (ltb (cell % wider) firstIndexed && samePlace (row .place) (plainPlace (cell % wider)) || isDoor doors (row .kind) (row .address) cell)
 
 pub spoken : (row : Row) (cell : ℕ) → T (says row cell) → Spoken row cell
 unfolding says
 spoken row cell t =
-    let two : T (not (eqb cell nothingHeld) && eqb (row .width) (cellWidth cell)) =
-    left (not (eqb cell nothingHeld) && eqb (row .width) (cellWidth cell))
+    let two : T (not (isNothing cell) && eqb (row .width) (cellWidth cell)) =
+    left (not (isNothing cell) && eqb (row .width) (cellWidth cell))
     (ltb (cell % wider) firstIndexed && samePlace (row .place) (plainPlace (cell % wider)) || isDoor doors (row .kind) (row .address) cell) t in
     record {
-      something = not-true (eqb cell nothingHeld) (is-true (not (eqb cell nothingHeld)) (left (not (eqb cell nothingHeld)) (eqb (row .width) (cellWidth cell)) two));
-      width = eqb→eq (row .width) (cellWidth cell) (right (not (eqb cell nothingHeld)) (eqb (row .width) (cellWidth cell)) two);
+      something = not-true (isNothing cell) (is-true (not (isNothing cell)) (left (not (isNothing cell)) (eqb (row .width) (cellWidth cell)) two));
+      width = eqb→eq (row .width) (cellWidth cell) (right (not (isNothing cell)) (eqb (row .width) (cellWidth cell)) two);
       place =
-          right (not (eqb cell nothingHeld) && eqb (row .width) (cellWidth cell))
+          right (not (isNothing cell) && eqb (row .width) (cellWidth cell))
           (ltb (cell % wider) firstIndexed && samePlace (row .place) (plainPlace (cell % wider)) || isDoor doors (row .kind) (row .address) cell) t;
     }
+
+-- an address is held for a kind of record where its rows' cell is not one of nothing
+pub told-held : (f : File) (kind address : ℕ) → kind < 6 → heldIn places kind address ≡ not (isNothing (heldCell kind address))
+unfolding isNothing
+told-held f kind address low = by (outcome f kind address low)
+  where
+    by : Outcome f kind address → heldIn places kind address ≡ not (isNothing (heldCell kind address))
+    by (nothing e c) = rw c (none-held f kind address low e)
+    by (held row e k a s) = some-held f kind address row e ∙ ap not (sym (spoken row (heldCell kind address) s .something))

@@ -19,7 +19,7 @@ use Rattle.file.specs.State.{initial, toggling}
 use Rattle.file.specs.Names.{SRX, CRX, GRX, ARX}
 use Rattle.places.specs.declared.place.Place.{Place}
 use Rattle.places.specs.declared.place.Place.the-variants.{Unnamed, UnnamedAttribute}
-use Rattle.places.specs.EngineCells.{firstIndexed, nothingHeld, wider, plainPlace, plainCell, ofKind, ofAddress, rowsAt, cellAt, chosen, indicesAt, cellsFrom, behindPort, behindSRX, countSRX, behindCRX, countCRX, behindGRX, countGRX, behindARX, countARX, cellCount, tableCell, cellTable, attributePlace, indexedPlaces, cellPlace}
+use Rattle.places.specs.EngineCells.{firstIndexed, nothingHeld, wider, plainPlace, plainCell, ofKind, ofAddress, rowsAt, heldCell, chosen, indicesAt, cellsFrom, behindPort, behindSRX, countSRX, behindCRX, countCRX, behindGRX, countGRX, behindARX, countARX, cellCount, tableCell, cellTable, attributePlace, indexedPlaces, cellPlace}
 use Rattle.places.specs.Lookup.{attributeIndex, selects, matches, first, rowAt, placeOfRow, placeAt}
 use Rattle.places.specs.Places.{Index, any, sr, cr, gr, ar, indexDue, dataDue, Row, places}
 use Rattle.places.proofs.CellsOfRows.{Door, door, doors, sameDoor, isDoor, Outcome, nothing, held, outcome, spoken, place-chosen}
@@ -232,7 +232,7 @@ module _ (f : File) (bound : Indexed f) where
 -- the place of an access that finds something is what its cell names
 module _ (f : File) (bound : Indexed f) (kind address : ℕ) where
   abbrev Cell : ℕ
-  Cell = cellAt kind address
+  Cell = heldCell kind address
 
   abbrev Direct : Row → Bool
   Direct row = ltb (Cell % wider) firstIndexed && samePlace (row .place) (plainPlace (Cell % wider))

@@ -1,6 +1,7 @@
 pub mod Rows
 pub mod SamePlace
 pub mod CellsOfRows
+pub mod NotHeld
 pub mod TableOfCells
 pub mod IndexedPorts
 pub mod RulesOfPlaces

@@ -9,7 +9,7 @@ use Rattle.bits.proofs.Test.{left, right, either, second, is-true}
 use Rattle.file.specs.declared.registers.File.{File}
 use Rattle.file.specs.Names.{SRX, ARX}
 use Rattle.places.specs.declared.place.Place.{Place}
-use Rattle.places.specs.EngineCells.{nothingHeld, cellAt, inFile, takesBytes}
+use Rattle.places.specs.EngineCells.{nothingHeld, heldCell, inFile, takesBytes}
 use Rattle.places.specs.Lookup.{isOneOf, ofToggle, matches, rowAt, placeAt}
 use Rattle.places.specs.Places.{Row, places}
 use Rattle.places.specs.Profile.{profile, storesInto, flips, resets}
@@ -78,7 +78,7 @@ all-halved : T (every halved places)
 unfolding every halved agree isOneOf places
 all-halved = tt
 
-pub halves : (f : File) (kind address : ℕ) → kind < 6 → (cellAt kind address ≡ nothingHeld → ⊥) → eqb (kind / 2) 1 ≡ true
+pub halves : (f : File) (kind address : ℕ) → kind < 6 → (heldCell kind address ≡ nothingHeld → ⊥) → eqb (kind / 2) 1 ≡ true
     → (Mono address ≡ eqb (address / 16) 0x3B) × (Colour address ≡ eqb (address / 16) 0x3D)
 unfolding halved
 halves f kind address h some-cell port = by (outcome f kind address h)

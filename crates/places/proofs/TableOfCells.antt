@@ -1,16 +1,18 @@
 -- 01's table of cells holds the cells of the list of places: inside it by computed tests, outside it nothing is held. Assumes nothing.
 use Prim.Native.Nat.{ℕ, zero, suc, _+_, _-_, _<_, _≤_}
 use mathlib.Core.Path.{_≡_, refl, sym, ap, _∙_, subst}
-use mathlib.Core.Bool.{Bool, true, false, cond, true≢false, _&&_, _||_}
+use mathlib.Core.Bool.{Bool, true, false, cond, true≢false, not, _&&_, _||_}
 use mathlib.Core.List.{List, [], _∷_}
 use native.Mathlib.Nat.{zero-add}
 use native.Mathlib.Omega.{arith}
 use borrow.Author.Tests.{lt-ltb, le-ltb, ltb-true, leb-true}
 use lib.Dec.{T, eqb, leb, ltb, eqb→eq, leb→le, ltb→lt, lit<}
 use lib.ListN.{getD}
-use Rattle.bits.proofs.Test.{left, right, by-test, passes, is-true}
-use Rattle.places.specs.EngineCells.{nothingHeld, plainCell, indexedCell, ofKind, ofAddress, rowsAt, cellOf, cellAt, behindPort, firstPort, portCount, portWrites, behindSRX, countSRX, behindCRX, countCRX, behindGRX, countGRX, behindARX, countARX, configSpace, configCount, configInMmio, mmioSpace, mmioCount, cellCount, tableCell, tabled, cellTable, portCell, mmioCell, configCell, cellIn}
+use Rattle.bits.proofs.Test.{left, right, either, by-test, passes, is-true}
+use Rattle.places.specs.EngineCells.{nothingHeld, plainCell, indexedCell, ofKind, ofAddress, rowsAt, cellOf, heldCell, nothingAt, cellAt, behindPort, firstPort, portCount, portWrites, behindSRX, countSRX, behindCRX, countCRX, behindGRX, countGRX, behindARX, countARX, configSpace, configCount, configInMmio, mmioSpace, mmioCount, cellCount, tableCell, tabled, cellTable, portCell, mmioCell, configCell, cellIn}
+use Rattle.places.specs.Lookup.{otherWay, someRow, heldIn, isWider, insideIn}
 use Rattle.places.specs.Places.{Row, places}
+use Rattle.places.proofs.NotHeld.{both-ways}
 use Rattle.places.proofs.Rows.{every}
 
 -- the addresses that the table covers, by kind
@@ -46,25 +48,48 @@ no-rows p (row ∷ rows) t a e =
     (left (p (row .address)) (every (λ (row : Row). p (row .address)) rows) t))) ∙ e)))
     (λ s. rw s (no-rows p rows (right (p (row .address)) (every (λ (row : Row). p (row .address)) rows) t) a e))
 
--- so nothing is held there
+-- nor is it held in the other direction, or inside a wider register
+module _ (p : ℕ → Bool) (test : Row → Bool) (address : Row → ℕ) where
+  abbrev InRange : Row → Bool
+  InRange row = not (test row) || p (address row)
+
+  no-row : (rows : List Row) → T (every InRange rows) → (a : ℕ) → p a ≡ false → someRow (λ (row : Row). eqb a (address row) && test row) rows ≡ false
+  unfolding every someRow
+  no-row [] t a e = refl
+  no-row (row ∷ rows) t a e =
+      let behind = no-row rows (right (InRange row) (every InRange rows) t) a e in
+      by-test (eqb a (address row))
+      (λ h. by-test (test row)
+      (λ s. absurd (true≢false (sym (is-true (p a) (subst (λ (b : ℕ). T (p b)) (sym (eqb→eq a (address row) (passes (eqb a (address row)) h)))
+      (either (not (test row)) (p (address row)) (left (InRange row) (every InRange rows) t) (λ n. rw s at n)))) ∙ e)))
+      (λ s. rw (h, s) behind))
+      (λ h. rw h behind)
+
+-- the rows of the other direction
+abbrev Other : ℕ → Row → Bool
+Other kind row = eqb (otherWay kind) (row .kind)
+
+covered-around : (kind : ℕ) → kind < 6
+    → T (every (λ (row : Row). not (Other kind row) || range kind (row .address)) places)
+    × T (every (λ (row : Row). not (isWider kind row) || range kind (row .address + 1)) places)
+unfolding every range configRange portRange mmioRange otherWay isWider places
+covered-around zero h = (tt, tt)
+covered-around (suc zero) h = (tt, tt)
+covered-around (suc (suc zero)) h = (tt, tt)
+covered-around (suc (suc (suc zero))) h = (tt, tt)
+covered-around (suc (suc (suc (suc zero)))) h = (tt, tt)
+covered-around (suc (suc (suc (suc (suc zero))))) h = (tt, tt)
+covered-around (suc (suc (suc (suc (suc (suc kind)))))) h = absurd (omega arith)
+
+-- so there is nothing at all
 uncovered : (kind : ℕ) → kind < 6 → (a : ℕ) → range kind a ≡ false → nothingHeld ≡ cellAt kind a
-unfolding cellAt rowsAt cellOf
-uncovered kind h a e = sym (ap cellOf (no-rows (range kind) (ofKind kind places) (covered kind h) a e))
-
--- the cells of a kind at n addresses, entry i for an address made of i
-unfoldable pub cellsOf : ℕ → (ℕ → ℕ) → ℕ → List ℕ
-cellsOf kind address zero = []
-cellsOf kind address (suc n) = cellAt kind (address 0) ∷ cellsOf kind (λ (i : ℕ). address (suc i)) n
-
-in-table : (kind : ℕ) (address : ℕ → ℕ) (n i : ℕ) → i < n → (a : ℕ) → address i ≡ a → getD (cellsOf kind address n) i 0 ≡ cellAt kind a
-unfolding cellsOf
-in-table kind address zero i h a e = absurd (omega arith)
-in-table kind address (suc n) zero h a e = ap (cellAt kind) e
-in-table kind address (suc n) (suc i) h a e = in-table kind (λ (i : ℕ). address (suc i)) n i (omega arith) a e
-
--- two kinds, or two ranges of addresses, with the same cells: a computed test over both
-alike : (k l : ℕ) (a b : ℕ → ℕ) (n : ℕ) → cellsOf k a n ≡ cellsOf l b n → (i : ℕ) → i < n → cellAt k (a i) ≡ cellAt l (b i)
-alike k l a b n e i h = sym (in-table k a n i h (a i) refl) ∙ ap (λ (cells : List ℕ). getD cells i 0) e ∙ in-table l b n i h (b i) refl
+unfolding cellAt nothingAt heldCell rowsAt cellOf heldIn insideIn
+uncovered kind h a e =
+    sym (rw (
+      no-rows (range kind) (ofKind kind places) (covered kind h) a e,
+      no-row (range kind) (Other kind) (λ (row : Row). row .address) places (covered-around kind h .0) a e,
+      no-row (range kind) (isWider kind) (λ (row : Row). row .address + 1) places (covered-around kind h .1) a e,
+    ) refl)
 
 -- an entry of a table is its rule's
 by-rule : (rule : ℕ → ℕ) (n i : ℕ) → i < n → getD (tabled n rule) i 0 ≡ rule i
@@ -72,6 +97,10 @@ unfolding tabled
 by-rule rule zero i h = absurd (omega arith)
 by-rule rule (suc n) zero h = refl
 by-rule rule (suc n) (suc i) h = by-rule (λ (i : ℕ). rule (suc i)) n i (omega arith)
+
+-- two rules with the same entries: a computed test over both
+alike : (rule other : ℕ → ℕ) (n : ℕ) → tabled n rule ≡ tabled n other → (i : ℕ) → i < n → rule i ≡ other i
+alike rule other n e i h = sym (by-rule rule n i h) ∙ ap (λ (cells : List ℕ). getD cells i 0) e ∙ by-rule other n i h
 
 -- what the table holds at a place
 pub at-cell : (i : ℕ) → i < cellCount → getD cellTable i 0 ≡ tableCell i
@@ -126,20 +155,20 @@ mmio-cells i =
 
 -- config space is the same in both directions, as MMIO is, and stands at 300h of MMIO too
 config-both : (i : ℕ) → i < configCount → cellAt 0 i ≡ cellAt 1 i
-unfolding cellsOf plainCell indexedCell ofKind ofAddress rowsAt cellOf cellAt places
-config-both = alike 0 1 (λ (i : ℕ). i) (λ (i : ℕ). i) configCount refl
+unfolding tabled plainCell indexedCell ofKind ofAddress rowsAt cellOf heldCell nothingAt cellAt otherWay someRow heldIn isWider insideIn places
+config-both = alike (cellAt 0) (cellAt 1) configCount refl
 
 mmio-both : (i : ℕ) → i < mmioCount → cellAt 4 i ≡ cellAt 5 i
-unfolding cellsOf plainCell indexedCell ofKind ofAddress rowsAt cellOf cellAt places
-mmio-both = alike 4 5 (λ (i : ℕ). i) (λ (i : ℕ). i) mmioCount refl
+unfolding tabled plainCell indexedCell ofKind ofAddress rowsAt cellOf heldCell otherWay places
+mmio-both i h = both-ways 4 i (lit< tt) (lit< tt) refl (alike (heldCell 4) (heldCell 5) mmioCount refl i h)
 
 config-in-mmio : (i : ℕ) → i < configCount → cellAt 0 i ≡ cellAt 4 (configInMmio + i)
-unfolding cellsOf plainCell indexedCell ofKind ofAddress rowsAt cellOf cellAt places
-config-in-mmio = alike 0 4 (λ (i : ℕ). i) (λ (i : ℕ). configInMmio + i) configCount refl
+unfolding tabled plainCell indexedCell ofKind ofAddress rowsAt cellOf heldCell nothingAt cellAt otherWay someRow heldIn isWider insideIn places
+config-in-mmio = alike (cellAt 0) (λ (i : ℕ). cellAt 4 (configInMmio + i)) configCount refl
 
 config-in-writes : (i : ℕ) → i < configCount → cellAt 0 i ≡ cellAt 5 (configInMmio + i)
-unfolding cellsOf plainCell indexedCell ofKind ofAddress rowsAt cellOf cellAt places
-config-in-writes = alike 0 5 (λ (i : ℕ). i) (λ (i : ℕ). configInMmio + i) configCount refl
+unfolding tabled plainCell indexedCell ofKind ofAddress rowsAt cellOf heldCell nothingAt cellAt otherWay someRow heldIn isWider insideIn places
+config-in-writes = alike (cellAt 0) (λ (i : ℕ). cellAt 5 (configInMmio + i)) configCount refl
 
 -- ---- the engine finds 01's cells in it
 

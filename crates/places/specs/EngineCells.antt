@@ -14,18 +14,25 @@ use Rattle.file.specs.Registers.{registerCount}
 use Rattle.file.specs.State.{initial}
 use Rattle.places.specs.declared.place.Place.{Place}
 use Rattle.places.specs.declared.place.Place.the-variants.{Register, Attribute, Fixed, ToggleState, AttributeIndex, PaletteState, ReadAddress, WriteAddress, PixelData, ToggleReset, Unnamed, UnnamedAttribute}
-use Rattle.places.specs.Lookup.{attributeIndex, selects, first, placeOfRow}
+use Rattle.places.specs.Lookup.{attributeIndex, selects, first, placeOfRow, otherWay, heldIn, insideIn}
 use Rattle.places.specs.Profile.{Reading, givesHeld, givesFixed, givesToggle, givesPaletteState, givesDacState, givesAddress, givesPixel, resetsToggle, namesNothing, Writing, storesTo, readOnly, setsAddress, writesPixel, storesNothing, profile}
 use Rattle.places.specs.Places.{Index, any, sr, cr, gr, ar, indexDue, dataDue, Row, places, sr6, pci00, pci02}
 
 -- ---- the numbers of cells
 
--- a register's cell is its number; the places that stand alone follow from 6Ch on, the indexed ports from 78h on, and 7Fh is nothing held
+-- a register's cell is its number; the places that stand alone follow from 6Ch on, the indexed ports from 78h on, and from 7Dh on nothing is held
 abbrev pub firstAlone : ℕ
 firstAlone = 0x6C
 
 abbrev pub firstIndexed : ℕ
 firstIndexed = 0x78
+
+-- 02, 2/13: where an address is not held it is held in the other direction only, or inside a wider register, or there is nothing at all
+abbrev pub otherWayHeld : ℕ
+otherWayHeld = 0x7D
+
+abbrev pub widerHeld : ℕ
+widerHeld = 0x7E
 
 abbrev pub nothingHeld : ℕ
 nothingHeld = 0x7F
@@ -98,8 +105,17 @@ cellOf [] = nothingHeld
 cellOf (row ∷ []) = plainCell (row .place) + wider * (row .width - 1)
 cellOf (row ∷ next ∷ rows) = indexedCell (row .index)
 
+-- the cell of an address's rows
+unfoldable pub heldCell : ℕ → ℕ → ℕ
+heldCell kind address = cellOf (rowsAt kind address)
+
+-- 02, 2/13, the cell of an address that has no row: '16 is tested before 17 and 17 before 4'
+unfoldable pub nothingAt : ℕ → ℕ → ℕ
+nothingAt kind address =
+    cond (heldIn places (otherWay kind) address) otherWayHeld (cond (insideIn places kind address) widerHeld nothingHeld)
+
 unfoldable pub cellAt : ℕ → ℕ → ℕ
-cellAt kind address = cellOf (rowsAt kind address)
+cellAt kind address = cond (eqb (heldCell kind address) nothingHeld) (nothingAt kind address) (heldCell kind address)
 
 -- the place that a file selects among rows
 unfoldable pub chosen : File → List Row → Place
@@ -214,6 +230,10 @@ cellIn cells kind address =
     cond (eqb (kind / 2) 0) (configCell cells address)
     (cond (eqb (kind / 2) 1) (portCell cells (eqb (kind % 2) 1) address)
     (cond (eqb (kind / 2) 2) (mmioCell cells address) nothingHeld))
+
+-- 02, 2/13: a cell where nothing is held, one of the three
+unfoldable pub isNothing : ℕ → Bool
+isNothing cell = leb otherWayHeld (cell % wider)
 
 -- 1 or 2 bytes
 unfoldable pub cellWidth : ℕ → ℕ

@@ -1,10 +1,10 @@
--- The row of 01's places that a kind of record and an address find in a file.
+-- The row of 01's places that a kind of record and an address find in a file, and what there is where they find none (02, 2/13).
 -- Assumes nothing.
-use Prim.Native.Nat.{ℕ}
+use Prim.Native.Nat.{ℕ, _+_, _-_, _/_, _%_}
 use mathlib.Core.Bool.{Bool, true, false, cond, not, _&&_, _||_}
 use mathlib.Core.List.{List, [], _∷_}
 use mathlib.Core.Option.{Option, none, some}
-use lib.Dec.{eqb}
+use lib.Dec.{eqb, ltb}
 use Rattle.bits.specs.Store.{bits}
 use Rattle.file.specs.declared.registers.File.{File}
 use Rattle.file.specs.File.{register}
@@ -51,6 +51,29 @@ placeOfRow (some row) = row .place
 
 unfoldable pub placeAt : File → ℕ → ℕ → Place
 placeAt f kind address = placeOfRow (rowAt f kind address)
+
+-- ---- 02, 2/13: an address that is not held
+
+-- a kind of record of the same space in the other direction
+unfoldable pub otherWay : ℕ → ℕ
+otherWay kind = cond (eqb (kind % 2) 0) (kind + 1) (kind - 1)
+
+-- some row of a list passes a test
+unfoldable pub someRow : (Row → Bool) → List Row → Bool
+someRow test [] = false
+someRow test (row ∷ rows) = test row || someRow test rows
+
+-- a list holds an address for a kind of record, whatever the index
+unfoldable pub heldIn : List Row → ℕ → ℕ → Bool
+heldIn rows kind address = someRow (λ (row : Row). eqb address (row .address) && eqb kind (row .kind)) rows
+
+-- a row of more than one byte in the same space, in either direction
+unfoldable pub isWider : ℕ → Row → Bool
+isWider kind row = eqb (kind / 2) (row .kind / 2) && ltb 1 (row .width)
+
+-- 'it falls inside a wider register': such a row stands one byte below
+unfoldable pub insideIn : List Row → ℕ → ℕ → Bool
+insideIn rows kind address = someRow (λ (row : Row). eqb address (row .address + 1) && isWider kind row) rows
 
 -- 'Only 3C0h writes and 3?Ah reads move the toggle': the kinds and addresses of these
 unfoldable pub ofToggle : ℕ → ℕ → Bool

@@ -3,9 +3,11 @@ mod decode;
 mod place;
 
 pub use decode::CELLS;
-pub use decode::NOTHING;
+pub use decode::OTHER_WAY_HELD;
+pub use decode::WIDER_HELD;
 pub use decode::cell_at;
 pub use decode::cells;
+pub use decode::is_nothing;
 pub use decode::place_of;
 pub use decode::width_of;
 pub use place::Place;

@@ -13,7 +13,7 @@ use Rattle.bits.proofs.Test.{by-test, left, right, passes}
 use Rattle.access.specs.declared.record.Item.{Item}
 use Rattle.access.specs.Access.{accessItem}
 use Rattle.file.specs.declared.answer.Answer.{Answer}
-use Rattle.file.specs.declared.answer.Answer.the-variants.{Done, NoRegister, Malformed, SpaceOff, NotHeld, OtherHalf, WrongWidth, ReadOnly, Locked, PaletteDown, OutOfRange, ShortBuffer, NotSound, NotBeforeRed, PlanRefused}
+use Rattle.file.specs.declared.answer.Answer.the-variants.{Done, NoRegister, Malformed, SpaceOff, NotHeld, OtherHalf, WrongWidth, ReadOnly, Locked, PaletteDown, OutOfRange, ShortBuffer, NotSound, NotBeforeRed, PlanRefused, OtherDirection, InsideWider}
 use Rattle.file.specs.declared.registers.File.{File}
 use Rattle.file.specs.Answers.{codeOf, refused, valueOf}
 use Rattle.file.specs.Sound.{sound}
@@ -46,6 +46,8 @@ code-small ShortBuffer = lit< tt
 code-small NotSound = lit< tt
 code-small NotBeforeRed = lit< tt
 code-small PlanRefused = lit< tt
+code-small OtherDirection = lit< tt
+code-small InsideWider = lit< tt
 
 -- a record's line has at most 30 bytes
 records-most : (number : ℕ) (f : File) (is : List Item) → number + length is ≤ 18446744073709551616

@@ -12,7 +12,7 @@ use Rattle.file.specs.Effects.{apply}
 use Rattle.file.specs.Sound.{sound}
 use Rattle.access.specs.declared.record.Record.{Record}
 use Rattle.access.specs.Access.{answerAt, effectAt, answer, effect, access, placeOf}
-use Rattle.access.specs.Checks.{isWrite, checks, firstRefusal, notSound, malformed, spaceOff, noRow, notHeld, otherHalf, otherWidth, wrongWidth}
+use Rattle.access.specs.Checks.{isWrite, checks, firstRefusal, notSound, malformed, spaceOff, noRow, notHeld, otherDirection, insideWider, otherHalf, otherWidth, wrongWidth}
 use Rattle.places.specs.Lookup.{rowAt, placeOfRow, placeAt}
 use Rattle.places.specs.Places.{Row}
 
@@ -26,7 +26,7 @@ pub record PassesChecks (f : File) (r : Record) (row : Row) : Type 0 where
   pub width : eqb (row .width) (r .width) ≡ true
 
 pub answered-by-place : (f : File) (r : Record) (row : Row) → PassesChecks f r row → answer f r ≡ answerAt (isWrite r) f (row .place)
-unfolding answer checks firstRefusal notSound notHeld noRow wrongWidth otherWidth placeOf placeAt placeOfRow
+unfolding answer checks firstRefusal notSound otherDirection insideWider notHeld noRow wrongWidth otherWidth placeOf placeAt placeOfRow
 answered-by-place f r row p = simp (is-true (sound f) (p .isSound), p .formed, p .on, p .found, p .half, p .width)
 
 -- an accepted record does what its place does

@@ -1,15 +1,15 @@
 -- `cells` meets its contract. Assumes nothing.
 use Rattle.file.specs.File.{seen}
 use Rattle.file.specs.State.{initial, toggling}
-use Rattle.places.specs.Lookup.{selects, first, placeOfRow}
+use Rattle.places.specs.Lookup.{selects, first, placeOfRow, otherWay, someRow, heldIn, isWider, insideIn}
 use Rattle.places.specs.Places.{places}
 use mathlib.Core.Path.{refl}
-use Rattle.places.specs.EngineCells.{plainCell, indexedCell, ofKind, ofAddress, rowsAt, cellOf, cellAt, chosen, cellsFrom, behindPort, tabled, tableCell, cellTable}
+use Rattle.places.specs.EngineCells.{plainCell, indexedCell, ofKind, ofAddress, rowsAt, cellOf, heldCell, nothingAt, cellAt, chosen, cellsFrom, behindPort, tabled, tableCell, cellTable}
 use Rattle.places.proofs.decode.cells.Statement.{statement}
 use Rattle.places.proofs.decode.cells.Tie as tie
 
 returns : tie.Need-returns
-unfolding places first selects placeOfRow seen initial toggling ofKind ofAddress rowsAt plainCell indexedCell cellOf cellAt chosen cellsFrom behindPort tabled tableCell cellTable
+unfolding places first selects placeOfRow seen initial toggling ofKind ofAddress rowsAt plainCell indexedCell cellOf heldCell nothingAt cellAt otherWay someRow heldIn isWider insideIn chosen cellsFrom behindPort tabled tableCell cellTable
 returns c = refl
 
 pub cells-spec : {M : Type 1} → statement M
