@@ -18,7 +18,7 @@ use Rattle.places.proofs.Rows.{every}
 use Rattle.places.proofs.SamePlace.{samePlace}
 use Rattle.access.specs.Checks.{isPort, otherHalf}
 use Rattle.roads.proofs.LookupBySelectors.{Selectors, selectorsOf, bareFile, row-by, half-by}
-use Rattle.two_roads.specs.Pairs.{Road, Pair, Half, monochrome, colour, pairs}
+use Rattle.two_roads.specs.Pairs.{Road, Pair, Half, monochrome, colour, opposite, crtcData, pairs}
 use Rattle.two_roads.specs.Agree.{kindOf, addressOf, recordBy, halfBit, halfFits, Ready}
 
 -- a test passes at every pair, and at some pair
@@ -50,13 +50,15 @@ goesBy row road =
 unfoldable pub paired : Row → Row → Half → Bool
 paired a b half = somePair (λ (p : Pair). goesBy a (p .from) && goesBy b (p .to)) (pairs half)
 
-unfoldable pub allPaired : List Row → Bool
-allPaired rows =
-    every (λ (a : Row). every (λ (b : Row). not (twoRoads a b) || (paired a b monochrome || paired a b colour)) rows) rows
+-- every two such rows, but for those by the other half's 3?5h
+unfoldable pub allPaired : Half → List Row → Bool
+allPaired half rows =
+    every (λ (a : Row). every (λ (b : Row). not (twoRoads a b) || (eqb (a .address) (crtcData (opposite half)) || paired a b half)) rows) rows
 
-pub all-paired : T (allPaired places)
-unfolding allPaired every twoRoads paired somePair goesBy kindOf addressOf samePlace pairs places
-all-paired = tt
+pub all-paired : (half : Half) → T (allPaired half places)
+unfolding allPaired every twoRoads opposite paired somePair goesBy kindOf addressOf samePlace pairs places
+all-paired monochrome = tt
+all-paired colour = tt
 
 -- 30 CRs, MISC, SR0E, SR1E, the pixel mask, three palette places, PCI00, PCI02 and PCI04
 pub pairs-counted : (half : Half) → length (pairs half) ≡ 40
@@ -77,7 +79,7 @@ meets f write p =
     sameRow (rowAt f (kindOf (p .from .space) write) (addressOf (p .from) write)) (rowAt f (kindOf (p .to .space) write) (addressOf (p .to) write))
     && (not (otherHalf f (recordBy (p .from) write 0 0)) && not (otherHalf f (recordBy (p .to) write 0 0)))
 
--- what a file shows with an index selected
+-- what a file shows with an SRX or CRX index selected; no pair has another
 unfoldable pub showing : Index → Selectors → Selectors
 showing any v = v
 showing (sr n) v = record { misc = v .misc; srx = n; crx = v .crx; grx = v .grx; arx = v .arx; toggle = v .toggle }
@@ -121,7 +123,7 @@ unfolding halfFits
 misc-fits f half t = eqb→eq (bit 0 (register f MISC)) (halfBit half) t
 
 -- so do those of a pair of the list in every file that is ready
-pub ready-meets : (half : Half) (p : Pair) → List·Memᴰ p (pairs half) → (f : File) → Ready f half (p .from) → (write : Bool) → T (meets f write p)
+pub ready-meets : (half : Half) (p : Pair) → List·Memᴰ p (pairs half) → (f : File) → Ready f half p → (write : Bool) → T (meets f write p)
 unfolding selectorsOf
 ready-meets half p m f ready write =
     subst (λ (b : Bool). T b)

@@ -2,7 +2,7 @@
 -- Assumes nothing.
 use Prim.Native.Nat.{ℕ}
 use mathlib.Core.Path.{_≡_}
-use mathlib.Core.Bool.{Bool, cond, _&&_}
+use mathlib.Core.Bool.{Bool, true, cond, _&&_}
 use lib.Dec.{T, eqb}
 use Rattle.bits.specs.Store.{bit}
 use Rattle.file.specs.declared.registers.File.{File}
@@ -11,7 +11,7 @@ use Rattle.file.specs.Names.{MISC, PCI04}
 use Rattle.places.specs.Lookup.{selects}
 use Rattle.access.specs.declared.record.Record.{Record}
 use Rattle.access.specs.Access.{access}
-use Rattle.two_roads.specs.Pairs.{Space, config, ports, mmio, Road, Half, monochrome, colour}
+use Rattle.two_roads.specs.Pairs.{Space, config, ports, mmio, Road, Pair, Half, monochrome, colour}
 
 -- 01, 'byte 0 kind (0 config read, 1 config write, 2 port read, 3 port write, 4 MMIO read, 5 MMIO write)'
 unfoldable pub kindOf : Space → Bool → ℕ
@@ -27,9 +27,11 @@ abbrev pub recordBy : Road → Bool → ℕ → ℕ → Record
 recordBy road write width value =
     record { kind = kindOf (road .space) write; width = width; address = addressOf road write; value = value }
 
--- 'both spaces enabled'
-unfoldable pub spacesOn : File → Bool
-spacesOn f = eqb (bit 0 (register f PCI04)) 1 && eqb (bit 1 (register f PCI04)) 1
+-- 'both spaces enabled': those of the two roads; config is never off, by 01's code 3
+unfoldable pub spaceOn : File → Space → Bool
+spaceOn f config = true
+spaceOn f ports = eqb (bit 0 (register f PCI04)) 1
+spaceOn f mmio = eqb (bit 1 (register f PCI04)) 1
 
 -- 'MISC[0] fitting the 3?5h address', by 01's code 5; every file fits one of the two
 unfoldable pub halfBit : Half → ℕ
@@ -41,9 +43,9 @@ halfFits f half = eqb (bit 0 (register f MISC)) (halfBit half)
 
 -- 'both spaces enabled, the port road's index register already at that register, and MISC[0] fitting'. Nothing else is asked of the file: it may be
 -- locked, powered down or unsound
-pub record Ready (f : File) (half : Half) (road : Road) : Type 0 where
-  pub on : T (spacesOn f)
-  pub selected : T (selects f (road .index))
+pub record Ready (f : File) (half : Half) (p : Pair) : Type 0 where
+  pub on : T (spaceOn f (p .from .space) && spaceOn f (p .to .space))
+  pub selected : T (selects f (p .from .index))
   pub fitting : T (halfFits f half)
 
 -- 'the same code and value and the same file'

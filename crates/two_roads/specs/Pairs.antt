@@ -47,12 +47,17 @@ from beside to = record { from = from; to = to }
 pub data Half : Type 0 where
   monochrome colour : Half
 
+-- the other of the two
+unfoldable pub opposite : Half → Half
+opposite monochrome = colour
+opposite colour = monochrome
+
 -- '3?5h'
 unfoldable pub crtcData : Half → ℕ
 crtcData monochrome = 0x3B5
 crtcData colour = 0x3D5
 
--- 01, 'Places': 'CRn at 4n ..; MISC 80h, SR0E 84h, SR1E 88h, pixel mask A0h, 3C7h's pair A4h, 3C8h A8h, 3C9h ACh'; 'PCI00, PCI02, PCI04 at config
+-- 01, 'Places': '3C5h; 3C6h; 3C7h; 3C8h; 3C9h; 3?5h' beside 'CRn at 4n ..; MISC 80h, SR0E 84h, SR1E 88h, pixel mask A0h, 3C7h's pair A4h, 3C8h A8h, 3C9h ACh'; 'PCI00, PCI02, PCI04 at config
 -- 00h, 02h, 04h and MMIO 300h, 302h, 304h'
 unfoldable pub pairs : Half → List Pair
 unfolding crtc crtcData
