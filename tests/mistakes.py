@@ -187,6 +187,32 @@ MISTAKES = [
     ("screen start's top bits from CR1D[7:6]", "{ 0x1D, 3, 2 }", "{ 0x1D, 6, 2 }"),
 ]
 
+# What two_roads.py must see: a copy in which the two roads to a register don't agree.
+ROAD_MISTAKES = [
+    ("the lock asked by ports alone",
+     "    return is_write(r) ? write_place",
+     "    if (r->kind == SC_MMIO_WRITE && at.unit == CR)\n"
+     "        return store(f->cr, cr_mask, at.number, r->value);\n"
+     "    return is_write(r) ? write_place"),
+    ("pixel data by MMIO while the palette is down",
+     "    return is_write(r) ? write_place",
+     "    if (r->kind >= SC_MMIO_READ && at.unit == PIXEL)\n        f->pipe[SC_B0] &= B0_BANK;\n"
+     "    return is_write(r) ? write_place"),
+    ("an MMIO access to MISC flips the toggle",
+     "    return is_write(r) ? write_place",
+     "    if (r->kind >= SC_MMIO_READ && at.unit == MISC)\n        f->data_next = !f->data_next;\n"
+     "    return is_write(r) ? write_place"),
+    ("88h is SR1D", "case 0x88: return at8(SR, 0x1E);", "case 0x88: return at8(SR, 0x1D);"),
+    ("A4h sets the write address",
+     "case 0xA4: return at8(READ_ADDRESS, 0);", "case 0xA4: return at8(WRITE_ADDRESS, 0);"),
+    ("304h is PCI02",
+     "return config_place(address - 0x300);", "return config_place((address - 0x300) & ~0x04);"),
+    ("a read's value not looked at by MMIO",
+     "    return r->value != 0;\n}", "    return r->value != 0 && r->kind != SC_MMIO_READ;\n}"),
+    ("any width taken by MMIO",
+     "    if (r->width != at.width)\n", "    if (r->width != at.width && r->kind < SC_MMIO_READ)\n"),
+]
+
 GEOMETRY_MISTAKES = [
     ("the cursor's left by the other preset", "f->pipe[SC_E0] - (int32_t)x_preset",
      "f->pipe[SC_E0] - (int32_t)y_preset"),

@@ -42,7 +42,7 @@ unfoldable pub spaceOff : File → Record → Bool
 spaceOff f r =
     isPort r && eqb (bit 0 (register f PCI04)) 0 || isMmio r && eqb (bit 1 (register f PCI04)) 0
 
--- code 4: 'address not held in that space and direction'; 02, 2/13: '4 now means nothing there'
+-- 'address not held in that space and direction': behind 16 and 17 in `checks` what is left of it is code 4, 02, 2/13: '4 now means nothing there'
 unfoldable pub noRow : Option Row → Bool
 noRow none = true
 noRow (some row) = false
@@ -50,7 +50,7 @@ noRow (some row) = false
 unfoldable pub notHeld : File → Record → Bool
 notHeld f r = noRow (rowAt f (r .kind) (r .address))
 
--- 02, 2/13, codes 16 and 17 among these: 'the address is held in the other direction only; it falls inside a wider register'
+-- codes 16 and 17, of addresses that are not held; 02, 2/13: 'the address is held in the other direction only; it falls inside a wider register'
 unfoldable pub otherDirection : File → Record → Bool
 otherDirection f r = notHeld f r && heldIn places (otherWay (r .kind)) (r .address)
 

@@ -31,7 +31,7 @@ otherRow f r =
     isPort r
     && (eqb (r .address / 16) 0x3B && eqb (bit 0 (register f MISC)) 1 || eqb (r .address / 16) 0x3D && eqb (bit 0 (register f MISC)) 0)
 
--- 02, 2/13: which of 16, 17 and 4 a cell is where nothing is held
+-- 02, 2/13: which of 16, 17 and 4 the cell of an address that is not held means
 unfoldable pub nothingTold : ℕ → Answer
 nothingTold cell = cond (eqb cell otherWayHeld) OtherDirection (cond (eqb cell widerHeld) InsideWider NotHeld)
 

@@ -13,7 +13,7 @@ unfoldable pub accessCode : Answer → Bool
 unfolding oneOf codeOf
 accessCode a = oneOf (0 ∷ 1 ∷ 2 ∷ 3 ∷ 4 ∷ 5 ∷ 6 ∷ 7 ∷ 8 ∷ 9 ∷ 12 ∷ 16 ∷ 17 ∷ []) a
 
--- 02, 2/13: a record in the other direction
+-- 02, 2/13: a record turned round: the same width, address and value in the other direction
 abbrev pub turned : Record → Record
 turned r = record { kind = otherWay (r .kind); width = r .width; address = r .address; value = r .value }
 

@@ -56,7 +56,7 @@ unfoldable pub oneOf : List ℕ → Answer → Bool
 oneOf [] a = false
 oneOf (code ∷ codes) a = eqb (codeOf a) code || oneOf codes a
 
--- the fixed list: 01's table of codes, and 02's
+-- the fixed list: 01's table of codes, and 02's 16 and 17 (2/13)
 unfoldable pub listed : List ℕ
 listed = 0 ∷ 1 ∷ 2 ∷ 3 ∷ 4 ∷ 5 ∷ 6 ∷ 7 ∷ 8 ∷ 9 ∷ 10 ∷ 11 ∷ 12 ∷ 13 ∷ 14 ∷ 16 ∷ 17 ∷ []
 

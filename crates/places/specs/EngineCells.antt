@@ -20,7 +20,8 @@ use Rattle.places.specs.Places.{Index, any, sr, cr, gr, ar, indexDue, da
 
 -- ---- the numbers of cells
 
--- a register's cell is its number; the places that stand alone follow from 6Ch on, the indexed ports from 78h on, and from 7Dh on nothing is held
+-- a register's cell is its number; the places that stand alone follow from 6Ch on, the indexed ports from 78h on, and from 7Dh on the address is not
+-- held
 abbrev pub firstAlone : ℕ
 firstAlone = 0x6C
 
@@ -231,7 +232,7 @@ cellIn cells kind address =
     (cond (eqb (kind / 2) 1) (portCell cells (eqb (kind % 2) 1) address)
     (cond (eqb (kind / 2) 2) (mmioCell cells address) nothingHeld))
 
--- 02, 2/13: a cell where nothing is held, one of the three
+-- 02, 2/13: the cell of an address that is not held, one of the three, whatever its bit 80h
 unfoldable pub isNothing : ℕ → Bool
 isNothing cell = leb otherWayHeld (cell % wider)
 

@@ -54,7 +54,7 @@ placeAt f kind address = placeOfRow (rowAt f kind address)
 
 -- ---- 02, 2/13: an address that is not held
 
--- a kind of record of the same space in the other direction
+-- the kind of record of the same space in the other direction
 unfoldable pub otherWay : ℕ → ℕ
 otherWay kind = cond (eqb (kind % 2) 0) (kind + 1) (kind - 1)
 
@@ -71,7 +71,7 @@ heldIn rows kind address = someRow (λ (row : Row). eqb address (row .address) &
 unfoldable pub isWider : ℕ → Row → Bool
 isWider kind row = eqb (kind / 2) (row .kind / 2) && ltb 1 (row .width)
 
--- 'it falls inside a wider register': such a row stands one byte below
+-- 'it falls inside a wider register': such a row stands one byte below; no register has more than two bytes
 unfoldable pub insideIn : List Row → ℕ → ℕ → Bool
 insideIn rows kind address = someRow (λ (row : Row). eqb address (row .address + 1) && isWider kind row) rows
 

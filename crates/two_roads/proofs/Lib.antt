@@ -1,0 +1,3 @@
+pub mod PairsListed
+pub mod AlikeChecked
+pub mod RoadsAgree
