@@ -50,15 +50,17 @@ goesBy row road =
 unfoldable pub paired : Row → Row → Half → Bool
 paired a b half = somePair (λ (p : Pair). goesBy a (p .from) && goesBy b (p .to)) (pairs half)
 
--- every two such rows, but for those by the other half's 3?5h
-unfoldable pub allPaired : Half → List Row → Bool
-allPaired half rows =
-    every (λ (a : Row). every (λ (b : Row). not (twoRoads a b) || (eqb (a .address) (crtcData (opposite half)) || paired a b half)) rows) rows
+-- in a half's list, but for a row by the other half's 3?5h
+unfoldable pub listedIn : Row → Row → Half → Bool
+listedIn a b half = eqb (a .address) (crtcData (opposite half)) || paired a b half
 
-pub all-paired : (half : Half) → T (allPaired half places)
-unfolding allPaired every twoRoads opposite paired somePair goesBy kindOf addressOf samePlace pairs places
-all-paired monochrome = tt
-all-paired colour = tt
+unfoldable pub allPaired : List Row → Bool
+allPaired rows =
+    every (λ (a : Row). every (λ (b : Row). not (twoRoads a b) || (listedIn a b monochrome && listedIn a b colour)) rows) rows
+
+pub all-paired : T (allPaired places)
+unfolding allPaired every twoRoads opposite listedIn paired somePair goesBy kindOf addressOf samePlace pairs places
+all-paired = tt
 
 -- 30 CRs, MISC, SR0E, SR1E, the pixel mask, three palette places, PCI00, PCI02 and PCI04
 pub pairs-counted : (half : Half) → length (pairs half) ≡ 40
