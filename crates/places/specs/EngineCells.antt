@@ -28,13 +28,7 @@ firstAlone = 0x6C
 abbrev pub firstIndexed : ℕ
 firstIndexed = 0x78
 
--- 02, 2/13: where an address is not held it is held in the other direction only, or inside a wider register, or there is nothing at all
-abbrev pub otherWayHeld : ℕ
-otherWayHeld = 0x7D
-
-abbrev pub widerHeld : ℕ
-widerHeld = 0x7E
-
+-- nothing at all; what else there may be where an address is not held stands at `nothingAt`
 abbrev pub nothingHeld : ℕ
 nothingHeld = 0x7F
 
@@ -109,6 +103,13 @@ cellOf (row ∷ next ∷ rows) = indexedCell (row .index)
 -- the cell of an address's rows
 unfoldable pub heldCell : ℕ → ℕ → ℕ
 heldCell kind address = cellOf (rowsAt kind address)
+
+-- 02, 2/13: where an address is not held it is held in the other direction only, or inside a wider register, or there is nothing at all
+abbrev pub otherWayHeld : ℕ
+otherWayHeld = 0x7D
+
+abbrev pub widerHeld : ℕ
+widerHeld = 0x7E
 
 -- 02, 2/13, the cell of an address that has no row: '16 is tested before 17 and 17 before 4'
 unfoldable pub nothingAt : ℕ → ℕ → ℕ
