@@ -1,6 +1,6 @@
 -- A turn, and a course of turns: what was read and what was handed to be written are what 01 says of the trace. Assumes nothing.
 use Prim.Native.Nat.{ℕ, _+_, _-_, _*_, _%_, _^_, _≤_, _<_}
-use mathlib.Core.Bool.{Bool, true, false, true≢false}
+use mathlib.Core.Bool.{Bool, true, false, _||_, true≢false}
 use mathlib.Core.List.{List, [], _++_}
 use mathlib.Core.Path.{_≡_, refl, sym, ap, ap₂, _∙_}
 use native.Mathlib.Nat.{zero-add}
@@ -30,8 +30,10 @@ use Rattle.replaying.proofs.Whole.{part-sound}
 use Rattle.io.specs.Counts.{Counts}
 use Rattle.shell.specs.declared.course.Course.{Course}
 use Rattle.shell.specs.declared.course.Turn.{Turn}
-use Rattle.shell.specs.Parts.{Came, Parted, Turned, Turns, asked, beginning, courseAfter, failedAfter}
-use Rattle.shell.specs.Parts.Turns.{none, then, unread}
+use Rattle.shell.specs.declared.reading.Filled.{Filled}
+use Rattle.shell.specs.declared.telling.Handed.{Handed}
+use Rattle.shell.specs.Parts.{Brought, Came, HandedOn, Parted, Turned, Turns, asked, beginning, counted, courseAfter, failedAfter, turnLines, withRead}
+use Rattle.shell.specs.Parts.Turns.{none, then, unread, unwritten}
 use Rattle.shell.proofs.Bounds.{counts}
 
 -- a part that was run: its lines are asked for, or they aren't
@@ -75,12 +77,6 @@ module _ (f : File) (number : ℕ) (part replies₀ lines₀ : List ℕ) (s : T 
         printed = refl;
       }
 
--- its lines are in their buffer
-pub lines-within : {f : File} {number : ℕ} {prints : Bool} {part replies₀ replies lines₀ lines : List ℕ} {r : Part}
-    → Parted f number prints part replies₀ replies lines₀ lines r → Counts (r .end) lines
-lines-within {f} {number} {prints} {part} {replies₀} {replies} {lines₀} {lines} {r} p =
-    counts lines (r .end) (omega (arith, p .end, ap length (p .printed) ∙ length-append (asked prints number f part) (drop (r .end) lines₀)))
-
 -- nothing is asked for of no part
 none-asked : (prints : Bool) (number : ℕ) (f : File) → asked prints number f [] ≡ []
 unfolding asked partLines itemCount items recordLines
@@ -91,50 +87,42 @@ none-after : powerOn ≡ afterPart powerOn []
 unfolding afterPart itemCount items fileAfter
 none-after = refl
 
--- what was handed to be written is what was asked for
-pub handed : {prints : Bool} {before : Course} {part replies₀ replies lines₀ lines : List ℕ} {r : Turn}
-    → Turned before prints part replies₀ replies lines₀ lines r → take (r .end) lines ≡ asked prints (before .number) (before .file) part
-handed {prints} {before} {part} {replies₀} {replies} {lines₀} {lines} {r} t =
-    ap (take (r .end)) (t .printed) ∙ take-at (asked prints (before .number) (before .file) part) (drop (r .end) lines₀) (r .end) (sym (t .end))
+-- what a turn's buffer holds up to where its lines end is its lines
+pub made : {prints : Bool} {before : Course} {part replies₀ replies lines₀ lines : List ℕ} {r : Turn}
+    → Turned before prints part replies₀ replies lines₀ lines r → take (r .end) lines ≡ turnLines prints before part
+made {prints} {before} {part} {replies₀} {replies} {lines₀} {lines} {r} t =
+    ap (take (r .end)) (t .printed) ∙ take-at (turnLines prints before part) (drop (r .end) lines₀) (r .end) (sym (t .end))
 
--- a part that was run and handed to be written
-module _ (before : Course) (prints : Bool) (part replies₀ replies lines₀ lines : List ℕ) (p : Part)
-    (parted : Parted (before .file) (before .number) prints part replies₀ replies lines₀ lines p) (end : ℕ) (same : end ≡ p .end) where
-  turned : (r : Turn) → r .end ≡ end → r .course ≡ courseAfter (r .course .failed) before part
-      → Turned before prints part replies₀ replies lines₀ lines r
-  turned r ends course =
-      let all : r .end ≡ p .end = ends ∙ same in
-      record {
-        end = all ∙ parted .end;
-        replied = parted .replied;
-        printed = parted .printed ∙ ap (λ (k : ℕ). asked prints (before .number) (before .file) part ++ drop k lines₀) (sym all);
-        course = course;
-      }
+-- they are in it
+pub lines-within : {prints : Bool} {before : Course} {part replies₀ replies lines₀ lines : List ℕ} {r : Turn}
+    → Turned before prints part replies₀ replies lines₀ lines r → Counts (r .end) lines
+lines-within {prints} {before} {part} {replies₀} {replies} {lines₀} {lines} {r} t =
+    counts lines (r .end) (omega (arith, t .end, ap length (t .printed) ∙ length-append (turnLines prints before part) (drop (r .end) lines₀)))
 
-  -- the lines were not written
-  pub turn-unwritten : (course : Course) → course ≡ failedAfter before
-      → Turned before prints part replies₀ replies lines₀ lines (record { end = end; course = course })
-  unfolding courseAfter failedAfter
-  turn-unwritten course e = turned (record { end = end; course = course }) refl (rw e refl)
-
-  -- they were
-  pub turn-done : (more : Bool) → more ≡ eqb (length part) 8192
-      → Turned before prints part replies₀ replies lines₀ lines
-      (record { end = end; course = record { file = p .file; number = before .number + p .count; more = more; failed = false } })
-  unfolding courseAfter
-  turn-done more full =
-      turned (record { end = end; course = record { file = p .file; number = before .number + p .count; more = more; failed = false } }) refl
-      (rw (parted .file, parted .count, full) refl)
+-- a part that was run is a turn
+pub turn-done : (before : Course) (prints : Bool) (part replies₀ replies lines₀ lines : List ℕ) (p : Part) (more : Bool)
+    → Parted (before .file) (before .number) prints part replies₀ replies lines₀ lines p → more ≡ eqb (length part) 8192
+    → Turned before prints part replies₀ replies lines₀ lines
+    (record {
+      end = p .end;
+      course = record { file = p .file; number = before .number + p .count; more = more; failed = false; read = before .read; handed = before .handed };
+    })
+unfolding courseAfter turnLines
+turn-done before prints part replies₀ replies lines₀ lines p more parted full =
+    record {
+      end = parted .end;
+      course = rw (parted .file, parted .count, full) refl;
+      replied = parted .replied;
+      printed = parted .printed;
+    }
 
 -- a course with more to read has not failed
 pub more-unfailed : {prints : Bool} {trace text : List ℕ} {r : Course} → Turns prints trace text r → r .more ≡ true → r .failed ≡ false
 unfolding beginning courseAfter failedAfter
 more-unfailed none more = refl
-more-unfailed (unread turns goes) more = absurd (true≢false (sym more))
-more-unfailed (then part replies₀ replies lines₀ lines r turns goes turned) more =
-    by-test (r .course .failed)
-    (λ e. absurd (true≢false (sym more ∙ ap (λ (c : Course). c .more) (turned .course) ∙ rw e refl)))
-    (λ e. e)
+more-unfailed (then part read handed turns brought on) more = refl
+more-unfailed (unread part read turns brought) more = absurd (true≢false (sym more))
+more-unfailed (unwritten part read handed turns brought on) more = absurd (true≢false (sym more))
 
 -- what a course without a failure has come to, by the trace that was read
 pub record Stands (prints : Bool) (trace text : List ℕ) (r : Course) : Type 0 where
@@ -150,29 +138,53 @@ asked-parts true trace part whole = sym (lines-parts trace part whole 0 powerOn 
 asked-parts false trace part whole = refl
 
 pub turns-stand : {prints : Bool} {trace text : List ℕ} {r : Course} → Turns prints trace text r → r .failed ≡ false → Stands prints trace text r
-unfolding beginning courseAfter failedAfter itemCount
-turns-stand (unread turns goes) e = absurd (true≢false e)
+unfolding beginning courseAfter failedAfter turnLines itemCount
+turns-stand (unread part read turns brought) e = absurd (true≢false e)
+turns-stand (unwritten part read handed turns brought on) e = absurd (true≢false e)
 turns-stand {prints} none e =
     record { file = none-after; number = refl; printed = sym (none-asked prints 0 powerOn); whole = λ _. refl }
-turns-stand {prints} (then {trace} {text} {before} part replies₀ replies lines₀ lines r turns goes turned) e =
-    let held = turns-stand turns (more-unfailed turns goes) in
-    let whole : length trace % 8 ≡ 0 = held .whole goes in
-    let course = rw e at (turned .course) in
+turns-stand {prints} (then {trace} {text} {before} part read handed turns brought on) e =
+    let held = turns-stand turns (more-unfailed turns (brought .goes)) in
+    let whole : length trace % 8 ≡ 0 = held .whole (brought .goes) in
     record {
-      file =
-          ap (λ (c : Course). c .file) course ∙ ap (λ (f : File). afterPart f part) (held .file)
-          ∙ sym (file-parts trace part whole powerOn);
-      number =
-          ap (λ (c : Course). c .number) course ∙ ap (λ (k : ℕ). k + itemCount part) (held .number)
-          ∙ sym (parts-count trace part whole);
+      file = ap (λ (f : File). afterPart f part) (held .file) ∙ sym (file-parts trace part whole powerOn);
+      number = ap (λ (k : ℕ). k + itemCount part) (held .number) ∙ sym (parts-count trace part whole);
       printed =
           ap₂ (λ (a b : List ℕ). a ++ b) (held .printed)
-          (handed turned ∙ ap₂ (λ (k : ℕ) (f : File). asked prints k f part) (held .number) (held .file))
+          (ap₂ (λ (k : ℕ) (f : File). asked prints k f part) (held .number) (held .file))
           ∙ asked-parts prints trace part whole;
       whole =
-          λ more. let full : length part ≡ 8192 = eqb-true _ _ (sym (ap (λ (c : Course). c .more) course) ∙ more) in
+          λ more. let full : length part ≡ 8192 = eqb-true _ _ more in
           rw length-append (omega (arith, whole, full));
     }
+
+counted-on : (before all : ℕ) (xs ys : List ℕ) → before ≡ length xs % 2 ^ 64 → all ≡ counted before (length ys) → all ≡ length (xs ++ ys) % 2 ^ 64
+counted-on before all xs ys e counts = rw length-append (omega (arith, e, counts))
+
+-- what a course says was read and handed to be written, in all: as many bytes as its trace and its text have
+pub turns-counted : {prints : Bool} {trace text : List ℕ} {r : Course} → Turns prints trace text r
+    → (r .read .all ≡ length trace % 2 ^ 64) × (r .handed .all ≡ length text % 2 ^ 64)
+unfolding beginning courseAfter failedAfter
+turns-counted none = (refl, refl)
+turns-counted (unread {trace} part read turns brought) =
+    (counted-on _ _ trace part (turns-counted turns .0) (brought .all), turns-counted turns .1)
+turns-counted {prints} (then {trace} {text} {before} part read handed turns brought on) = (
+  counted-on _ _ trace part (turns-counted turns .0) (brought .all),
+  counted-on _ _ text (turnLines prints before part) (turns-counted turns .1) (on .all),
+)
+turns-counted {prints} (unwritten {trace} {text} {before} part read handed turns brought on) = (
+  counted-on _ _ trace part (turns-counted turns .0) (brought .all),
+  counted-on _ _ text (turnLines prints before part) (turns-counted turns .1) (on .all),
+)
+
+-- a course has failed if and only if a read or a write of it has
+pub turns-failed : {prints : Bool} {trace text : List ℕ} {r : Course} → Turns prints trace text r
+    → r .failed ≡ r .read .failed || r .handed .failed
+unfolding beginning courseAfter failedAfter
+turns-failed none = refl
+turns-failed (then part read handed turns brought on) = rw (brought .so, on .so) refl
+turns-failed (unread part read turns brought) = rw (brought .so) refl
+turns-failed (unwritten part read handed turns brought on) = rw (brought .so, on .so) refl
 
 -- 01, 'It reads a trace on standard input from power-on. For each record .. Last comes one line': what the turns handed to be written, and
 -- then the timing line of the file that they came to, is what is printed of the trace that they read
@@ -194,42 +206,72 @@ pub record Coming (prints : Bool) (turns : ℕ) (r : Course) : Type 0 where
   pub low : r .number < 2 ^ 64
   pub left : r .more ≡ true → r .number + 1024 * turns ≡ 1024 * 18446744073709551615
 
-pub coming-none : (prints : Bool) (f : File) → f ≡ powerOn
-    → Coming prints 18446744073709551615 (record { file = f; number = 0; more = true; failed = false })
+pub coming-none : (prints : Bool) (r : Course) → r ≡ beginning → Coming prints 18446744073709551615 r
 unfolding beginning
-coming-none prints f e =
-    record { trace = []; text = []; led = rw e none; low = omega arith; left = λ _. refl }
+coming-none prints r e =
+    rw e (record { trace = []; text = []; led = none; low = omega arith; left = λ _. refl })
 
-pub coming-on : {prints : Bool} {turns : ℕ} {before : Course} (part replies₀ replies lines₀ lines : List ℕ) (r : Turn) → Coming prints turns before
-    → before .more ≡ true → 0 < turns → r .course .number < 2 ^ 64 → Turned before prints part replies₀ replies lines₀ lines r
-    → Coming prints (turns - 1) (r .course)
-unfolding courseAfter itemCount
-coming-on {prints} {turns} {before} part replies₀ replies lines₀ lines r come goes some low turned =
-    record {
-      trace = come .trace ++ part;
-      text = come .text ++ take (r .end) lines;
-      led = led;
-      low = low;
-      left =
-          λ more. let course = rw (more-unfailed led more) at (turned .course) in
-          let full : length part ≡ 8192 = eqb-true _ _ (sym (ap (λ (c : Course). c .more) course) ∙ more) in
-          let number = ap (λ (c : Course). c .number) course in
-          omega (arith, come .left goes, full, number);
-    }
-  where
-    led : Turns prints (come .trace ++ part) (come .text ++ take (r .end) lines) (r .course)
-    led = then part replies₀ replies lines₀ lines r (come .led) goes turned
+-- a part that was asked for, and what the test of its failure said
+pub brought : {failed test : Bool} {before : Course} {part : List ℕ} {read : Filled} → before .more ≡ true
+    → read .all ≡ counted (before .read .all) (length part) → test ≡ read .failed → test ≡ failed → Brought failed before part read
+brought goes all tested so = record { goes = goes; all = all; so = sym tested ∙ so }
+
+abbrev withHanded : Handed → Course → Course
+withHanded handed c = record { file = c .file; number = c .number; more = c .more; failed = c .failed; read = c .read; handed = handed }
+
+-- a turn that was taken: its part was read, and its lines were handed on
+module _ {prints : Bool} {turns : ℕ} {before : Course} (read : Filled) (part replies₀ replies lines₀ lines : List ℕ) (r : Turn) (handed : Handed)
+    (come : Coming prints turns before) (turned : Turned (withRead read before) prints part replies₀ replies lines₀ lines r)
+    (brought : Brought false before part read)
+    (all : handed .all ≡ counted (r .course .handed .all) (length (take (r .end) lines))) where
+  after : withHanded handed (r .course) ≡ courseAfter read handed before part
+  unfolding courseAfter
+  after = ap (withHanded handed) (turned .course)
+
+  on : (failed : Bool) → handed .failed ≡ failed → HandedOn failed prints before part handed
+  unfolding courseAfter turnLines
+  on failed so =
+      record {
+        all =
+            all ∙ ap₂ (λ (k : ℕ) (l : List ℕ). counted k (length l)) (ap (λ (c : Course). c .handed .all) (turned .course)) (made turned);
+        so = so;
+      }
+
+  pub coming-on : handed .failed ≡ false → 0 < turns → r .course .number < 2 ^ 64 → Coming prints (turns - 1) (withHanded handed (r .course))
+  unfolding courseAfter itemCount
+  coming-on written some low =
+      record {
+        trace = come .trace ++ part;
+        text = come .text ++ turnLines prints before part;
+        led = rw after (then part read handed (come .led) brought (on false written));
+        low = low;
+        left =
+            λ more. let full : length part ≡ 8192 = eqb-true _ _ (sym (ap (λ (c : Course). c .more) after) ∙ more) in
+            let number = ap (λ (c : Course). c .number) after in
+            omega (arith, come .left (brought .goes), full, number);
+      }
+
+  -- its lines were not written
+  pub came-unwritten : handed .failed ≡ true → (c : Course) → c ≡ failedAfter (withHanded handed (r .course)) → Came prints c
+  unfolding failedAfter courseAfter
+  came-unwritten unwrote c e =
+      record {
+        trace = come .trace ++ part;
+        text = come .text ++ turnLines prints before part;
+        turns = rw (e, after) (unwritten part read handed (come .led) brought (on true unwrote));
+        ended = rw e refl;
+      }
 
 -- no run uses up its turns
 pub coming-ended : {prints : Bool} {r : Course} → Coming prints 0 r → r .more ≡ false
 coming-ended {r = r} come = by-test (r .more) (λ e. absurd (omega (arith, come .left e, come .low))) (λ e. e)
 
 -- a read that failed
-pub came-unread : {prints : Bool} {turns : ℕ} {before : Course} (r : Course) → Coming prints turns before → before .more ≡ true → r ≡ failedAfter before
-    → Came prints r
+pub came-unread : {prints : Bool} {turns : ℕ} {before : Course} (part : List ℕ) (read : Filled) (r : Course) → Coming prints turns before
+    → Brought true before part read → r ≡ failedAfter (withRead read before) → Came prints r
 unfolding failedAfter
-came-unread r come goes e =
-    record { trace = come .trace; text = come .text; turns = rw e (unread (come .led) goes); ended = rw e refl }
+came-unread part read r come brought e =
+    record { trace = come .trace ++ part; text = come .text; turns = rw e (unread part read (come .led) brought); ended = rw e refl }
 
 pub came : {prints : Bool} {turns : ℕ} {r : Course} → Coming prints turns r → r .more ≡ false → Came prints r
 came come e = record { trace = come .trace; text = come .text; turns = come .led; ended = e }

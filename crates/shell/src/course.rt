@@ -1,34 +1,34 @@
 // A trace on standard input, run from power-on, in fixed memory.
 ghost use mathlib.Core.Path.{_≡_};
-ghost use mathlib.Core.Bool.{true, false};
+ghost use mathlib.Core.Bool.{true};
 ghost use Prim.Native.Nat.{_+_, _*_, _^_, _≤_, _<_};
 ghost use lib.Dec.{T};
 ghost use lib.ListN.{length};
-ghost use Rattle.io.specs.Counts.{Counts};
 ghost use Rattle.file.specs.Sound.{sound};
 ghost use Rattle.trace.specs.Records.{itemCount};
-ghost use Rattle.shell.specs.Parts.{Came, Parted, Turned, failedAfter};
+ghost use Rattle.shell.specs.Parts.{Came, Parted, Turned, beginning, failedAfter};
 use crate::reading::Filled;
-use crate::reading::fill;
-use crate::telling::tell;
-use crate::telling::tell_failure;
+use crate::reading::nothing_read;
+use crate::reading::read_some;
+use crate::telling::Handed;
+use crate::telling::nothing_handed;
 use crate::telling::write_out;
 use file::File;
 use replaying::Part;
 use replaying::replay_part;
 
-// The last number at which a whole buffer of records still has numbers.
-const LAST: u64 = u64::MAX - 1024;
-
-// How far a run has come: how many records there were, whether there is more to read, whether something failed, and the file after them.
+// How far a run has come: how many records there were, whether there is more to read, whether something failed, what was read and what
+// was handed to be written, and the file after the records.
 pub struct Course {
     pub number: u64,
     pub more: bool,
     pub failed: bool,
+    pub read: Filled,
+    pub handed: Handed,
     pub file: File,
 }
 
-// One turn: how many bytes it handed to be written, and the course after it.
+// One turn: where its lines end, and the course after it.
 struct Turn {
     end: usize,
     course: Course,
@@ -63,6 +63,20 @@ fn run_part(
     }
 }
 
+// The course from power-on, before anything is read.
+fn begin() -> Course
+    ensures { λ r. ⌜ r ≡ beginning ⌝ }
+{
+    Course {
+        number: 0,
+        more: true,
+        failed: false,
+        read: nothing_read(),
+        handed: nothing_handed(),
+        file: File::power_on(),
+    }
+}
+
 // What fails ends the course.
 fn failed(before: Course) -> Course
     ensures { λ r. ⌜ r ≡ failedAfter before ⌝ }
@@ -73,29 +87,9 @@ fn failed(before: Course) -> Course
     course
 }
 
-// The next buffer of a trace, of which so many records came before; what goes wrong is told.
-fn read_some(program: &[u8], number: u64, trace: &mut [u8; 8192]) -> Filled
-    ensures { λ r. ⌜ Counts (r .count) (now (trace .exit)) ⌝ }
-    ensures { λ r. ⌜ r .count ≤ 8192 ⌝ }
-    ensures { λ r. ⌜ (r .failed ≡ false → number + 1024 < 2 ^ 64) ⌝ }
-{
-    if number > LAST {
-        tell(program, b": more records than there are numbers");
-        return Filled {
-            count: 0,
-            failed: true,
-        };
-    }
-    let read = fill(trace);
-    if read.failed {
-        tell_failure(program, b": standard input");
-    }
-    read
-}
-
-// What was read of the trace, run, and its lines printed if they are asked for.
+// One turn, a function of the bytes that were read: they are run, and their lines, if they are asked for, stand from the start of a
+// buffer on.
 fn run_some(
-    program: &[u8],
     prints: bool,
     before: Course,
     trace: &[u8],
@@ -109,23 +103,18 @@ fn run_some(
 {
     let number = before.number;
     let part = run_part(before.file, number, prints, trace, replies, lines);
-    let end = part.end;
-    let lines: &[u8] = lines;
-    let handed = write_out(program, &lines[..end]);
-    let end = handed.count;
-    if handed.failed {
-        return Turn {
-            end,
-            course: failed(before),
-        };
-    }
+    let number = number + part.count as u64;
+    let read = before.read;
+    let handed = before.handed;
     let file = part.file;
     Turn {
-        end,
+        end: part.end,
         course: Course {
-            number: number + part.count as u64,
+            number,
             more: trace.len() == 8192,
             failed: false,
+            read,
+            handed,
             file,
         },
     }
@@ -138,28 +127,23 @@ pub fn run_input(program: &[u8], prints: bool) -> Course
     let mut trace = [0u8; 8192];
     let mut replies = [0u8; 8192];
     let mut lines = [0u8; 32768];
-    let mut course = Course {
-        number: 0,
-        more: true,
-        failed: false,
-        file: File::power_on(),
-    };
+    let mut course = begin();
     let mut turns = u64::MAX;
     while turns > 0 && course.more {
-        let read = read_some(program, course.number, &mut trace);
-        if read.failed {
+        let read = read_some(program, course.number, course.read, &mut trace);
+        course.read = read;
+        if read.has_failed() {
             return failed(course);
         }
         let size = read.count;
-        let turn = run_some(
-            program,
-            prints,
-            course,
-            &trace[..size],
-            &mut replies,
-            &mut lines,
-        );
+        let turn = run_some(prints, course, &trace[..size], &mut replies, &mut lines);
+        let end = turn.end;
         course = turn.course;
+        let handed = write_out(program, course.handed, &lines[..end]);
+        course.handed = handed;
+        if handed.has_failed() {
+            return failed(course);
+        }
         turns -= 1;
     }
     course

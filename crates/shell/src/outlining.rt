@@ -1,6 +1,7 @@
 // Outline: the cursor and window 2 of the file that a trace ends in, a line each.
 ghost use mathlib.Core.Path.{_≡_};
 use crate::course::run_input;
+use crate::telling::Handed;
 use crate::telling::write_out;
 use geometry::Cursor;
 use geometry::Window;
@@ -53,9 +54,9 @@ fn put_window(window: Window, lines: &mut [u8], at: usize) -> usize {
 }
 
 // So many bytes from the start of a buffer on, which has them.
-fn write_first(lines: &[u8], end: usize) {
+fn write_first(before: Handed, lines: &[u8], end: usize) {
     if end <= lines.len() {
-        write_out(b"geometry", &lines[..end]);
+        write_out(b"geometry", before, &lines[..end]);
     }
 }
 
@@ -69,5 +70,5 @@ pub fn outline() {
     let mut lines = [0u8; 256];
     let at = put_cursor(read.cursor, &mut lines);
     let end = put_window(read.window, &mut lines, at);
-    write_first(&lines, end);
+    write_first(course.handed, &lines, end);
 }

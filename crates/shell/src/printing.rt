@@ -33,5 +33,5 @@ pub fn replay() {
     }
     let mut line = [0u8; TIMING_MOST];
     let end = timing_end(course.file, &mut line);
-    write_out(b"replay", &line[..end]);
+    write_out(b"replay", course.handed, &line[..end]);
 }

@@ -31,5 +31,5 @@ pub fn snapshot() {
         return;
     }
     let size = 8 * planned.count;
-    write_out(b"snapshot", &buffer[..size]);
+    write_out(b"snapshot", course.handed, &buffer[..size]);
 }

@@ -8,19 +8,19 @@ use Rattle.shell.proofs.reading.fill.Statement.{statement}
 use Rattle.shell.proofs.reading.fill.Tie as tie
 
 abbrev Inv-loop : tie.InvT-loop
-Inv-loop buffer₀ at₀ buffer at = (at ≤ length buffer) × (length buffer ≡ length buffer₀)
+Inv-loop before buffer₀ at₀ buffer at = (at ≤ length buffer) × (length buffer ≡ length buffer₀)
 
 abbrev μ-loop : tie.MeasureT-loop
-μ-loop buffer₀ at₀ buffer at = length buffer - at
+μ-loop before buffer₀ at₀ buffer at = length buffer - at
 
 returns : tie.Need-returns Inv-loop μ-loop
-returns c = counts _ _ (search needs)
+returns c = (counts _ _ (search needs), search needs)
 
 returns-2 : tie.Need-returns-2 Inv-loop μ-loop
-returns-2 c = counts _ _ (search needs)
+returns-2 c = (counts _ _ (search needs), search needs)
 
 pub fill-spec : {M : Type 1} → statement M
 fill-spec =
     tie.close
-    (tie.spec Inv-loop μ-loop (λ c. search needs) (λ c κs. search needs) (λ c. search needs) returns (λ c. search needs) (λ c. search needs)
-    (λ c. search needs) (λ c. search needs) returns-2)
+    (tie.spec Inv-loop μ-loop (λ c. search needs) (λ c κs. search needs) (λ c κs. search needs) (λ c. search needs) returns (λ c. search needs)
+    (λ c. search needs) (λ c. search needs) (λ c κs. search needs) (λ c. search needs) returns-2)
