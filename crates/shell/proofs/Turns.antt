@@ -5,11 +5,11 @@ use mathlib.Core.List.{List, [], _++_}
 use mathlib.Core.Path.{_≡_, refl, sym, ap, ap₂, _∙_}
 use native.Mathlib.Nat.{zero-add}
 use native.Mathlib.Omega.{arith}
-use borrow.Author.Tests.{eqb-true, le-leb}
+use borrow.Author.Tests.{eqb-false, eqb-true, le-leb}
 use lib.Dec.{T, eqb}
 use lib.ListN.{length, take, drop, length-append}
 use lib.Seq.{take-at}
-use Rattle.bits.proofs.Test.{by-test, is-true}
+use Rattle.bits.proofs.Test.{by-test, is-true, or-left, or-right}
 use Rattle.file.specs.declared.answer.Answer.the-variants.{Done}
 use Rattle.file.specs.declared.registers.File.{File}
 use Rattle.file.specs.Answers.{codeOf, refused}
@@ -32,7 +32,7 @@ use Rattle.shell.specs.declared.course.Course.{Course}
 use Rattle.shell.specs.declared.course.Turn.{Turn}
 use Rattle.shell.specs.declared.reading.Filled.{Filled}
 use Rattle.shell.specs.declared.telling.Handed.{Handed}
-use Rattle.shell.specs.Parts.{Brought, Came, HandedOn, Parted, Turned, Turns, asked, beginning, counted, courseAfter, failedAfter, turnLines, withRead}
+use Rattle.shell.specs.Parts.{Brought, Came, HandedOn, Parted, Turned, Turns, asked, beginning, counted, courseAfter, courseOf, failedAfter, turnLines, withRead}
 use Rattle.shell.specs.Parts.Turns.{none, then, unread, unwritten}
 use Rattle.shell.proofs.Bounds.{counts}
 
@@ -129,7 +129,8 @@ pub record Stands (prints : Bool) (trace text : List ℕ) (r : Course) : Type 0 
   pub file : r .file ≡ afterPart powerOn trace
   pub number : r .number ≡ itemCount trace
   pub printed : text ≡ asked prints 0 powerOn trace
-  pub whole : r .more ≡ true → length trace % 8 ≡ 0
+  pub whole : r .more ≡ true → length trace % 8192 ≡ 0
+  pub last : r .more ≡ false → r .read .count ≡ length trace % 8192
 
 asked-parts : (prints : Bool) (trace part : List ℕ) → length trace % 8 ≡ 0
     → asked prints 0 powerOn trace ++ asked prints (itemCount trace) (afterPart powerOn trace) part ≡ asked prints 0 powerOn (trace ++ part)
@@ -142,10 +143,11 @@ unfolding beginning courseAfter failedAfter turnLines itemCount
 turns-stand (unread part read turns brought) e = absurd (true≢false e)
 turns-stand (unwritten part read handed turns brought on) e = absurd (true≢false e)
 turns-stand {prints} none e =
-    record { file = none-after; number = refl; printed = sym (none-asked prints 0 powerOn); whole = λ _. refl }
+    record { file = none-after; number = refl; printed = sym (none-asked prints 0 powerOn); whole = λ _. refl; last = λ e. absurd (true≢false e) }
 turns-stand {prints} (then {trace} {text} {before} part read handed turns brought on) e =
     let held = turns-stand turns (more-unfailed turns (brought .goes)) in
-    let whole : length trace % 8 ≡ 0 = held .whole (brought .goes) in
+    let parts : length trace % 8192 ≡ 0 = held .whole (brought .goes) in
+    let whole : length trace % 8 ≡ 0 = omega (arith, parts) in
     record {
       file = ap (λ (f : File). afterPart f part) (held .file) ∙ sym (file-parts trace part whole powerOn);
       number = ap (λ (k : ℕ). k + itemCount part) (held .number) ∙ sym (parts-count trace part whole);
@@ -155,7 +157,10 @@ turns-stand {prints} (then {trace} {text} {before} part read handed turns brough
           ∙ asked-parts prints trace part whole;
       whole =
           λ more. let full : length part ≡ 8192 = eqb-true _ _ more in
-          rw length-append (omega (arith, whole, full));
+          rw length-append (omega (arith, parts, full));
+      last =
+          λ more. let short : length part ≡ 8192 → ⊥ = eqb-false _ _ more in
+          rw length-append (omega (arith, parts, short, brought .within, brought .count));
     }
 
 counted-on : (before all : ℕ) (xs ys : List ℕ) → before ≡ length xs % 2 ^ 64 → all ≡ counted before (length ys) → all ≡ length (xs ++ ys) % 2 ^ 64
@@ -195,6 +200,26 @@ turns-replayed turns e =
     let held = turns-stand turns e in
     rw (held .printed, held .file) refl
 
+-- a course that came to its end without a failure is a function of the trace that was read
+pub course-of : {prints : Bool} {r : Course} (c : Came prints r) → r .failed ≡ false → r ≡ courseOf prints (c .trace)
+unfolding courseOf
+course-of {prints} {r} c e =
+    let held = turns-stand (c .turns) e in
+    let all = turns-counted (c .turns) in
+    let none : r .read .failed || r .handed .failed ≡ false = sym (turns-failed (c .turns)) ∙ e in
+    λ i. record {
+      file = held .file i;
+      number = held .number i;
+      more = c .ended i;
+      failed = e i;
+      read = record { count = held .last (c .ended) i; failed = or-left (r .read .failed) (r .handed .failed) none i; all = all .0 i };
+      handed =
+          record {
+            all = (all .1 ∙ ap (λ (l : List ℕ). length l % 2 ^ 64) (held .printed)) i;
+            failed = or-right (r .read .failed) (r .handed .failed) none i;
+          };
+    }
+
 pub more-sound : {prints : Bool} {trace text : List ℕ} {r : Course} → Turns prints trace text r → r .failed ≡ false → T (sound (r .file))
 more-sound {trace = trace} turns e = rw (turns-stand turns e .file) (part-sound powerOn trace powerOn-sound)
 
@@ -212,9 +237,17 @@ coming-none prints r e =
     rw e (record { trace = []; text = []; led = none; low = omega arith; left = λ _. refl })
 
 -- a part that was asked for, and what the test of its failure said
-pub brought : {failed test : Bool} {before : Course} {part : List ℕ} {read : Filled} → before .more ≡ true
-    → read .all ≡ counted (before .read .all) (length part) → test ≡ read .failed → test ≡ failed → Brought failed before part read
-brought goes all tested so = record { goes = goes; all = all; so = sym tested ∙ so }
+pub brought : {failed test : Bool} {before : Course} {part : List ℕ} {read : Filled} → before .more ≡ true → read .count ≡ length part
+    → (read .count ≤ 8192) × ((read .all ≡ counted (before .read .all) (read .count)) × (read .failed ≡ false → before .number + 1024 < 2 ^ 64))
+    → test ≡ read .failed → test ≡ failed → Brought failed before part read
+brought {before = before} goes count so tested test =
+    record {
+      goes = goes;
+      count = count;
+      within = omega (arith, count, so .0);
+      all = so .1 .0 ∙ ap (counted (before .read .all)) count;
+      so = sym tested ∙ test;
+    }
 
 abbrev withHanded : Handed → Course → Course
 withHanded handed c = record { file = c .file; number = c .number; more = c .more; failed = c .failed; read = c .read; handed = handed }

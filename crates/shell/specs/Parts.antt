@@ -1,6 +1,6 @@
 -- 01, 'The replay program': what a part of a trace leaves and prints, a turn, and the course of turns.
 -- Assumes nothing.
-use Prim.Native.Nat.{ℕ, _+_, _*_, _%_, _^_}
+use Prim.Native.Nat.{ℕ, _+_, _*_, _%_, _^_, _≤_}
 use mathlib.Core.Bool.{Bool, true, false, cond}
 use mathlib.Core.List.{List, [], _++_}
 use mathlib.Core.Path.{_≡_}
@@ -82,6 +82,8 @@ beginning =
 -- the part of a turn was read, from a course with more to read, or reading failed behind it: what came back counts it
 pub record Brought (failed : Bool) (before : Course) (part : List ℕ) (read : Filled) : Type 0 where
   pub goes : before .more ≡ true
+  pub count : read .count ≡ length part
+  pub within : length part ≤ 8192
   pub all : read .all ≡ counted (before .read .all) (length part)
   pub so : read .failed ≡ failed
 
@@ -102,6 +104,18 @@ pub data Turns (prints : Bool) : List ℕ → List ℕ → Course → Type 0 whe
   unwritten : {trace text : List ℕ} {before : Course} (part : List ℕ) (read : Filled) (handed : Handed) → Turns prints trace text before
       → Brought false before part read → HandedOn true prints before part handed
       → Turns prints (trace ++ part) (text ++ turnLines prints before part) (failedAfter (courseAfter read handed before part))
+
+-- the course that a whole trace leads to if nothing fails
+unfoldable pub courseOf : Bool → List ℕ → Course
+courseOf prints trace =
+    record {
+      file = afterPart powerOn trace;
+      number = itemCount trace;
+      more = false;
+      failed = false;
+      read = record { count = length trace % 8192; failed = false; all = length trace % 2 ^ 64 };
+      handed = record { all = length (asked prints 0 powerOn trace) % 2 ^ 64; failed = false };
+    }
 
 -- the course that a run comes to: by some turns, until there is no more to read. Which bytes the system reads and writes no contract says
 pub record Came (prints : Bool) (r : Course) : Type 0 where

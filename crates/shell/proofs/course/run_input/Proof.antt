@@ -3,7 +3,7 @@ use Prim.Native.Nat.{_^_, _<_}
 use mathlib.Core.Path.{_≡_, sym, _∙_}
 use native.Mathlib.Omega.{arith}
 use borrow.Author.Needs.{needs}
-use lib.ListN.{length-take, take}
+use lib.ListN.{take}
 use lib.Seq.{length-take-le}
 use Rattle.shell.proofs.Turns.{Coming, brought, came, came-unread, came-unwritten, coming-ended, coming-none, coming-on, lines-within, more-sound, more-unfailed}
 use Rattle.shell.proofs.course.run_input.Statement.{statement}
@@ -24,7 +24,7 @@ returns c =
     let had = asked .before in
     let on = had .before .before in
     came-unread (take (had .read-some .result .count) (had .read-some .last .1 .1 .1 .0)) (had .read-some .result) _ (on .before .before .loop .inv)
-    (brought (on .if1 .taken) (omega (arith, had .read-some .ensures .0 .1, had .read-some .ensures .1 .1 .0)) (asked .has-failed .ensures)
+    (brought (on .if1 .taken) (omega (arith, had .read-some .ensures .0 .1)) (had .read-some .ensures .1) (asked .has-failed .ensures)
     (c .before .if2 .taken))
     (c .failed .ensures)
 
@@ -34,13 +34,13 @@ run-some-requires c κs =
     let had = asked .before in
     let on = had .before .before in
     let led = on .before .before .loop .inv .led in
-    (more-sound led (more-unfailed led (on .if1 .taken)), (rw length-take (omega (arith, had .read-some .ensures .1 .0)), had .read-some .ensures .1 .1 .1 (sym (asked .has-failed .ensures) ∙ c .before .before .before .if2 .left)))
+    (more-sound led (more-unfailed led (on .if1 .taken)), (omega (arith, had .read-some .ensures .0 .1, had .read-some .ensures .1 .0), had .read-some .ensures .1 .1 .1 (sym (asked .has-failed .ensures) ∙ c .before .before .before .if2 .left)))
 
 array-share-prefix-lines : tie.Need-array-share-prefix-lines Inv-loop μ-loop
 array-share-prefix-lines c = omega (arith, lines-within (c .before .run-some .ensures) .0)
 
 slice-aggregate-write-out : tie.Need-slice-aggregate-write-out Inv-loop μ-loop
-slice-aggregate-write-out c = sym (length-take-le _ _ (array-share-prefix-lines (c .before)))
+slice-aggregate-write-out c = sym (length-take-le _ (c .before .before .run-some .last .1 .1 .1 .1 .0) (array-share-prefix-lines (c .before)))
 
 returns-2 : tie.Need-returns-2 Inv-loop μ-loop
 returns-2 c =
@@ -50,7 +50,7 @@ returns-2 c =
     let had = left .before .before in
     let on = had .before .before in
     came-unwritten (had .read-some .result) _ _ _ _ _ (ran .run-some .result) (wrote .write-out .result) (on .before .before .loop .inv) (ran .run-some .ensures)
-    (brought (on .if1 .taken) (omega (arith, had .read-some .ensures .0 .1, had .read-some .ensures .1 .1 .0)) (left .before .has-failed .ensures)
+    (brought (on .if1 .taken) (omega (arith, had .read-some .ensures .0 .1)) (had .read-some .ensures .1) (left .before .has-failed .ensures)
     (left .if2 .left))
     (omega (arith, wrote .write-out .ensures)) (sym (c .before .before .has-failed2 .ensures) ∙ c .before .if3 .taken) _ (c .failed2 .ensures)
 
@@ -63,7 +63,7 @@ loop-again c =
     let on = had .before .before in
     let low : ran .run-some .result .course .number < 2 ^ 64 = omega (arith, ran .run-some .ok) in
     coming-on (had .read-some .result) _ _ _ _ _ (ran .run-some .result) (wrote .write-out .result) (on .before .before .loop .inv) (ran .run-some .ensures)
-    (brought (on .if1 .taken) (omega (arith, had .read-some .ensures .0 .1, had .read-some .ensures .1 .1 .0)) (left .before .has-failed .ensures)
+    (brought (on .if1 .taken) (omega (arith, had .read-some .ensures .0 .1)) (had .read-some .ensures .1) (left .before .has-failed .ensures)
     (left .if2 .left))
     (omega (arith, wrote .write-out .ensures)) (sym (c .before .has-failed2 .ensures) ∙ c .if3 .left) (on .before .loop-test .taken) low
 
