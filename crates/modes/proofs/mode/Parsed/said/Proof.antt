@@ -1,0 +1,12 @@
+-- `modes::mode::Parsed::said` meets its contract. Assumes nothing.
+use borrow.Author.Needs.{needs}
+use Rattle.modes.specs.Scan.{parsedOf}
+use Rattle.modes.proofs.mode.Parsed.said.Statement.{statement}
+use Rattle.modes.proofs.mode.Parsed.said.Tie as tie
+
+returns : tie.Need-returns
+unfolding parsedOf
+returns c = search needs
+
+pub said-spec : {M : Type 1} → statement M
+said-spec = tie.close (tie.spec returns)

@@ -1,0 +1,10 @@
+// The form of a modeline, and the reader of one: text to a name, a clock, eight numbers and two flags, or to the place of the first bad byte.
+mod flags;
+mod mode;
+mod number;
+mod place;
+mod stages;
+
+pub use mode::Mode;
+pub use mode::Parsed;
+pub use stages::parse;
