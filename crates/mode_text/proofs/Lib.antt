@@ -1,0 +1,5 @@
+pub mod Decimals
+pub mod Joined
+pub mod WrittenGood
+pub mod RoundTrip
+pub mod Fitting
