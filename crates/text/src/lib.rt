@@ -1,7 +1,7 @@
 // The lines that the programs print, as bytes in a lent buffer.
 mod line;
-pub mod number;
-pub mod numbers;
+mod number;
+mod numbers;
 mod placed;
 
 pub use line::numbers_fit;
