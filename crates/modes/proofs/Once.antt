@@ -2,7 +2,7 @@
 use Prim.Native.Nat.{ℕ, suc, _≤_, _<_}
 use mathlib.Core.Bool.{Bool, true, false}
 use mathlib.Core.List.{List, _++_, append-assoc}
-use mathlib.Core.Path.{_≡_, sym, ap, ap₂, _∙_, subst}
+use mathlib.Core.Path.{_≡_, refl, sym, ap, ap₂, _∙_, subst}
 use native.Mathlib.Omega.{arith}
 use borrow.Author.Tests.{ltb-true, ltb-false}
 use lib.Dec.{ltb}
@@ -12,9 +12,11 @@ use Rattle.bits.proofs.Test.{by-test}
 use Rattle.modes.specs.declared.mode.Mode.{Mode}
 use Rattle.modes.specs.declared.mode.Parsed.{Parsed}
 use Rattle.modes.specs.Form.{Good}
-use Rattle.modes.specs.Place.{Begins, BadAt}
+use Rattle.modes.specs.Place.{Begins, BadAt, Says}
 use Rattle.modes.specs.Promises.{Told, toldBy}
-use Rattle.modes.proofs.Readers.{Form}
+use Rattle.modes.specs.Scan.{Result, accepted, bad, readLine}
+use Rattle.modes.proofs.Lines.{reads-good}
+use Rattle.modes.proofs.Readers.{Form, RightAt}
 
 module _ (L : Form) (line : List ℕ) where
   -- what begins a line, begins it with fewer bytes too
@@ -52,3 +54,15 @@ told-once line r s a b = by-good (r .good) (s .good) a b
     by-good false true x y = absurd (x .1 .refused (s .mode) (y .1 .good))
     by-good false false x y =
         ap₂ (λ (k : ℕ) (m : Mode). record { good = false; position = k; mode = m }) (one-place Good line (r .position) (s .position) (x .1) (y .1)) (x .0 ∙ sym (y .0))
+
+-- what a good line says is all that it says
+says-all : (line : List ℕ) (m : Mode) → Good line m → Says Good line m
+says-all line m g = by-result (readLine line) (reads-good line)
+  where
+    by-result : (r : Result) → RightAt r Good line → Says Good line m
+    by-result (accepted k) h = record { good = g; alone = λ o x. h .alone o x ∙ sym (h .alone m g) }
+    by-result (bad k) h = absurd (h .refused m g)
+
+-- so this is told of it, and nothing else
+pub told-good : (line : List ℕ) (m : Mode) (r : Parsed) → Good line m → Told line r → r ≡ record { good = true; position = 0; mode = m }
+told-good line m r g t = told-once line r (record { good = true; position = 0; mode = m }) t (refl, says-all line m g)

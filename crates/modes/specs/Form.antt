@@ -43,7 +43,7 @@ unfoldable pub numeral : List ℕ → Bool
 numeral [] = false
 numeral (b ∷ t) = digit b && every digit t && (not (eqb b 0x30) || eqb (length t) 0)
 
--- the number that digits spell, behind a number that was spelled before them
+-- the number that digits spell, the first of them the highest; `v` is what the digits before them spell
 unfoldable pub valueFrom : ℕ → List ℕ → ℕ
 valueFrom v [] = v
 valueFrom v (b ∷ t) = valueFrom (10 * v + (b - 0x30)) t
@@ -86,7 +86,7 @@ pub record Formed (p : Parts) : Type 0 where
   pub numbers : T (every (λ (n : List ℕ). numeral n && leb (length n) 5) (p .numbers))
   pub flags : T (eachOnce (p .flags))
 
--- no decimals have no point
+-- 'The clock has no point, or one and one to three decimals': a point only before decimals
 unfoldable pub clockText : List ℕ → List ℕ → List ℕ
 clockText whole [] = whole
 clockText whole (d ∷ ds) = whole ++ 0x2E ∷ d ∷ ds

@@ -10,11 +10,11 @@ use Rattle.modes.specs.declared.mode.Parsed.{Parsed}
 use Rattle.modes.specs.Form.{Good}
 use Rattle.modes.specs.Place.{BadAt, Says}
 
--- what is told of a line that isn't good
+-- the mode of a line that says nothing
 abbrev pub nothing : Mode
 nothing = record { name = 0; khz = 0; numbers = replicate 8 0; «h_minus» = true; «v_minus» = true }
 
--- a good line, and all that it says; or none, and its bad place
+-- of a good line its mode, with position 0; of any other its bad place, and nothing said
 abbrev pub toldBy : Bool → List ℕ → Parsed → Type 0
 toldBy true line r = (r .position ≡ 0) × Says Good line (r .mode)
 toldBy false line r = (r .mode ≡ nothing) × BadAt Good line (r .position)

@@ -10,6 +10,9 @@ use crate::mode::Mode;
 use crate::mode::Parsed;
 use crate::place::is_at;
 use crate::place::matched;
+use crate::told::bad;
+use crate::told::flagged;
+use crate::told::said;
 
 // No flag, one, or two.
 pub fn flags(line: &[u8], at: usize, mode: Mode) -> Parsed
@@ -17,10 +20,10 @@ pub fn flags(line: &[u8], at: usize, mode: Mode) -> Parsed
     ensures { λ r. ⌜ r ≡ parsedOf (shift at (readFlags mode (drop at (now (line .entry))))) ⌝ }
 {
     if line.len() <= at {
-        return Parsed::said(mode);
+        return said(mode);
     }
     if !is_at(line, at, b' ') {
-        return Parsed::bad(at);
+        return bad(at);
     }
     if is_at(line, at + 1, b'+') {
         return first(line, at + 2, mode, false);
@@ -28,7 +31,7 @@ pub fn flags(line: &[u8], at: usize, mode: Mode) -> Parsed
     if is_at(line, at + 1, b'-') {
         return first(line, at + 2, mode, true);
     }
-    Parsed::bad(at + 1)
+    bad(at + 1)
 }
 
 // Behind a first flag's sign.
@@ -37,12 +40,12 @@ fn first(line: &[u8], at: usize, mode: Mode, minus: bool) -> Parsed
     ensures { λ r. ⌜ r ≡ parsedOf (shift at (readAxis mode minus (drop at (now (line .entry))))) ⌝ }
 {
     if is_at(line, at, b'h') {
-        return second(line, at + 1, mode.flagged(false, minus), true);
+        return second(line, at + 1, flagged(mode, false, minus), true);
     }
     if is_at(line, at, b'v') {
-        return second(line, at + 1, mode.flagged(true, minus), false);
+        return second(line, at + 1, flagged(mode, true, minus), false);
     }
-    Parsed::bad(at)
+    bad(at)
 }
 
 // Behind a first flag's letter: the rest of it, and a flag of the other axis or none.
@@ -52,7 +55,7 @@ fn second(line: &[u8], at: usize, mode: Mode, vertical: bool) -> Parsed
 {
     let count = matched(line, at, b"sync");
     if count < 4 {
-        return Parsed::bad(at + count);
+        return bad(at + count);
     }
     other(line, at + 4, mode, vertical)
 }
@@ -63,10 +66,10 @@ fn other(line: &[u8], at: usize, mode: Mode, vertical: bool) -> Parsed
     ensures { λ r. ⌜ r ≡ parsedOf (shift at (readOther (axisOf vertical) mode (drop at (now (line .entry))))) ⌝ }
 {
     if line.len() <= at {
-        return Parsed::said(mode);
+        return said(mode);
     }
     if !is_at(line, at, b' ') {
-        return Parsed::bad(at);
+        return bad(at);
     }
     if is_at(line, at + 1, b'+') {
         return last(line, at + 2, mode, vertical, false);
@@ -74,7 +77,7 @@ fn other(line: &[u8], at: usize, mode: Mode, vertical: bool) -> Parsed
     if is_at(line, at + 1, b'-') {
         return last(line, at + 2, mode, vertical, true);
     }
-    Parsed::bad(at + 1)
+    bad(at + 1)
 }
 
 // Behind a second flag's sign: its letter and the rest of it, and no more.
@@ -84,12 +87,12 @@ fn last(line: &[u8], at: usize, mode: Mode, vertical: bool, minus: bool) -> Pars
 {
     let count = letters(line, at, vertical);
     if count < 5 {
-        return Parsed::bad(at + count);
+        return bad(at + count);
     }
     if at + 5 < line.len() {
-        return Parsed::bad(at + 5);
+        return bad(at + 5);
     }
-    Parsed::said(mode.flagged(vertical, minus))
+    said(flagged(mode, vertical, minus))
 }
 
 // How many letters of the axis' word stand there.

@@ -4,7 +4,9 @@ mod mode;
 mod number;
 mod place;
 mod stages;
+mod told;
 
 pub use mode::Mode;
 pub use mode::Parsed;
+pub use place::name_byte;
 pub use stages::parse;

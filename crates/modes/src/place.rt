@@ -36,7 +36,7 @@ pub fn matched(line: &[u8], at: usize, word: &[u8]) -> usize
 }
 
 // A name may have this byte.
-fn name_byte(b: u8) -> bool
+pub fn name_byte(b: u8) -> bool
     ensures { λ r. ⌜ r ≡ nameByte b ⌝ }
 {
     if b < 0x20 {

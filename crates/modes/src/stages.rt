@@ -13,6 +13,7 @@ use crate::number::digits;
 use crate::place::is_at;
 use crate::place::matched;
 use crate::place::name_length;
+use crate::told::bad;
 
 // What a line says, or the place of the first byte that no good line has there.
 pub fn parse(line: &[u8]) -> Parsed
@@ -20,7 +21,7 @@ pub fn parse(line: &[u8]) -> Parsed
 {
     let count = matched(line, 0, b"Modeline \"");
     if count < 10 {
-        return Parsed::bad(count);
+        return bad(count);
     }
     named(line, 10)
 }
@@ -33,13 +34,13 @@ fn named(line: &[u8], at: usize) -> Parsed
     let count = name_length(line, at);
     let end = at + count;
     if count == 0 {
-        return Parsed::bad(end);
+        return bad(end);
     }
     if !is_at(line, end, b'"') {
-        return Parsed::bad(end);
+        return bad(end);
     }
     if !is_at(line, end + 1, b' ') {
-        return Parsed::bad(end + 1);
+        return bad(end + 1);
     }
     clocked(line, end + 2, count)
 }
@@ -52,7 +53,7 @@ fn clocked(line: &[u8], at: usize, name: usize) -> Parsed
     let whole = digits(line, at, 3);
     let end = whole.end;
     if whole.left >= 3 {
-        return Parsed::bad(end);
+        return bad(end);
     }
     behind_whole(line, end, name, whole.value)
 }
@@ -67,7 +68,7 @@ fn behind_whole(line: &[u8], at: usize, name: usize, whole: u32) -> Parsed
         return behind_point(line, at + 1, name, whole);
     }
     if whole == 0 {
-        return Parsed::bad(at);
+        return bad(at);
     }
     numbered(line, at, name, whole * 1000)
 }
@@ -83,10 +84,10 @@ fn behind_point(line: &[u8], at: usize, name: usize, whole: u32) -> Parsed
     let left = all.left;
     let value = all.value;
     if left >= 3 {
-        return Parsed::bad(end);
+        return bad(end);
     }
     if value == 0 {
-        return Parsed::bad(end);
+        return bad(end);
     }
     numbered(line, end, name, value * tens(left))
 }
@@ -115,12 +116,12 @@ fn numbered(line: &[u8], at: usize, name: usize, khz: u32) -> Parsed
     let mut count: usize = 0;
     while count < 8 {
         if !is_at(line, end, b' ') {
-            return Parsed::bad(end);
+            return bad(end);
         }
         let number = digits(line, end + 1, 5);
         end = number.end;
         if number.left >= 5 {
-            return Parsed::bad(end);
+            return bad(end);
         }
         numbers[count] = number.value;
         count += 1;

@@ -1,8 +1,8 @@
--- `modes::mode::Parsed::bad` meets its contract. Assumes nothing.
+-- `modes::told::bad` meets its contract. Assumes nothing.
 use borrow.Author.Needs.{needs}
 use Rattle.modes.specs.Scan.{parsedOf, unflagged}
-use Rattle.modes.proofs.mode.Parsed.bad.Statement.{statement}
-use Rattle.modes.proofs.mode.Parsed.bad.Tie as tie
+use Rattle.modes.proofs.told.bad.Statement.{statement}
+use Rattle.modes.proofs.told.bad.Tie as tie
 
 returns : tie.Need-returns
 unfolding parsedOf unflagged

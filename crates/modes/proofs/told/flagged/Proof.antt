@@ -1,7 +1,7 @@
--- `modes::mode::Mode::flagged` meets its contract. Assumes nothing.
+-- `modes::told::flagged` meets its contract. Assumes nothing.
 use Rattle.modes.specs.Scan.{flagged}
-use Rattle.modes.proofs.mode.Mode.flagged.Statement.{statement}
-use Rattle.modes.proofs.mode.Mode.flagged.Tie as tie
+use Rattle.modes.proofs.told.flagged.Statement.{statement}
+use Rattle.modes.proofs.told.flagged.Tie as tie
 
 returns : tie.Need-returns
 unfolding flagged

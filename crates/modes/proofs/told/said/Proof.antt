@@ -1,8 +1,8 @@
--- `modes::mode::Parsed::said` meets its contract. Assumes nothing.
+-- `modes::told::said` meets its contract. Assumes nothing.
 use borrow.Author.Needs.{needs}
 use Rattle.modes.specs.Scan.{parsedOf}
-use Rattle.modes.proofs.mode.Parsed.said.Statement.{statement}
-use Rattle.modes.proofs.mode.Parsed.said.Tie as tie
+use Rattle.modes.proofs.told.said.Statement.{statement}
+use Rattle.modes.proofs.told.said.Tie as tie
 
 returns : tie.Need-returns
 unfolding parsedOf
