@@ -1,3 +1,4 @@
 pub mod Clamped
 pub mod Lines
 pub mod Laws
+pub mod Codes

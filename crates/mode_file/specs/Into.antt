@@ -5,26 +5,29 @@ use mathlib.Core.Bool.{cond}
 use mathlib.Core.List.{List}
 use mathlib.Core.Path.{_≡_}
 use lib.Dec.{eqb}
+use lib.ListN.{length}
 use Rattle.file.specs.declared.registers.File.{File}
 use Rattle.file.specs.Answers.{codeOf}
 use Rattle.file.specs.Sound.{sound}
 use Rattle.timing.specs.Timing.{timingAnswer}
 use Rattle.modes.specs.declared.mode.Mode.{Mode}
 use Rattle.modes.specs.declared.mode.Parsed.{Parsed}
+use Rattle.modes.specs.Form.{header}
 use Rattle.modes.specs.Promises.{Told}
 use Rattle.mode_file.specs.declared.into.ReadLine.{ReadLine}
 use Rattle.mode_file.specs.declared.verdict.Verdict.{Verdict}
 use Rattle.mode_file.specs.declared.verdict.Verdict.the-variants.{Done, Locked, OutOfRange, NotSound, BadText, NotMultiple}
 use Rattle.mode_file.specs.Said.{eights, timingSaid, withMode}
 
--- a refusal leaves the file and says no name and no clock; 'the position is 0 with every code but 18'
+-- a refusal leaves the file and says no name and no clock; only 18 has a position (settled: it is 0 with every other code)
 unfoldable pub refusedLine : Verdict → ℕ → File → ReadLine
 refusedLine v position f =
     record { verdict = v; position = position; «name_start» = 0; «name_size» = 0; khz = 0; file = f }
 
+-- the name stands behind the first quote
 unfoldable pub doneLine : Mode → File → ReadLine
 doneLine m f =
-    record { verdict = Done; position = 0; «name_start» = 10; «name_size» = m .name; khz = m .khz; file = withMode m f }
+    record { verdict = Done; position = 0; «name_start» = length header; «name_size» = m .name; khz = m .khz; file = withMode m f }
 
 -- by the timing writer's code
 unfoldable pub byCode : ℕ → Mode → File → ReadLine

@@ -20,7 +20,8 @@ unfoldable pub eights : List ℕ → Bool
 eights numbers =
     every (λ (n : ℕ). eqb (n % 8) 0) (getD numbers 0 0 ∷ getD numbers 1 0 ∷ getD numbers 2 0 ∷ getD numbers 3 0 ∷ [])
 
--- a line's numbers are display, sync start, sync end and total, in pixels and then in scanlines: in clocks and scanlines
+-- a line's eight numbers are display, sync start, sync end and total across, in pixels, and then down, in scanlines. The same with character clocks for
+-- pixels: eight pixels are one
 unfoldable pub inClocks : List ℕ → List ℕ
 inClocks n =
     getD n 0 0 / 8 ∷ getD n 1 0 / 8 ∷ getD n 2 0 / 8 ∷ getD n 3 0 / 8 ∷ getD n 4 0 ∷ getD n 5 0 ∷ getD n 6 0 ∷ getD n 7 0 ∷ []
@@ -49,7 +50,7 @@ fifteen n =
 unfoldable pub timingSaid : List ℕ → Timing
 timingSaid numbers = timingOf (fifteen (inClocks numbers))
 
--- the same in the 16 bits that a timing's numbers have in the code
+-- the timing that the code makes of them: its numbers have 16 bits, and one that is larger becomes 65535
 unfoldable pub clampedSaid : List ℕ → Timing
 clampedSaid numbers = timingOf (fifteen (map (λ (n : ℕ). min n 65535) (inClocks numbers)))
 

@@ -12,8 +12,8 @@ use modes::Parsed;
 use modes::parse;
 use timing::write_timing;
 
-// What a line told: the place of a bad byte; the name, from its first byte on, and the clock; and the file with the mode.
-// A refusal has no name, no clock and the file as given.
+// What is answered: of a line that was read the name, as the place of its first byte and its size, the clock, and the file with the mode.
+// A refusal has no name, no clock and the file as given; of bad text also the place of the first bad byte.
 pub struct ReadLine {
     pub verdict: Verdict,
     pub position: usize,

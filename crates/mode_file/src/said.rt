@@ -26,7 +26,7 @@ pub fn eights(numbers: [u32; 8]) -> bool
     numbers[3] % 8 == 0
 }
 
-// A number of 16 bits: one that has more is out of every range as the largest is.
+// A number of 16 bits; one that is larger becomes 65535, which no number of a line may be either.
 fn clamped(n: u32) -> u16
     ensures { λ r. ⌜ r ≡ min n 65535 ⌝ }
 {

@@ -2,6 +2,7 @@
 use mathlib.Core.Path.{ap, _∙_}
 use borrow.Author.Needs.{needs}
 use Rattle.file.specs.declared.registers.File.{File}
+use Rattle.modes.specs.Form.{header}
 use Rattle.mode_file.specs.declared.verdict.Verdict.the-variants.{Done}
 use Rattle.mode_file.specs.Into.{doneLine}
 use Rattle.mode_file.specs.Said.{withMode}
@@ -43,7 +44,7 @@ apply-requires : tie.Need-apply-requires
 apply-requires c κs = search needs
 
 returns-4 : tie.Need-returns-4
-unfolding doneLine withMode
+unfolding doneLine withMode header
 returns-4 c =
     ap (λ (after : File). record { verdict = Done; position = 0; «name_start» = 10; «name_size» = c .before .before .before .before .before .before .before .before .before .before .args .mode .name; khz = c .before .before .before .before .before .before .before .before .before .before .args .mode .khz; file = after })
     (c .apply .ensures ∙ cc (c .before .flag-store .ensures, file-said (c .before .before .before .before .before .before .before .before .before .before .args .mode) (c .before .before .before .before .before .before .before .before .before .before .args .file) (c .before .before .before .before .before .before .before .before .timing-said .result) (c .before .before .before .before .before .before .before .write-timing .result) (c .before .before .before .before .before .before .code .result) (c .before .before .before .before .before .before .before .before .timing-said .ensures) (c .before .before .before .before .before .before .before .write-timing .ensures) (c .before .before .before .before .before .before .code .ensures) (c .before .before .before .if3 .left)))
