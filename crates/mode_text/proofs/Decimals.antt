@@ -19,7 +19,7 @@ use Rattle.modes.specs.Form.{every, digit, numeral, valueFrom, valueOf}
 glyph-is : (d : ℕ) → d < 10 → glyph d ≡ 48 + d
 glyph-is d h = rw (lt-ltb d 10 h)
 
-last-digit : (n : ℕ) → glyph (n % 10) ≡ 48 + n % 10
+pub last-digit : (n : ℕ) → glyph (n % 10) ≡ 48 + n % 10
 last-digit n = glyph-is (n % 10) (omega arith)
 
 -- digits spell the number behind what was spelled before them

@@ -28,13 +28,8 @@ use Rattle.timing.proofs.Writer.{accepted-by-range, timing-sound, reads-back as
 use Rattle.timing.specs.Table.{table, wide}
 use Rattle.timing.specs.Timing.{timingOf, numbersOf, timingIn, timingAnswer, withTiming, writeTiming, writtenFile}
 use Rattle.timing.specs.declared.Timing.{Timing}
-use Rattle.modes.proofs.Lines.{reads-good}
-use Rattle.modes.proofs.Once.{told-once}
-use Rattle.modes.proofs.Readers.{RightAt}
-use Rattle.modes.specs.Form.{every, Good}
-use Rattle.modes.specs.Place.{Says}
-use Rattle.modes.specs.Scan.{Result, accepted, bad, readLine}
-use Rattle.modes.specs.declared.mode.Mode.{Mode}
+use Rattle.modes.proofs.Once.{told-good}
+use Rattle.modes.specs.Form.{every}
 use Rattle.modes.specs.declared.mode.Parsed.{Parsed}
 use Rattle.mode_file.specs.Into.{doneLine, byCode, modeLine, readWith, ReadInto}
 use Rattle.mode_file.specs.Said.{eights, inClocks, fifteen, timingSaid, flagBits, flagReach, flagStore, withMode}
@@ -42,15 +37,6 @@ use Rattle.mode_file.specs.declared.into.ReadLine.{ReadLine}
 use Rattle.mode_text.specs.Out.{nameFits, clockFits, ofForm, numbersOut, lineOut, minusIn}
 use Rattle.mode_text.proofs.Joined.{timing-read}
 use Rattle.mode_text.proofs.WrittenGood.{modeOut, written-good}
-
--- what a good line says is all that it says
-says-all : (line : List ℕ) (m : Mode) → Good line m → Says Good line m
-says-all line m g = by-result (readLine line) (reads-good line)
-  where
-    by-result : (r : Result) → RightAt r Good line → Says Good line m
-    by-result (accepted k) h =
-        record { good = g; alone = λ o x. h .alone o x ∙ sym (h .alone m g) }
-    by-result (bad k) h = absurd (h .refused m g)
 
 eight : (x : ℕ) → 8 * x / 8 ≡ x
 eight x = omega arith
@@ -143,9 +129,7 @@ module _ (f g : File) (name : List ℕ) (khz : ℕ) (n : T (nameFits name)) (c :
   unfolding readWith modeLine byCode modeOut codeOf
   reads-back r met =
       met .answers
-      ∙ ap (λ (p : Parsed). readWith p g)
-      (told-once (lineOut f name khz) (met .parsed) (record { good = true; position = 0; mode = modeOut f name khz }) (met .told)
-      (refl, says-all (lineOut f name khz) (modeOut f name khz) (written-good f name khz n c)))
+      ∙ ap (λ (p : Parsed). readWith p g) (told-good (lineOut f name khz) (modeOut f name khz) (met .parsed) (written-good f name khz n c) (met .told))
       ∙ rw (is-true (sound g) s, out-even (timingIn f), accepts)
 
   abbrev timed : File

@@ -45,7 +45,7 @@ clock-back khz h =
     ∙ omega arith
 
 -- numbers below 100000, as text and back
-abbrev fives : List ℕ → Type 0
+abbrev pub fives : List ℕ → Type 0
 fives ns = (k : ℕ) → getD ns k 0 < 100000
 
 every-token : (ns : List ℕ) → fives ns → T (every (λ (n : List ℕ). numeral n && leb (length n) 5) (map decimal ns))
@@ -67,7 +67,7 @@ module _ (f : File) where
   unfolding allLieIn ranges
   at k h = lies-at 0 (ranges (wide f)) (numbersOf (timingIn f)) k h (read-in-ranges f)
 
-  file-numbers : fives (numbersOut (timingIn f))
+  pub file-numbers : fives (numbersOut (timingIn f))
   unfolding numbersOut numbersOf ranges
   file-numbers zero = omega (arith, to-most 1 512 _ (timingIn f .«h_display» .0) (at 1 (lit< tt)))
   file-numbers (suc zero) = omega (arith, to-most 0 511 _ (timingIn f .«h_sync_start» .0) (at 4 (lit< tt)))

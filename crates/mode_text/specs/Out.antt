@@ -61,16 +61,21 @@ flagsOut h v = record { axis = horizontal; minus = h } ∷ record { axis = verti
 unfoldable pub minusIn : File → ℕ → Bool
 minusIn f place = eqb (bit place (register f MISC)) 1
 
--- the parts of the line, and so the line
-unfoldable pub partsOut : File → List ℕ → ℕ → Parts
-partsOut f name khz =
+-- the parts of a line with this name, clock, numbers and flags
+unfoldable pub partsWith : List ℕ → ℕ → List ℕ → Bool → Bool → Parts
+partsWith name khz numbers h v =
     record {
       name = name;
       whole = decimal (khz / 1000);
       decimals = digits 10 3 (khz % 1000);
-      numbers = map decimal (numbersOut (timingIn f));
-      flags = flagsOut (minusIn f 6) (minusIn f 7);
+      numbers = map decimal numbers;
+      flags = flagsOut h v;
     }
+
+-- those of a file's line, and so the line
+unfoldable pub partsOut : File → List ℕ → ℕ → Parts
+unfolding partsWith
+partsOut f name khz = partsWith name khz (numbersOut (timingIn f)) (minusIn f 6) (minusIn f 7)
 
 unfoldable pub lineOut : File → List ℕ → ℕ → List ℕ
 lineOut f name khz = spelled (partsOut f name khz)

@@ -3,20 +3,8 @@ ghost use mathlib.Core.Path.{_≡_};
 ghost use Prim.Native.Nat.{_*_};
 ghost use Rattle.modes.specs.Form.{every, nameByte};
 ghost use Rattle.mode_text.specs.Out.{clockFits, nameFits, numbersOut, ofForm};
+use modes::name_byte;
 use timing::Timing;
-
-// A name may have this byte.
-fn name_byte(b: u8) -> bool
-    ensures { λ r. ⌜ r ≡ nameByte b ⌝ }
-{
-    if b < 0x20 {
-        return false;
-    }
-    if b > 0x7E {
-        return false;
-    }
-    b != 0x22
-}
 
 // Each byte is one that a name may have.
 fn named(name: &[u8]) -> bool

@@ -1,85 +1,104 @@
 // The parts of a line, stored into a buffer that has room for them.
 ghost use mathlib.Core.List.{[], _∷_, _++_, map};
 ghost use mathlib.Core.Path.{_≡_};
-ghost use Prim.Native.Nat.{_+_, _≤_};
+ghost use Prim.Native.Nat.{_+_, _%_, _≤_};
 ghost use lib.ListN.{length};
+ghost use Rattle.io.specs.Digits.{digits, glyph};
 ghost use Rattle.text.specs.Lent.{Wrote};
 ghost use Rattle.text.specs.Text.{decimal};
-ghost use Rattle.modes.specs.Form.{flagsText, header, numbersText};
-ghost use Rattle.mode_text.specs.Out.{clockOut, flagsOut};
-use text::number::byte;
-use text::number::places;
-use text::number::spell;
-use text::numbers::copy;
+ghost use Rattle.modes.specs.Form.{flagsText, header, numbersText, spelled};
+ghost use Rattle.mode_text.specs.Out.{clockOut, flagsOut, partsWith};
+use text::plain_text;
+use text::spaced_numbers;
 
-// The word, a quote, the name, a quote and a space, from the start on.
-pub fn put_name(name: &[u8], buffer: &mut [u8]) -> usize
-    requires { ⌜ length (now name) + 12 ≤ length (now buffer) ⌝ }
-    ensures { λ r. ⌜ Wrote (now (buffer .entry)) 0 ((header ++ now (name .entry)) ++ 0x22 ∷ 0x20 ∷ []) (now (buffer .exit)) r ⌝ }
-    ensures { λ r. ⌜ r ≡ length (now (name .entry)) + 12 ⌝ }
+// The line of these parts, from the buffer's start on; how many bytes it has.
+pub fn put_line(
+    name: &[u8],
+    khz: u32,
+    numbers: &[u32],
+    h_minus: bool,
+    v_minus: bool,
+    buffer: &mut [u8],
+) -> usize
+    requires { ⌜ length (spelled (partsWith (now name) khz (now numbers) «h_minus» «v_minus»)) ≤ length (now buffer) ⌝ }
+    ensures { λ r. ⌜ Wrote (now (buffer .entry)) 0 (spelled (partsWith (now (name .entry)) khz (now (numbers .entry)) «h_minus» «v_minus»)) (now (buffer .exit)) r ⌝ }
 {
-    let at = copy(b"Modeline \"", buffer, 0);
-    let at = copy(name, buffer, at);
-    copy(b"\" ", buffer, at)
+    let at = put_name(name, buffer);
+    let at = put_clock(khz, buffer, at);
+    let at = put_numbers(numbers, buffer, at);
+    put_flags(h_minus, v_minus, buffer, at)
 }
 
-// The clock in MHz, with three decimals.
-pub fn put_clock(khz: u32, buffer: &mut [u8], at: usize) -> usize
-    requires { ⌜ at + 24 ≤ length (now buffer) ⌝ }
-    ensures { λ r. ⌜ Wrote (now (buffer .entry)) at (clockOut khz) (now (buffer .exit)) r ⌝ }
-    ensures { λ r. ⌜ r ≤ at + 24 ⌝ }
+// A text from a place on; the place behind it.
+fn put(text: &[u8], buffer: &mut [u8], at: usize) -> usize
+    requires { ⌜ at + length (now text) ≤ length (now buffer) ⌝ }
+    ensures { λ r. ⌜ Wrote (now (buffer .entry)) at (now (text .entry)) (now (buffer .exit)) r ⌝ }
 {
-    let whole = (khz / 1000) as u64;
-    let rest = (khz % 1000) as u64;
-    let at = spell(whole, places(whole), buffer, at);
-    let at = byte(b'.', buffer, at);
-    spell(rest, 3, buffer, at)
+    let placed = plain_text(buffer, at, text);
+    placed.end
 }
 
-// A space and a number.
-fn put_number(n: u32, buffer: &mut [u8], at: usize) -> usize
-    requires { ⌜ at + 21 ≤ length (now buffer) ⌝ }
-    ensures { λ r. ⌜ Wrote (now (buffer .entry)) at (0x20 ∷ decimal n) (now (buffer .exit)) r ⌝ }
-    ensures { λ r. ⌜ r ≤ at + 21 ⌝ }
+// Numbers, each behind a space.
+fn put_numbers(numbers: &[u32], buffer: &mut [u8], at: usize) -> usize
+    requires { ⌜ at + length (numbersText (map decimal (now numbers))) ≤ length (now buffer) ⌝ }
+    ensures { λ r. ⌜ Wrote (now (buffer .entry)) at (numbersText (map decimal (now (numbers .entry)))) (now (buffer .exit)) r ⌝ }
 {
-    let n = n as u64;
-    let at = byte(b' ', buffer, at);
-    spell(n, places(n), buffer, at)
+    let minus: [bool; 0] = [];
+    let placed = spaced_numbers(buffer, at, &minus, numbers);
+    placed.end
 }
 
-// The eight numbers, each behind a space.
-pub fn put_numbers(numbers: [u32; 8], buffer: &mut [u8], at: usize) -> usize
-    requires { ⌜ at + 168 ≤ length (now buffer) ⌝ }
-    ensures { λ r. ⌜ Wrote (now (buffer .entry)) at (numbersText (map decimal numbers)) (now (buffer .exit)) r ⌝ }
-    ensures { λ r. ⌜ r ≤ at + 168 ⌝ }
+// The word, a quote, the name and a quote, from the start on.
+fn put_name(name: &[u8], buffer: &mut [u8]) -> usize
+    requires { ⌜ length (now name) + 11 ≤ length (now buffer) ⌝ }
+    ensures { λ r. ⌜ Wrote (now (buffer .entry)) 0 ((header ++ now (name .entry)) ++ 0x22 ∷ []) (now (buffer .exit)) r ⌝ }
 {
-    let at = put_number(numbers[0], buffer, at);
-    let at = put_number(numbers[1], buffer, at);
-    let at = put_number(numbers[2], buffer, at);
-    let at = put_number(numbers[3], buffer, at);
-    let at = put_number(numbers[4], buffer, at);
-    let at = put_number(numbers[5], buffer, at);
-    let at = put_number(numbers[6], buffer, at);
-    put_number(numbers[7], buffer, at)
+    let at = put(b"Modeline \"", buffer, 0);
+    let at = put(name, buffer, at);
+    put(b"\"", buffer, at)
+}
+
+// A number's last digit.
+fn digit(n: u32) -> u8
+    ensures { λ r. ⌜ r ≡ glyph (n % 10) ⌝ }
+{
+    48 + (n % 10) as u8
+}
+
+// A point and three decimals.
+fn decimals(n: u32) -> [u8; 4]
+    ensures { λ r. ⌜ r ≡ 0x2E ∷ digits 10 3 n ⌝ }
+{
+    [b'.', digit(n / 10 / 10), digit(n / 10), digit(n)]
+}
+
+// A space and the clock in MHz, with three decimals.
+fn put_clock(khz: u32, buffer: &mut [u8], at: usize) -> usize
+    requires { ⌜ at + length (0x20 ∷ clockOut khz) ≤ length (now buffer) ⌝ }
+    ensures { λ r. ⌜ Wrote (now (buffer .entry)) at (0x20 ∷ clockOut khz) (now (buffer .exit)) r ⌝ }
+{
+    let whole = [khz / 1000];
+    let at = put_numbers(&whole, buffer, at);
+    let rest = decimals(khz % 1000);
+    put(&rest, buffer, at)
 }
 
 // Both flags, horizontal first.
-pub fn put_flags(h_minus: bool, v_minus: bool, buffer: &mut [u8], at: usize) -> usize
+fn put_flags(h_minus: bool, v_minus: bool, buffer: &mut [u8], at: usize) -> usize
     requires { ⌜ at + 14 ≤ length (now buffer) ⌝ }
     ensures { λ r. ⌜ Wrote (now (buffer .entry)) at (flagsText (flagsOut «h_minus» «v_minus»)) (now (buffer .exit)) r ⌝ }
-    ensures { λ r. ⌜ r ≡ at + 14 ⌝ }
 {
     if h_minus {
         if v_minus {
-            copy(b" -hsync -vsync", buffer, at)
+            put(b" -hsync -vsync", buffer, at)
         } else {
-            copy(b" -hsync +vsync", buffer, at)
+            put(b" -hsync +vsync", buffer, at)
         }
     } else {
         if v_minus {
-            copy(b" +hsync -vsync", buffer, at)
+            put(b" +hsync -vsync", buffer, at)
         } else {
-            copy(b" +hsync +vsync", buffer, at)
+            put(b" +hsync +vsync", buffer, at)
         }
     }
 }

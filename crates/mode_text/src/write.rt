@@ -7,10 +7,7 @@ use crate::fits::clock_fits;
 use crate::fits::name_fits;
 use crate::fits::numbers_out;
 use crate::fits::of_form;
-use crate::put::put_clock;
-use crate::put::put_flags;
-use crate::put::put_name;
-use crate::put::put_numbers;
+use crate::put::put_line;
 use file::File;
 use file::MISC;
 use file::is_sound;
@@ -65,10 +62,8 @@ pub fn write_from(file: File, name: &[u8], khz: u32, buffer: &mut [u8]) -> Writt
         return refused(Verdict::OtherTiming);
     }
     let misc = file.registers[MISC];
-    let at = put_name(name, buffer);
-    let at = put_clock(khz, buffer, at);
-    let at = put_numbers(numbers_out(timing), buffer, at);
-    let size = put_flags(h_minus(misc), v_minus(misc), buffer, at);
+    let numbers = numbers_out(timing);
+    let size = put_line(name, khz, &numbers, h_minus(misc), v_minus(misc), buffer);
     WrittenLine {
         verdict: Verdict::Done,
         size,
