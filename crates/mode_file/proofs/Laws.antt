@@ -153,9 +153,9 @@ module _ (line : List ℕ) (f : File) (r : ReadLine) (met : ReadInto line f r) w
       (λ v t n. rw (ne-eqb (numberOf v) 18 n)) (λ a n. refl)
 
   -- the codes of reading
-  pub line-codes : T (among (0 ∷ refusals) (numberOf (r .verdict)))
+  pub reading-codes : T (among (0 ∷ refusals) (numberOf (r .verdict)))
   unfolding refusedLine doneLine numberOf among
-  line-codes =
+  reading-codes =
       by-met (λ x. T (among (0 ∷ refusals) (numberOf (x .verdict)))) (λ v t. second (eqb (numberOf v) 0) (among refusals (numberOf v)) t) (λ a. tt)
 
   -- code 0 is answered where all is passed
@@ -169,14 +169,18 @@ module _ (line : List ℕ) (f : File) (r : ReadLine) (met : ReadInto line f r) w
   pub line-good : numberOf (r .verdict) ≡ 0 → Good line (met .parsed .mode)
   line-good z = (rw (line-done z .0 .good) at (met .told)) .1 .good
 
-  -- and of whatever parts it is made, their name and their clock are told, and what they say is in the file
+  -- and of whatever parts it is made, they were told and accepted
+  pub line-accepted : numberOf (r .verdict) ≡ 0 → (p : Parts) → Formed p → line ≡ spelled p
+      → Accepted (record { good = true; position = 0; mode = modeOf p }) f × (r ≡ doneLine (modeOf p) f)
+  line-accepted z p g e =
+      subst (λ (x : Parsed). Accepted x f × (r ≡ doneLine (x .mode) f))
+      (told-good line (modeOf p) (met .parsed) (record { parts = p; formed = g; text = e; says = refl }) (met .told)) (line-done z)
+
+  -- their name and their clock are told, and what they say is in the file
   pub line-read : numberOf (r .verdict) ≡ 0 → (p : Parts) → Formed p → line ≡ spelled p → ReadAs line f r p
   unfolding doneLine modeOf
   line-read z p g e =
-      let done = line-done z in
-      let said : met .parsed .mode ≡ modeOf p =
-      ap (λ (x : Parsed). x .mode) (told-good line (modeOf p) (met .parsed) (record { parts = p; formed = g; text = e; says = refl }) (met .told)) in
-      let all : r ≡ doneLine (modeOf p) f = done .1 ∙ ap (λ (m : Mode). doneLine m f) said in
+      let all = line-accepted z p g e .1 in
       record {
         formed = g;
         text = e;

@@ -16,7 +16,7 @@ use Rattle.text.specs.Text.{decimal, decimalPlaces}
 use Rattle.modes.proofs.Tokens.{value-append}
 use Rattle.modes.specs.Form.{every, digit, numeral, valueFrom, valueOf}
 
-glyph-is : (d : ℕ) → d < 10 → glyph d ≡ 48 + d
+pub glyph-is : (d : ℕ) → d < 10 → glyph d ≡ 48 + d
 glyph-is d h = rw (lt-ltb d 10 h)
 
 pub last-digit : (n : ℕ) → glyph (n % 10) ≡ 48 + n % 10
@@ -39,7 +39,7 @@ pub digits-value : (k n : ℕ) → n < 10 ^ k → valueOf (digits 10 k n) ≡ n
 unfolding valueOf
 digits-value k n h = digits-from 0 k n h ∙ (let z : 0 * 10 ^ k + n ≡ n = ap (λ (x : ℕ). x + n) (zero-mul (10 ^ k)) ∙ omega arith in z)
 
-every-append : (test : ℕ → Bool) (a b : List ℕ) → T (every test a) → T (every test b) → T (every test (a ++ b))
+pub every-append : (test : ℕ → Bool) (a b : List ℕ) → T (every test a) → T (every test b) → T (every test (a ++ b))
 unfolding every
 every-append test [] b s t = t
 every-append test (x ∷ a) b s t = both (test x) (every test (a ++ b)) (left (test x) (every test a) s) (every-append test a b (right (test x) (every test a) s) t)

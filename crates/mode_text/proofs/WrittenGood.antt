@@ -90,7 +90,7 @@ module _ (f : File) where
     unfolding clockFits
     khz-least = leb→le 1 khz (left (leb 1 khz) (leb khz 999999) c)
 
-    parts-formed : Formed (partsOut f name khz)
+    pub parts-formed : Formed (partsOut f name khz)
     unfolding partsOut nameFits flagsOut eachOnce sameAxis numbersOut
     parts-formed =
         record {
