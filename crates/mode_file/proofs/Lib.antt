@@ -1,4 +1,5 @@
 pub mod Clamped
-pub mod Lines
-pub mod Laws
 pub mod Codes
+pub mod InOrder
+pub mod Laws
+pub mod Lines

@@ -1,38 +1,19 @@
--- A line into a file, by what the code's tests found. Assumes nothing.
+-- A mode into a file, by what the code's tests found. Assumes nothing.
 use Prim.Native.Nat.{ℕ}
-use mathlib.Core.Bool.{true, false, cond}
+use mathlib.Core.Bool.{cond}
 use mathlib.Core.Path.{_≡_, sym, ap, _∙_}
 use borrow.Author.Tests.{ne-eqb}
 use lib.Dec.{leb}
 use Rattle.file.specs.Answers.{codeOf, refused}
-use Rattle.file.specs.Sound.{sound}
 use Rattle.file.specs.declared.registers.File.{File}
 use Rattle.timing.specs.Timing.{timingAnswer, withTiming, writtenFile, writeTiming}
 use Rattle.timing.specs.declared.Timing.{Timing}
 use Rattle.timing.specs.declared.Written.{Written}
 use Rattle.modes.specs.declared.mode.Mode.{Mode}
-use Rattle.modes.specs.declared.mode.Parsed.{Parsed}
-use Rattle.mode_file.specs.declared.verdict.Verdict.the-variants.{Locked, OutOfRange, NotSound, BadText, NotMultiple}
-use Rattle.mode_file.specs.Into.{refusedLine, doneLine, byCode, modeLine, readWith}
-use Rattle.mode_file.specs.Said.{eights, timingSaid, clampedSaid}
+use Rattle.mode_file.specs.declared.verdict.Verdict.the-variants.{Locked, OutOfRange, NotSound}
+use Rattle.mode_file.specs.Into.{refusedLine, doneLine, byCode, modeLine}
+use Rattle.mode_file.specs.Said.{timingSaid, clampedSaid}
 use Rattle.mode_file.proofs.Clamped.{write-clamped}
-
-module _ (p : Parsed) (f : File) where
-  pub line-unsound : sound f ≡ false → refusedLine NotSound 0 f ≡ readWith p f
-  unfolding readWith
-  line-unsound s = rw s
-
-  pub line-bad : sound f ≡ true → p .good ≡ false → refusedLine BadText (p .position) f ≡ readWith p f
-  unfolding readWith
-  line-bad s g = rw (s, g)
-
-  pub line-uneven : sound f ≡ true → p .good ≡ true → eights (p .mode .numbers) ≡ false → refusedLine NotMultiple 0 f ≡ readWith p f
-  unfolding readWith
-  line-uneven s g e = rw (s, g, e)
-
-  pub line-good : sound f ≡ true → p .good ≡ true → eights (p .mode .numbers) ≡ true → modeLine (p .mode) f ≡ readWith p f
-  unfolding readWith
-  line-good s g e = rw (s, g, e)
 
 -- the timing that was written, and its code
 module _ (m : Mode) (f : File) (t : Timing) (w : Written) (code : ℕ) (said : t ≡ clampedSaid (m .numbers)) (wrote : w ≡ writeTiming f t)

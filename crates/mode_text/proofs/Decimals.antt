@@ -1,6 +1,6 @@
 -- A number's decimal text is a number of 02's form, and spells it. Assumes nothing.
 use Prim.Native.Nat.{ℕ, zero, suc, _+_, _-_, _*_, _/_, _%_, _^_, _≤_, _<_}
-use mathlib.Core.Bool.{Bool, true, false, not, _&&_, _||_}
+use mathlib.Core.Bool.{Bool, true, not, _&&_, _||_}
 use mathlib.Core.List.{List, [], _∷_, _++_}
 use mathlib.Core.Path.{_≡_, sym, ap, _∙_, subst}
 use native.Mathlib.Nat.{pow-suc, div-div-eq-div-mul, mul-comm, div-lt-iff-lt-mul, le-div-iff-mul-le, one-le-pow, mul-assoc, zero-mul}
@@ -9,7 +9,7 @@ use borrow.Author.Tests.{lt-ltb, ltb-true, ltb-false, ne-eqb}
 use lib.Dec.{T, eqb, leb, ltb, le→leb}
 use lib.ListN.{length}
 use Rattle.io.specs.Digits.{digits, glyph}
-use Rattle.bits.proofs.Test.{by-test, left, right, both}
+use Rattle.bits.proofs.Test.{by-test, left, right, both, second}
 use Rattle.text.proofs.Places.{one-place, so-many}
 use Rattle.text.proofs.Spelled.{digits-length}
 use Rattle.text.specs.Text.{decimal, decimalPlaces}
@@ -54,53 +54,33 @@ all-digits (suc k) n =
     (both (leb 0x30 (48 + n % 10) && leb (48 + n % 10) 0x39) true
     (both (leb 0x30 (48 + n % 10)) (leb (48 + n % 10) 0x39) (le→leb 0x30 (48 + n % 10) (omega arith)) (le→leb (48 + n % 10) 0x39 (omega arith))) tt))
 
--- the first of them
-pub record Leads (k n : ℕ) : Type 0 where
-  pub rest : List ℕ
-  pub text : digits 10 (suc k) n ≡ (48 + n / 10 ^ k % 10) ∷ rest
+-- the first of them, and those behind it
+front : (k n : ℕ) → digits 10 (suc k) n ≡ (48 + n / 10 ^ k % 10) ∷ digits 10 k n
+front zero n = ap (λ (g : ℕ). g ∷ []) (last-digit n ∙ omega arith)
+front (suc k) n =
+    ap (λ (l : List ℕ). l ++ glyph (n % 10) ∷ []) (front k (n / 10))
+    ∙ ap (λ (x : ℕ). (48 + x % 10) ∷ (digits 10 k (n / 10) ++ glyph (n % 10) ∷ []))
+    (div-div-eq-div-mul n 10 (10 ^ k) ∙ ap (λ (x : ℕ). n / x) (mul-comm 10 (10 ^ k) ∙ sym (pow-suc 10 k)))
 
-leads : (k n : ℕ) → Leads k n
-leads zero n = record { rest = []; text = ap (λ (g : ℕ). g ∷ []) (last-digit n ∙ omega arith) }
-leads (suc k) n =
-    let i = leads k (n / 10) in
-    record {
-      rest = i .rest ++ glyph (n % 10) ∷ [];
-      text =
-          ap (λ (l : List ℕ). l ++ glyph (n % 10) ∷ []) (i .text)
-          ∙ ap (λ (x : ℕ). (48 + x % 10) ∷ (i .rest ++ glyph (n % 10) ∷ []))
-          (div-div-eq-div-mul n 10 (10 ^ k) ∙ ap (λ (x : ℕ). n / x) (mul-comm 10 (10 ^ k) ∙ sym (pow-suc 10 k)));
-    }
-
-numeral-by : (k n : ℕ) (rest : List ℕ) → digits 10 (suc k) n ≡ (48 + n / 10 ^ k % 10) ∷ rest → T (not (eqb (48 + n / 10 ^ k % 10) 0x30) || eqb (length rest) 0)
-    → T (numeral (digits 10 (suc k) n))
+numeral-by : (k n : ℕ) → T (not (eqb (48 + n / 10 ^ k % 10) 0x30) || eqb (length (digits 10 k n)) 0) → T (numeral (digits 10 (suc k) n))
 unfolding numeral every
-numeral-by k n rest e t =
-    subst (λ (l : List ℕ). T (numeral l)) (sym e)
-    (both (digit (48 + n / 10 ^ k % 10) && every digit rest) (not (eqb (48 + n / 10 ^ k % 10) 0x30) || eqb (length rest) 0)
-    (subst (λ (l : List ℕ). T (every digit l)) e (all-digits (suc k) n)) t)
+numeral-by k n t =
+    subst (λ (l : List ℕ). T (numeral l)) (sym (front k n))
+    (both (digit (48 + n / 10 ^ k % 10) && every digit (digits 10 k n)) (not (eqb (48 + n / 10 ^ k % 10) 0x30) || eqb (length (digits 10 k n)) 0)
+    (subst (λ (l : List ℕ). T (every digit l)) (front k n) (all-digits (suc k) n)) t)
 
 -- one digit
 one-numeral : (n : ℕ) → T (numeral (digits 10 1 n))
-unfolding numeral
-one-numeral n =
-    let l = leads 0 n in
-    numeral-by 0 n (l .rest) (l .text)
-    (subst (λ (k : ℕ). T (not (eqb (48 + n / 10 ^ 0 % 10) 0x30) || eqb k 0)) (let z : 0 ≡ length (l .rest) = omega (arith, ap length (l .text), digits-length 1 n) in z)
-    (second-true (not (eqb (48 + n / 10 ^ 0 % 10) 0x30))))
-  where
-    second-true : (b : Bool) → T (b || true)
-    second-true true = tt
-    second-true false = tt
+one-numeral n = numeral-by 0 n (second (not (eqb (48 + n / 10 ^ 0 % 10) 0x30)) true tt)
 
 -- more, where the first is not 0
 more-numeral : (k n : ℕ) → 10 ^ k ≤ n → n < 10 ^ suc k → T (numeral (digits 10 (suc k) n))
 more-numeral k n lo hi =
-    let l = leads k n in
     let some : 1 ≤ n / 10 ^ k = le-div-iff-mul-le {k = 10 ^ k} {x = 1} {y = n} (one-le-pow k 10 (omega arith)) .1 (omega (arith, lo)) in
     let few : n / 10 ^ k < 10 =
     div-lt-iff-lt-mul {k = 10 ^ k} {x = n} {y = 10} (one-le-pow k 10 (omega arith)) .1
     (let g : n < 10 ^ k * 10 = subst (λ (x : ℕ). n < x) (pow-suc 10 k) hi in omega (arith, g)) in
-    numeral-by k n (l .rest) (l .text) (rw (ne-eqb (48 + n / 10 ^ k % 10) 0x30 (λ e. omega (arith, e, some, few))) tt)
+    numeral-by k n (rw (ne-eqb (48 + n / 10 ^ k % 10) 0x30 (λ e. omega (arith, e, some, few))) tt)
 
 -- a number below 100000 as text
 pub record Spells (n : ℕ) : Type 0 where

@@ -5,96 +5,29 @@ use mathlib.Core.List.{List, _∷_}
 use mathlib.Core.Path.{_≡_, sym, ap, _∙_}
 use native.Mathlib.Numerals.{add-one}
 use native.Mathlib.Omega.{arith}
-use borrow.Author.Tests.{eq-eqb, ne-eqb, le-leb, lt-leb}
+use borrow.Author.Tests.{eq-eqb, le-leb, lt-leb}
 use lib.Dec.{T, eqb, leb, leb→le}
 use lib.ListN.{length, getD, drop, drop-of-length-le}
 use lib.Seq.{drop-cons}
-use Rattle.bits.proofs.Test.{left, right}
+use Rattle.bits.proofs.Test.{left, right, and-true}
 use Rattle.timing.specs.declared.Timing.{Timing}
 use Rattle.modes.specs.Form.{every, nameByte}
 use Rattle.mode_text.specs.Out.{nameFits, ofForm}
 
--- the seven tests, in the code's order
-module _ (t : Timing) where
-  abbrev A : Type 0
-  A = t .«h_blank_start» .0 ≡ t .«h_display» .0
-
-  abbrev B : Type 0
-  B = t .«h_blank_end» .0 ≡ t .«h_total» .0
-
-  abbrev C : Type 0
-  C = t .«v_blank_start» .0 ≡ t .«v_display» .0
-
-  abbrev D : Type 0
-  D = t .«v_blank_end» .0 ≡ t .«v_total» .0
-
-  abbrev E : Type 0
-  E = t .«line_compare» .0 ≡ 1023
-
-  abbrev F : Type 0
-  F = t .offset ≡ t .«h_display» .0
-
-  pub other-1 : (A → ⊥) → false ≡ ofForm t
-  unfolding ofForm
-  other-1 n = rw (ne-eqb (t .«h_blank_start» .0) (t .«h_display» .0) n)
-
-  pub other-2 : A → (B → ⊥) → false ≡ ofForm t
-  unfolding ofForm
-  other-2 a n = rw (eq-eqb (t .«h_blank_start» .0) (t .«h_display» .0) a, ne-eqb (t .«h_blank_end» .0) (t .«h_total» .0) n)
-
-  pub other-3 : A → B → (C → ⊥) → false ≡ ofForm t
-  unfolding ofForm
-  other-3 a b n =
-      rw (
-        eq-eqb (t .«h_blank_start» .0) (t .«h_display» .0) a,
-        eq-eqb (t .«h_blank_end» .0) (t .«h_total» .0) b,
-        ne-eqb (t .«v_blank_start» .0) (t .«v_display» .0) n,
-      )
-
-  pub other-4 : A → B → C → (D → ⊥) → false ≡ ofForm t
-  unfolding ofForm
-  other-4 a b c n =
-      rw (
-        eq-eqb (t .«h_blank_start» .0) (t .«h_display» .0) a,
-        eq-eqb (t .«h_blank_end» .0) (t .«h_total» .0) b,
-        eq-eqb (t .«v_blank_start» .0) (t .«v_display» .0) c,
-        ne-eqb (t .«v_blank_end» .0) (t .«v_total» .0) n,
-      )
-
-  pub other-5 : A → B → C → D → (E → ⊥) → false ≡ ofForm t
-  unfolding ofForm
-  other-5 a b c d n =
-      rw (
-        eq-eqb (t .«h_blank_start» .0) (t .«h_display» .0) a,
-        eq-eqb (t .«h_blank_end» .0) (t .«h_total» .0) b,
-        eq-eqb (t .«v_blank_start» .0) (t .«v_display» .0) c,
-        eq-eqb (t .«v_blank_end» .0) (t .«v_total» .0) d,
-        ne-eqb (t .«line_compare» .0) 1023 n,
-      )
-
-  pub other-6 : A → B → C → D → E → (F → ⊥) → false ≡ ofForm t
-  unfolding ofForm
-  other-6 a b c d e n =
-      rw (
-        eq-eqb (t .«h_blank_start» .0) (t .«h_display» .0) a,
-        eq-eqb (t .«h_blank_end» .0) (t .«h_total» .0) b,
-        eq-eqb (t .«v_blank_start» .0) (t .«v_display» .0) c,
-        eq-eqb (t .«v_blank_end» .0) (t .«v_total» .0) d,
-        eq-eqb (t .«line_compare» .0) 1023 e,
-        ne-eqb (t .offset) (t .«h_display» .0) n,
-      )
-
-  pub the-last : A → B → C → D → E → F → eqb (t .«screen_start») 0 ≡ ofForm t
-  unfolding ofForm
-  the-last a b c d e f =
-      rw (
-        eq-eqb (t .«h_blank_start» .0) (t .«h_display» .0) a,
-        eq-eqb (t .«h_blank_end» .0) (t .«h_total» .0) b,
-        eq-eqb (t .«v_blank_start» .0) (t .«v_display» .0) c,
-        eq-eqb (t .«v_blank_end» .0) (t .«v_total» .0) d,
-        eq-eqb (t .«line_compare» .0) 1023 e,
-        eq-eqb (t .offset) (t .«h_display» .0) f,
-      )
+-- a timing whose first six tests pass
+pub the-last : (t : Timing) → t .«h_blank_start» .0 ≡ t .«h_display» .0 → t .«h_blank_end» .0 ≡ t .«h_total» .0 → t .«v_blank_start» .0 ≡ t .«v_display» .0
+    → t .«v_blank_end» .0 ≡ t .«v_total» .0 → t .«line_compare» .0 ≡ 1023 → t .offset ≡ t .«h_display» .0 → eqb (t .«screen_start») 0 ≡ ofForm t
+unfolding ofForm
+the-last t a b c d e f =
+    rw (
+      eq-eqb (t .«h_blank_start» .0) (t .«h_display» .0) a,
+      eq-eqb (t .«h_blank_end» .0) (t .«h_total» .0) b,
+      eq-eqb (t .«v_blank_start» .0) (t .«v_display» .0) c,
+      eq-eqb (t .«v_blank_end» .0) (t .«v_total» .0) d,
+      eq-eqb (t .«line_compare» .0) 1023 e,
+      eq-eqb (t .offset) (t .«h_display» .0) f,
+    )
+    (sym (and-true (eqb (t .«screen_start») 0)))
 
 -- the bytes of a name, one by one
 module _ (name : List ℕ) (i : ℕ) where

@@ -1,6 +1,6 @@
 -- A timing of the form is what its own eight numbers say, and eight numbers that a mode says are its timing's own. Assumes nothing.
-use Prim.Native.Nat.{ℕ, _*_, _/_, _%_}
-use mathlib.Core.Bool.{Bool, true, false, _&&_}
+use Prim.Native.Nat.{ℕ, zero, suc, _*_, _/_, _%_}
+use mathlib.Core.Bool.{Bool, true}
 use mathlib.Core.List.{List, [], _∷_}
 use mathlib.Core.Path.{_≡_, refl, sym, ap, _∙_}
 use native.Mathlib.Omega.{arith}
@@ -12,7 +12,7 @@ use Rattle.timing.specs.Timing.{timingOf, numbersOf}
 use Rattle.timing.specs.declared.Timing.{Timing}
 use Rattle.modes.specs.Form.{every}
 use Rattle.mode_file.specs.Said.{eights, inClocks, fifteen, timingSaid}
-use Rattle.mode_text.specs.Out.{ofForm, numbersOut}
+use Rattle.mode_text.specs.Out.{formTests, ofForm, numbersOut}
 
 eight : (x : ℕ) → 8 * x / 8 ≡ x
 eight x = omega arith
@@ -24,32 +24,29 @@ pub out-even : (t : Timing) → eights (numbersOut t) ≡ true
 unfolding eights numbersOut every
 out-even t = rw (even (t .«h_display» .0), even (t .«h_sync_start» .0), even (t .«h_sync_end» .0), even (t .«h_total» .0))
 
--- seven tests joined by `&&`
-seven : (a b c d e f g : Bool) → T (a && b && c && d && e && f && g) → T a × T b × T c × T d × T e × T f × T g
-seven true true true true true true true t = (tt, tt, tt, tt, tt, tt, tt)
-seven true true true true true true false t = absurd t
-seven true true true true true false g t = absurd t
-seven true true true true false f g t = absurd t
-seven true true true false e f g t = absurd t
-seven true true false d e f g t = absurd t
-seven true false c d e f g t = absurd t
-seven false b c d e f g t = absurd t
+-- of tests that all pass, each does
+each-passes : (tests : List Bool) (k : ℕ) → T (every (λ (x : Bool). x) tests) → T (getD tests k true)
+unfolding every
+each-passes [] k t = tt
+each-passes (b ∷ bs) zero t = left b (every (λ (x : Bool). x) bs) t
+each-passes (b ∷ bs) (suc k) t = each-passes bs k (right b (every (λ (x : Bool). x) bs) t)
 
 numbers-said : (t : Timing) → T (ofForm t) → fifteen (inClocks (numbersOut t)) ≡ numbersOf t
 unfolding ofForm fifteen inClocks numbersOut numbersOf
 numbers-said t o =
-    let x =
-    seven (eqb (t .«h_blank_start» .0) (t .«h_display» .0)) (eqb (t .«h_blank_end» .0) (t .«h_total» .0)) (eqb (t .«v_blank_start» .0) (t .«v_display» .0))
-    (eqb (t .«v_blank_end» .0) (t .«v_total» .0)) (eqb (t .«line_compare» .0) 1023) (eqb (t .offset) (t .«h_display» .0)) (eqb (t .«screen_start») 0) o
-    in
-    let a : t .«h_blank_start» .0 ≡ t .«h_display» .0 = eqb→eq (t .«h_blank_start» .0) (t .«h_display» .0) (x .0) in
-    let b : t .«h_blank_end» .0 ≡ t .«h_total» .0 = eqb→eq (t .«h_blank_end» .0) (t .«h_total» .0) (x .1) in
-    let c : t .«v_blank_start» .0 ≡ t .«v_display» .0 = eqb→eq (t .«v_blank_start» .0) (t .«v_display» .0) (x .2) in
-    let d : t .«v_blank_end» .0 ≡ t .«v_total» .0 = eqb→eq (t .«v_blank_end» .0) (t .«v_total» .0) (x .3) in
-    let e : t .«line_compare» .0 ≡ 1023 = eqb→eq (t .«line_compare» .0) 1023 (x .4) in
-    let f : t .offset ≡ t .«h_display» .0 = eqb→eq (t .offset) (t .«h_display» .0) (x .5) in
-    let g : t .«screen_start» ≡ 0 = eqb→eq (t .«screen_start») 0 (x .6) in
-    rw (eight (t .«h_total» .0), eight (t .«h_display» .0), eight (t .«h_sync_start» .0), eight (t .«h_sync_end» .0), a, b, c, d, e, f, g)
+    rw (
+      eight (t .«h_total» .0),
+      eight (t .«h_display» .0),
+      eight (t .«h_sync_start» .0),
+      eight (t .«h_sync_end» .0),
+      eqb→eq (t .«h_blank_start» .0) (t .«h_display» .0) (each-passes (formTests t) 0 o),
+      eqb→eq (t .«h_blank_end» .0) (t .«h_total» .0) (each-passes (formTests t) 1 o),
+      eqb→eq (t .«v_blank_start» .0) (t .«v_display» .0) (each-passes (formTests t) 2 o),
+      eqb→eq (t .«v_blank_end» .0) (t .«v_total» .0) (each-passes (formTests t) 3 o),
+      eqb→eq (t .«line_compare» .0) 1023 (each-passes (formTests t) 4 o),
+      eqb→eq (t .offset) (t .«h_display» .0) (each-passes (formTests t) 5 o),
+      eqb→eq (t .«screen_start») 0 (each-passes (formTests t) 6 o),
+    )
 
 -- a timing of the form is what its own eight numbers say
 pub of-form-said : (t : Timing) → T (ofForm t) → timingSaid (numbersOut t) ≡ t
@@ -87,14 +84,12 @@ eight-of (a ∷ b ∷ c ∷ d ∷ f ∷ g ∷ h ∷ i ∷ j ∷ ns) e = absurd (
 pub numbers-back : (ns : List ℕ) → length ns ≡ 8 → T (eights ns) → numbersOut (timingSaid ns) ≡ ns
 unfolding numbersOut timingSaid timingOf fifteen inClocks eights every
 numbers-back ns e t =
-    let multiple : ℕ → Bool = λ k. eqb (getD ns k 0 % 8) 0 in
-    let second = right (multiple 0) (multiple 1 && (multiple 2 && (multiple 3 && true))) t in
-    let third = right (multiple 1) (multiple 2 && (multiple 3 && true)) second in
-    let fourth = right (multiple 2) (multiple 3 && true) third in
+    let multiple : (k : ℕ) → Bool = λ k. eqb (getD ns k 0 % 8) 0 in
+    let tests : List Bool = multiple 0 ∷ multiple 1 ∷ multiple 2 ∷ multiple 3 ∷ [] in
     rw (
-      whole (getD ns 0 0) (left (multiple 0) (multiple 1 && (multiple 2 && (multiple 3 && true))) t),
-      whole (getD ns 1 0) (left (multiple 1) (multiple 2 && (multiple 3 && true)) second),
-      whole (getD ns 2 0) (left (multiple 2) (multiple 3 && true) third),
-      whole (getD ns 3 0) (left (multiple 3) true fourth),
+      whole (getD ns 0 0) (each-passes tests 0 t),
+      whole (getD ns 1 0) (each-passes tests 1 t),
+      whole (getD ns 2 0) (each-passes tests 2 t),
+      whole (getD ns 3 0) (each-passes tests 3 t),
     )
     (eight-of ns e)

@@ -28,13 +28,22 @@ nameFits name = leb 1 (length name) && leb (length name) 32 && every nameByte na
 unfoldable pub clockFits : ℕ → Bool
 clockFits khz = leb 1 khz && leb khz 999999
 
--- '21 the file's timing isn't of this form': 'Blanking starts at display and ends at total; line compare is 1023, offset is display pixels divided by 8,
--- screen start 0'
+-- 'Blanking starts at display and ends at total; line compare is 1023, offset is display pixels divided by 8, screen start 0': is each so
+unfoldable pub formTests : Timing → List Bool
+formTests t =
+    eqb (t .«h_blank_start» .0) (t .«h_display» .0)
+    ∷ eqb (t .«h_blank_end» .0) (t .«h_total» .0)
+    ∷ eqb (t .«v_blank_start» .0) (t .«v_display» .0)
+    ∷ eqb (t .«v_blank_end» .0) (t .«v_total» .0)
+    ∷ eqb (t .«line_compare» .0) 1023
+    ∷ eqb (t .offset) (t .«h_display» .0)
+    ∷ eqb (t .«screen_start») 0
+    ∷ []
+
+-- '21 the file's timing isn't of this form'
 unfoldable pub ofForm : Timing → Bool
-ofForm t =
-    eqb (t .«h_blank_start» .0) (t .«h_display» .0) && eqb (t .«h_blank_end» .0) (t .«h_total» .0)
-    && eqb (t .«v_blank_start» .0) (t .«v_display» .0) && eqb (t .«v_blank_end» .0) (t .«v_total» .0)
-    && eqb (t .«line_compare» .0) 1023 && eqb (t .offset) (t .«h_display» .0) && eqb (t .«screen_start») 0
+unfolding formTests every
+ofForm t = every (λ (same : Bool). same) (formTests t)
 
 -- a line's eight numbers: eight pixels are a character clock
 unfoldable pub numbersOut : Timing → List ℕ

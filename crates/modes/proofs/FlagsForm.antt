@@ -3,7 +3,7 @@ use Prim.Native.Nat.{ℕ}
 use mathlib.Core.Bool.{Bool, true, false, not}
 use mathlib.Core.List.{List, [], _∷_, _++_}
 use mathlib.Core.Logic.{_⊎_, inl, inr, ⊎-elim}
-use mathlib.Core.Path.{_≡_, refl, ap, _∙_}
+use mathlib.Core.Path.{_≡_, refl, ap, _∙_, subst}
 use lib.Dec.{T}
 use Rattle.modes.specs.declared.mode.Mode.{Mode}
 use Rattle.modes.specs.Form.{Axis, horizontal, vertical, Flag, sameAxis, eachOnce, sign, letter, flagText, flagsText, minusOf}
@@ -16,48 +16,32 @@ unfoldable pub withFlags : Mode → List Flag → Mode
 withFlags m [] = m
 withFlags m (f ∷ fs) = withFlags (flagged (f .axis) (f .minus) m) fs
 
--- one of the two signs, and then; one of the two letters, and then
-pub record SignL (K : Bool → Form) (s : List ℕ) (o : Mode) : Type 0 where
-  pub minus : Bool
+-- the byte of one of two things, and then: a sign, or an axis' letter
+pub record OneL {A : Type 0} (byte : A → ℕ) (K : A → Form) (s : List ℕ) (o : Mode) : Type 0 where
+  pub which : A
   pub rest : List ℕ
-  pub text : s ≡ sign minus ∷ rest
-  pub then : K minus rest o
+  pub text : s ≡ byte which ∷ rest
+  pub then : K which rest o
 
-pub record LetterL (K : Axis → Form) (s : List ℕ) (o : Mode) : Type 0 where
-  pub axis : Axis
-  pub rest : List ℕ
-  pub text : s ≡ letter axis ∷ rest
-  pub then : K axis rest o
+module _ {A : Type 0} (byte : A → ℕ) (K : A → Form) (s : List ℕ) (o : Mode) (a b : A) where
+  one-to : PickL (byte a) (byte b) (K a) (K b) s o → OneL byte K s o
+  one-to x =
+      ⊎-elim (λ y. record { which = a; rest = y .rest; text = y .text; then = y .then })
+      (λ y. record { which = b; rest = y .rest; text = y .text; then = y .then }) x
 
-module _ (K : Bool → Form) (s : List ℕ) (o : Mode) where
-  sign-to : PickL 0x2B 0x2D (K false) (K true) s o → SignL K s o
-  unfolding sign
-  sign-to x =
-      ⊎-elim (λ y. record { minus = false; rest = y .rest; text = y .text; then = y .then })
-      (λ y. record { minus = true; rest = y .rest; text = y .text; then = y .then }) x
+  one-back : (x : OneL byte K s o) → (x .which ≡ a) ⊎ (x .which ≡ b) → PickL (byte a) (byte b) (K a) (K b) s o
+  one-back x e =
+      ⊎-elim
+      (λ h. inl (record { rest = x .rest; text = x .text ∙ ap (λ (w : A). byte w ∷ x .rest) h; then = subst (λ (w : A). K w (x .rest) o) h (x .then) }))
+      (λ h. inr (record { rest = x .rest; text = x .text ∙ ap (λ (w : A). byte w ∷ x .rest) h; then = subst (λ (w : A). K w (x .rest) o) h (x .then) })) e
 
-  sign-back : SignL K s o → PickL 0x2B 0x2D (K false) (K true) s o
-  unfolding sign
-  sign-back x = by-sign (x .minus) (x .text) (x .then)
-    where
-      by-sign : (m : Bool) → s ≡ sign m ∷ x .rest → K m (x .rest) o → PickL 0x2B 0x2D (K false) (K true) s o
-      by-sign false e k = inl (record { rest = x .rest; text = e; then = k })
-      by-sign true e k = inr (record { rest = x .rest; text = e; then = k })
+two-signs : (minus : Bool) → (minus ≡ false) ⊎ (minus ≡ true)
+two-signs false = inl refl
+two-signs true = inr refl
 
-module _ (K : Axis → Form) (s : List ℕ) (o : Mode) where
-  letter-to : PickL 0x68 0x76 (K horizontal) (K vertical) s o → LetterL K s o
-  unfolding letter
-  letter-to x =
-      ⊎-elim (λ y. record { axis = horizontal; rest = y .rest; text = y .text; then = y .then })
-      (λ y. record { axis = vertical; rest = y .rest; text = y .text; then = y .then }) x
-
-  letter-back : LetterL K s o → PickL 0x68 0x76 (K horizontal) (K vertical) s o
-  unfolding letter
-  letter-back x = by-axis (x .axis) (x .text) (x .then)
-    where
-      by-axis : (a : Axis) → s ≡ letter a ∷ x .rest → K a (x .rest) o → PickL 0x68 0x76 (K horizontal) (K vertical) s o
-      by-axis horizontal e k = inl (record { rest = x .rest; text = e; then = k })
-      by-axis vertical e k = inr (record { rest = x .rest; text = e; then = k })
+two-axes : (axis : Axis) → (axis ≡ horizontal) ⊎ (axis ≡ vertical)
+two-axes horizontal = inl refl
+two-axes vertical = inr refl
 
 -- flags, of which a test says which, and what a mode is with them
 pub record Flagged (test : List Flag → Bool) (m : Mode) (s : List ℕ) (o : Mode) : Type 0 where
@@ -88,19 +72,19 @@ abbrev sync-of : Axis → Mode → Bool → Form
 sync-of axis m minus = LitL (letter axis ∷ sync) (EndL (flagged axis minus m))
 
 other-to : (axis : Axis) (m : Mode) (s : List ℕ) (o : Mode) → OtherL axis m s o → Flagged (only axis) m s o
-unfolding only flagsText flagText withFlags sync
+unfolding only flagsText flagText withFlags sync sign
 other-to axis m s o x =
     ⊎-elim (λ e. record { flags = []; passed = tt; text = e .0; says = e .1 })
-    (λ y. let z = sign-to (sync-of axis m) (y .rest) o (y .then) in
+    (λ y. let z = one-to sign (sync-of axis m) (y .rest) o false true (y .then) in
     record {
-      flags = record { axis = axis; minus = z .minus } ∷ [];
+      flags = record { axis = axis; minus = z .which } ∷ [];
       passed = same-self axis;
       text = cc (y .text, z .text, z .then .text, z .then .then .0);
       says = z .then .then .1;
     }) x
 
 other-back : (axis : Axis) (m : Mode) (s : List ℕ) (o : Mode) → Flagged (only axis) m s o → OtherL axis m s o
-unfolding only flagsText flagText withFlags sync
+unfolding only flagsText flagText withFlags sync sign
 other-back axis m s o x = by-flags (x .flags) (x .passed) (x .text) (x .says)
   where
     by-flags : (fs : List Flag) → T (only axis fs) → s ≡ flagsText fs → o ≡ withFlags m fs → OtherL axis m s o
@@ -111,9 +95,9 @@ other-back axis m s o x = by-flags (x .flags) (x .passed) (x .text) (x .says)
           rest = sign (f .minus) ∷ letter axis ∷ sync;
           text = e ∙ ap (λ (a : Axis). 0x20 ∷ sign (f .minus) ∷ letter a ∷ sync) (same-is axis (f .axis) t);
           then =
-              sign-back (sync-of axis m) (sign (f .minus) ∷ letter axis ∷ sync) o
+              one-back sign (sync-of axis m) (sign (f .minus) ∷ letter axis ∷ sync) o false true
               (record {
-                minus = f .minus;
+                which = f .minus;
                 rest = letter axis ∷ sync;
                 text = refl;
                 then =
@@ -122,7 +106,8 @@ other-back axis m s o x = by-flags (x .flags) (x .passed) (x .text) (x .says)
                       text = refl;
                       then = (refl, h ∙ ap (λ (a : Axis). flagged a (f .minus) m) (same-is axis (f .axis) t));
                     };
-              });
+              })
+              (two-signs (f .minus));
         })
     by-flags (f ∷ g ∷ fs) t e h = absurd t
 
@@ -160,21 +145,21 @@ once-less f (g ∷ []) t = axes-other (f .axis) (g .axis) t
 once-less f (g ∷ h ∷ fs) t = absurd t
 
 pub flags-to : (m : Mode) (s : List ℕ) (o : Mode) → FlagsL m s o → Flagged eachOnce m s o
-unfolding eachOnce flagsText flagText withFlags sync
+unfolding eachOnce flagsText flagText withFlags sync sign letter
 flags-to m s o x =
     ⊎-elim (λ e. record { flags = []; passed = tt; text = e .0; says = e .1 })
-    (λ y. let z = sign-to (AxisL m) (y .rest) o (y .then) in
-    let w = letter-to (first-of m (z .minus)) (z .rest) o (z .then) in
-    let u = other-to (otherAxis (w .axis)) (flagged (w .axis) (z .minus) m) (w .then .rest) o (w .then .then) in
+    (λ y. let z = one-to sign (AxisL m) (y .rest) o false true (y .then) in
+    let w = one-to letter (first-of m (z .which)) (z .rest) o horizontal vertical (z .then) in
+    let u = other-to (otherAxis (w .which)) (flagged (w .which) (z .which) m) (w .then .rest) o (w .then .then) in
     record {
-      flags = record { axis = w .axis; minus = z .minus } ∷ u .flags;
-      passed = once-more (record { axis = w .axis; minus = z .minus }) (u .flags) (u .passed);
+      flags = record { axis = w .which; minus = z .which } ∷ u .flags;
+      passed = once-more (record { axis = w .which; minus = z .which }) (u .flags) (u .passed);
       text = cc (y .text, z .text, w .text, w .then .text, u .text);
       says = u .says;
     }) x
 
 pub flags-back : (m : Mode) (s : List ℕ) (o : Mode) → Flagged eachOnce m s o → FlagsL m s o
-unfolding eachOnce flagsText flagText withFlags sync
+unfolding eachOnce flagsText flagText withFlags sync sign letter
 flags-back m s o x = by-flags (x .flags) (x .passed) (x .text) (x .says)
   where
     by-flags : (fs : List Flag) → T (eachOnce fs) → s ≡ flagsText fs → o ≡ withFlags m fs → FlagsL m s o
@@ -185,15 +170,15 @@ flags-back m s o x = by-flags (x .flags) (x .passed) (x .text) (x .says)
           rest = flagText f ++ flagsText fs;
           text = e;
           then =
-              sign-back (AxisL m) (flagText f ++ flagsText fs) o
+              one-back sign (AxisL m) (flagText f ++ flagsText fs) o false true
               (record {
-                minus = f .minus;
+                which = f .minus;
                 rest = letter (f .axis) ∷ sync ++ flagsText fs;
                 text = refl;
                 then =
-                    letter-back (first-of m (f .minus)) (letter (f .axis) ∷ sync ++ flagsText fs) o
+                    one-back letter (first-of m (f .minus)) (letter (f .axis) ∷ sync ++ flagsText fs) o horizontal vertical
                     (record {
-                      axis = f .axis;
+                      which = f .axis;
                       rest = sync ++ flagsText fs;
                       text = refl;
                       then =
@@ -204,8 +189,10 @@ flags-back m s o x = by-flags (x .flags) (x .passed) (x .text) (x .says)
                                 other-back (otherAxis (f .axis)) (flagged (f .axis) (f .minus) m) (flagsText fs) o
                                 (record { flags = fs; passed = once-less f fs t; text = refl; says = h });
                           };
-                    });
-              });
+                    })
+                    (two-axes (f .axis));
+              })
+              (two-signs (f .minus));
         })
 
 -- what a line says that has these flags

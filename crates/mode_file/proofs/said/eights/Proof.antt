@@ -7,29 +7,17 @@ use Rattle.mode_file.proofs.Clamped.{last-even}
 use Rattle.mode_file.proofs.said.eights.Statement.{statement}
 use Rattle.mode_file.proofs.said.eights.Tie as tie
 
-array-read-if1 : tie.Need-array-read-if1
-array-read-if1 c = search needs
-
 returns : tie.Need-returns
 unfolding allEights every
 returns c = simp (ne-eqb _ _ (c .if1 .taken))
-
-array-read-if2 : tie.Need-array-read-if2
-array-read-if2 c = search needs
 
 returns-2 : tie.Need-returns-2
 unfolding allEights every
 returns-2 c = simp (eq-eqb _ _ (c .before .if1 .left), ne-eqb _ _ (c .if2 .taken))
 
-array-read-if3 : tie.Need-array-read-if3
-array-read-if3 c = search needs
-
 returns-3 : tie.Need-returns-3
 unfolding allEights every
 returns-3 c = simp (eq-eqb _ _ (c .before .before .if1 .left), eq-eqb _ _ (c .before .if2 .left), ne-eqb _ _ (c .if3 .taken))
-
-array-read-result : tie.Need-array-read-result
-array-read-result c = search needs
 
 returns-4 : tie.Need-returns-4
 returns-4 c = last-even (c .before .before .before .args .t1) (c .before .before .if1 .left) (c .before .if2 .left) (c .if3 .left)
@@ -38,11 +26,11 @@ pub eights-spec : {M : Type 1} → statement M
 eights-spec =
     tie.close
     (tie.spec
-    array-read-if1
+    (λ c. search needs)
     returns
-    array-read-if2
+    (λ c. search needs)
     returns-2
-    array-read-if3
+    (λ c. search needs)
     returns-3
-    array-read-result
+    (λ c. search needs)
     returns-4)

@@ -4,12 +4,9 @@ use Rattle.mode_file.specs.Said.{flagStore, flagReach}
 use Rattle.mode_file.proofs.said.flag_store.Statement.{statement}
 use Rattle.mode_file.proofs.said.flag_store.Tie as tie
 
-flag-bits-requires : tie.Need-flag-bits-requires
-flag-bits-requires c κs = search needs
-
 returns : tie.Need-returns
 unfolding flagStore flagReach
 returns c = cc (c .flag-bits .ensures)
 
 pub flag-store-spec : {M : Type 1} → statement M
-flag-store-spec = tie.close (tie.spec flag-bits-requires returns)
+flag-store-spec = tie.close (tie.spec (λ c κs. search needs) returns)

@@ -12,7 +12,9 @@ returns c = rw (c .if1 .taken)
 
 returns-2 : tie.Need-returns-2
 unfolding clockFits
-returns-2 c = let z : c .before .args .khz ≡ 0 → ⊥ = c .if1 .left in rw (le-leb 1 (c .before .args .khz) (omega (arith, z)))
+returns-2 c =
+    let args = c .before .args in
+    let z : args .khz ≡ 0 → ⊥ = c .if1 .left in rw (le-leb 1 (args .khz) (omega (arith, z)))
 
 pub clock-fits-spec : {M : Type 1} → statement M
 clock-fits-spec = tie.close (tie.spec returns returns-2)

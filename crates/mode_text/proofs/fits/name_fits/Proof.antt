@@ -11,11 +11,8 @@ returns c = name-empty (c .before .before .args .name .now) (c .if1 .taken)
 returns-2 : tie.Need-returns-2
 returns-2 c = name-long (c .before .before .before .args .name .now) (c .before .if1 .left) (c .if2 .taken)
 
-named-requires : tie.Need-named-requires
-named-requires c κs = search needs
-
 returns-3 : tie.Need-returns-3
 returns-3 c = c .named .ensures ∙ name-short (c .before .before .before .before .args .name .now) (c .before .before .if1 .left) (c .before .if2 .left)
 
 pub name-fits-spec : {M : Type 1} → statement M
-name-fits-spec = tie.close (tie.spec returns returns-2 named-requires returns-3)
+name-fits-spec = tie.close (tie.spec returns returns-2 (λ c κs. search needs) returns-3)

@@ -20,25 +20,15 @@ abbrev μ-loop : tie.MeasureT-loop
 loop-holds : tie.Need-loop-holds Inv-loop μ-loop
 loop-holds c = (omega arith, refl)
 
-shared-slice-read-name-byte : tie.Need-shared-slice-read-name-byte Inv-loop μ-loop
-shared-slice-read-name-byte c = search needs
-
-name-byte-requires : tie.Need-name-byte-requires Inv-loop μ-loop
-name-byte-requires c κs = search needs
-
 returns : tie.Need-returns Inv-loop μ-loop
 returns c =
-    sym (c .before .before .before .before .loop .inv .1 ∙ byte-named (c .before .before .before .before .before .before .args .name .now) (c .before .before .before .before .loop .i) (c .before .before .before .loop-test .taken) ∙ ap (λ (b : Bool). b && every nameByte (drop (c .before .before .before .before .loop .i + 1) (c .before .before .before .before .before .before .args .name .now))) (sym (c .before .name-byte .ensures) ∙ not-true _ (c .if1 .taken)))
-
-add-i : tie.Need-add-i Inv-loop μ-loop
-add-i c = search needs
-
-loop-less : tie.Need-loop-less Inv-loop μ-loop
-loop-less c = search needs
+    let args = c .before .before .before .before .before .before .args in
+    sym (c .before .before .before .before .loop .inv .1 ∙ byte-named (args .name .now) (c .before .before .before .before .loop .i) (c .before .before .before .loop-test .taken) ∙ ap (λ (b : Bool). b && every nameByte (drop (c .before .before .before .before .loop .i + 1) (args .name .now))) (sym (c .before .name-byte .ensures) ∙ not-true _ (c .if1 .taken)))
 
 loop-again : tie.Need-loop-again Inv-loop μ-loop
 loop-again c =
-    (omega arith, c .before .before .before .before .loop .inv .1 ∙ byte-named (c .before .before .before .before .before .before .args .name .now) (c .before .before .before .before .loop .i) (c .before .before .before .loop-test .taken) ∙ ap (λ (b : Bool). b && every nameByte (drop (c .before .before .before .before .loop .i + 1) (c .before .before .before .before .before .before .args .name .now))) (sym (c .before .name-byte .ensures) ∙ not-false _ (c .if1 .left)))
+    let args = c .before .before .before .before .before .before .args in
+    (omega arith, c .before .before .before .before .loop .inv .1 ∙ byte-named (args .name .now) (c .before .before .before .before .loop .i) (c .before .before .before .loop-test .taken) ∙ ap (λ (b : Bool). b && every nameByte (drop (c .before .before .before .before .loop .i + 1) (args .name .now))) (sym (c .before .name-byte .ensures) ∙ not-false _ (c .if1 .left)))
 
 returns-2 : tie.Need-returns-2 Inv-loop μ-loop
 returns-2 c = sym (c .before .loop .inv .1 ∙ all-named (c .before .before .before .args .name .now) (c .before .loop .i) (c .loop-test .left))
@@ -50,10 +40,10 @@ named-spec =
     Inv-loop
     μ-loop
     loop-holds
-    shared-slice-read-name-byte
-    name-byte-requires
+    (λ c. search needs)
+    (λ c κs. search needs)
     returns
-    add-i
-    loop-less
+    (λ c. search needs)
+    (λ c. search needs)
     loop-again
     returns-2)

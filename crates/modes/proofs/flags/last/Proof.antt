@@ -11,60 +11,40 @@ use Rattle.modes.proofs.StagesRead.{word-short, word-full}
 use Rattle.modes.proofs.flags.last.Statement.{statement}
 use Rattle.modes.proofs.flags.last.Tie as tie
 
-letters-requires : tie.Need-letters-requires
-letters-requires c κs = search needs
-
-add-bad : tie.Need-add-bad
-add-bad c = search needs
-
-bad-requires : tie.Need-bad-requires
-bad-requires c κs = search needs
-
 returns : tie.Need-returns
 unfolding sync
-returns c = c .bad .ensures ∙ ap parsedOf (sym (word-short (c .before .before .before .before .args .line .now) (c .before .before .before .before .args .at) (letter (axisOf (c .before .before .before .before .args .vertical)) ∷ sync) (atEnd (flagged (axisOf (c .before .before .before .before .args .vertical)) (c .before .before .before .before .args .minus) (c .before .before .before .before .args .mode))) (c .before .before .letters .result) (c .before .before .letters .ensures .0) (c .before .if1 .taken)))
-
-add-if2 : tie.Need-add-if2
-add-if2 c = search needs
-
-add-bad-2 : tie.Need-add-bad-2
-add-bad-2 c = search needs
-
-bad-requires-2 : tie.Need-bad-requires-2
-bad-requires-2 c κs = search needs
+returns c =
+    let args = c .before .before .before .before .args in
+    c .bad .ensures ∙ ap parsedOf (sym (word-short (args .line .now) (args .at) (letter (axisOf (args .vertical)) ∷ sync) (atEnd (flagged (axisOf (args .vertical)) (args .minus) (args .mode))) (c .before .before .letters .result) (c .before .before .letters .ensures .0) (c .before .if1 .taken)))
 
 returns-2 : tie.Need-returns-2
 unfolding sync
 returns-2 c =
+    let args = c .before .before .before .before .before .args in
     c .bad2 .ensures ∙ ap parsedOf
-    (sym (word-full (c .before .before .before .before .before .args .line .now) (c .before .before .before .before .before .args .at) (letter (axisOf (c .before .before .before .before .before .args .vertical)) ∷ sync) (atEnd (flagged (axisOf (c .before .before .before .before .before .args .vertical)) (c .before .before .before .before .before .args .minus) (c .before .before .before .before .before .args .mode))) (c .before .before .before .letters .result) (c .before .before .before .letters .ensures .0) (c .before .before .if1 .left)
-    ∙ end-not (c .before .before .before .before .before .args .line .now) (c .before .before .before .before .before .args .at + 5) (flagged (axisOf (c .before .before .before .before .before .args .vertical)) (c .before .before .before .before .before .args .minus) (c .before .before .before .before .before .args .mode)) (c .before .if2 .taken)))
-
-flagged-requires : tie.Need-flagged-requires
-flagged-requires c κs = search needs
-
-said-requires : tie.Need-said-requires
-said-requires c κs = search needs
+    (sym (word-full (args .line .now) (args .at) (letter (axisOf (args .vertical)) ∷ sync) (atEnd (flagged (axisOf (args .vertical)) (args .minus) (args .mode))) (c .before .before .before .letters .result) (c .before .before .before .letters .ensures .0) (c .before .before .if1 .left)
+    ∙ end-not (args .line .now) (args .at + 5) (flagged (axisOf (args .vertical)) (args .minus) (args .mode)) (c .before .if2 .taken)))
 
 returns-3 : tie.Need-returns-3
 unfolding sync
 returns-3 c =
+    let args = c .before .before .before .before .before .before .args in
     c .said .ensures ∙ ap (λ (m : Mode). parsedOf (accepted m)) (c .before .flagged .ensures) ∙ ap parsedOf
-    (sym (word-full (c .before .before .before .before .before .before .args .line .now) (c .before .before .before .before .before .before .args .at) (letter (axisOf (c .before .before .before .before .before .before .args .vertical)) ∷ sync) (atEnd (flagged (axisOf (c .before .before .before .before .before .before .args .vertical)) (c .before .before .before .before .before .before .args .minus) (c .before .before .before .before .before .before .args .mode))) (c .before .before .before .before .letters .result) (c .before .before .before .before .letters .ensures .0) (c .before .before .before .if1 .left)
-    ∙ end-there (c .before .before .before .before .before .before .args .line .now) (c .before .before .before .before .before .before .args .at + 5) (flagged (axisOf (c .before .before .before .before .before .before .args .vertical)) (c .before .before .before .before .before .before .args .minus) (c .before .before .before .before .before .before .args .mode)) (c .before .before .if2 .left)))
+    (sym (word-full (args .line .now) (args .at) (letter (axisOf (args .vertical)) ∷ sync) (atEnd (flagged (axisOf (args .vertical)) (args .minus) (args .mode))) (c .before .before .before .before .letters .result) (c .before .before .before .before .letters .ensures .0) (c .before .before .before .if1 .left)
+    ∙ end-there (args .line .now) (args .at + 5) (flagged (axisOf (args .vertical)) (args .minus) (args .mode)) (c .before .before .if2 .left)))
 
 pub last-spec : {M : Type 1} → statement M
 last-spec =
     tie.close
     (tie.spec
-    letters-requires
-    add-bad
-    bad-requires
+    (λ c κs. search needs)
+    (λ c. search needs)
+    (λ c κs. search needs)
     returns
-    add-if2
-    add-bad-2
-    bad-requires-2
+    (λ c. search needs)
+    (λ c. search needs)
+    (λ c κs. search needs)
     returns-2
-    flagged-requires
-    said-requires
+    (λ c κs. search needs)
+    (λ c κs. search needs)
     returns-3)

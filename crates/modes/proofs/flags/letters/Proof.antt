@@ -9,33 +9,25 @@ use Rattle.modes.specs.Scan.{axisOf, matchedIn, sync}
 use Rattle.modes.proofs.flags.letters.Statement.{statement}
 use Rattle.modes.proofs.flags.letters.Tie as tie
 
-slice-aggregate-matched : tie.Need-slice-aggregate-matched
-slice-aggregate-matched c = search needs
-
-matched-requires : tie.Need-matched-requires
-matched-requires c κs = search needs
-
-slice-aggregate-matched-2 : tie.Need-slice-aggregate-matched-2
-slice-aggregate-matched-2 c = search needs
-
-matched-requires-2 : tie.Need-matched-requires-2
-matched-requires-2 c κs = search needs
-
 returns : tie.Need-returns
 unfolding letter sync
-returns c = (c .matched .ensures .0 ∙ ap (λ (b : Bool). matchedIn (letter (axisOf b) ∷ sync) (drop (c .before .before .before .before .args .at) (c .before .before .before .before .args .line .now))) (sym (c .before .before .if1 .taken)), c .matched .ensures .1)
+returns c =
+    let args = c .before .before .before .before .args in
+    (c .matched .ensures .0 ∙ ap (λ (b : Bool). matchedIn (letter (axisOf b) ∷ sync) (drop (args .at) (args .line .now))) (sym (c .before .before .if1 .taken)), c .matched .ensures .1)
 
 returns-2 : tie.Need-returns-2
 unfolding letter sync
-returns-2 c = (c .matched2 .ensures .0 ∙ ap (λ (b : Bool). matchedIn (letter (axisOf b) ∷ sync) (drop (c .before .before .before .before .args .at) (c .before .before .before .before .args .line .now))) (sym (c .before .before .if1 .left)), c .matched2 .ensures .1)
+returns-2 c =
+    let args = c .before .before .before .before .args in
+    (c .matched2 .ensures .0 ∙ ap (λ (b : Bool). matchedIn (letter (axisOf b) ∷ sync) (drop (args .at) (args .line .now))) (sym (c .before .before .if1 .left)), c .matched2 .ensures .1)
 
 pub letters-spec : {M : Type 1} → statement M
 letters-spec =
     tie.close
     (tie.spec
-    slice-aggregate-matched
-    matched-requires
-    slice-aggregate-matched-2
-    matched-requires-2
+    (λ c. search needs)
+    (λ c κs. search needs)
+    (λ c. search needs)
+    (λ c κs. search needs)
     returns
     returns-2)

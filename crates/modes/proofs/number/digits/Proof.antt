@@ -17,37 +17,42 @@ abbrev μ-loop : tie.MeasureT-loop
 μ-loop line at most end₀ left₀ value₀ end left value = length line - end
 
 loop-holds : tie.Need-loop-holds Inv-loop μ-loop
-loop-holds c = spelling digitRunner (c .before .args .line .now) (c .before .args .at) (c .before .args .most) 0 1 (c .before .pre .0) (omega arith)
-
-takes-digit-requires : tie.Need-takes-digit-requires Inv-loop μ-loop
-takes-digit-requires c κs = search needs
+loop-holds c =
+    let args = c .before .args in
+    spelling digitRunner (args .line .now) (args .at) (args .most) 0 1 (c .before .pre .0) (omega arith)
 
 shared-slice-read-spelled : tie.Need-shared-slice-read-spelled Inv-loop μ-loop
-shared-slice-read-spelled c = digit-there (c .before .before .before .before .before .args .line .now) (c .before .before .before .before .before .args .at) (c .before .before .before .before .before .args .most) 0 1 (c .before .before .before .loop .end) (c .before .before .before .loop .left) (c .before .before .before .loop .value) (sym (c .before .before .takes-digit .ensures) ∙ c .before .if1 .taken) .0
+shared-slice-read-spelled c =
+    let args = c .before .before .before .before .before .args in
+    digit-there (args .line .now) (args .at) (args .most) 0 1 (c .before .before .before .loop .end) (c .before .before .before .loop .left) (c .before .before .before .loop .value) (sym (c .before .before .takes-digit .ensures) ∙ c .before .if1 .taken) .0
 
 spelled-requires : tie.Need-spelled-requires Inv-loop μ-loop
 spelled-requires c κs = bound-most (c .before .before .before .loop .value) (c .before .before .before .before .before .args .most - c .before .before .before .loop .left) (omega (arith, c .before .before .before .loop .inv .below)) (omega (arith, c .before .before .before .before .before .pre .1))
 
-left-behind-requires : tie.Need-left-behind-requires Inv-loop μ-loop
-left-behind-requires c κs = search needs
-
 add-end : tie.Need-add-end Inv-loop μ-loop
-add-end c = search (needs, digit-there (c .before .before .before .before .before .before .before .args .line .now) (c .before .before .before .before .before .before .before .args .at) (c .before .before .before .before .before .before .before .args .most) 0 1 (c .before .before .before .before .before .loop .end) (c .before .before .before .before .before .loop .left) (c .before .before .before .before .before .loop .value) (sym (c .before .before .before .before .takes-digit .ensures) ∙ c .before .before .before .if1 .taken) .0)
+add-end c =
+    let args = c .before .before .before .before .before .before .before .args in
+    search (needs, digit-there (args .line .now) (args .at) (args .most) 0 1 (c .before .before .before .before .before .loop .end) (c .before .before .before .before .before .loop .left) (c .before .before .before .before .before .loop .value) (sym (c .before .before .before .before .takes-digit .ensures) ∙ c .before .before .before .if1 .taken) .0)
 
 loop-less : tie.Need-loop-less Inv-loop μ-loop
-loop-less c = omega (arith, digit-there (c .before .before .before .before .before .before .before .args .line .now) (c .before .before .before .before .before .before .before .args .at) (c .before .before .before .before .before .before .before .args .most) 0 1 (c .before .before .before .before .before .loop .end) (c .before .before .before .before .before .loop .left) (c .before .before .before .before .before .loop .value) (sym (c .before .before .before .before .takes-digit .ensures) ∙ c .before .before .before .if1 .taken) .0)
+loop-less c =
+    let args = c .before .before .before .before .before .before .before .args in
+    omega (arith, digit-there (args .line .now) (args .at) (args .most) 0 1 (c .before .before .before .before .before .loop .end) (c .before .before .before .before .before .loop .left) (c .before .before .before .before .before .loop .value) (sym (c .before .before .before .before .takes-digit .ensures) ∙ c .before .before .before .if1 .taken) .0)
 
 loop-again : tie.Need-loop-again Inv-loop μ-loop
-loop-again c = digits-next (c .before .before .before .before .before .before .before .args .line .now) (c .before .before .before .before .before .before .before .args .at) (c .before .before .before .before .before .before .before .args .most) 0 1 (c .before .before .before .before .before .loop .end) (c .before .before .before .before .before .loop .left) (c .before .before .before .before .before .loop .value) (omega arith) (c .before .before .before .before .before .loop .inv) (sym (c .before .before .before .before .takes-digit .ensures) ∙ c .before .before .before .if1 .taken) (c .before .spelled .result) (c .left-behind .result) (c .before .spelled .ensures) (c .left-behind .ensures)
+loop-again c =
+    let args = c .before .before .before .before .before .before .before .args in
+    digits-next (args .line .now) (args .at) (args .most) 0 1 (c .before .before .before .before .before .loop .end) (c .before .before .before .before .before .loop .left) (c .before .before .before .before .before .loop .value) (omega arith) (c .before .before .before .before .before .loop .inv) (sym (c .before .before .before .before .takes-digit .ensures) ∙ c .before .before .before .if1 .taken) (c .before .spelled .result) (c .left-behind .result) (c .before .spelled .ensures) (c .left-behind .ensures)
 
 returns : tie.Need-returns Inv-loop μ-loop
-returns c = (
-  digits-stop (c .before .before .before .before .args .line .now) (c .before .before .before .before .args .at) (c .before .before .before .before .args .most) 0 1 (c .before .before .loop .end) (c .before .before .loop .left) (c .before .before .loop .value) (c .before .before .loop .inv) (sym (c .before .takes-digit .ensures) ∙ c .if1 .left),
-  (
-    c .before .before .loop .inv .fits,
-    lt-of-lt-of-le (c .before .before .loop .inv .below) (omega (arith, pow-le-pow-right {n = 10} (omega arith) {i = c .before .before .before .before .args .most - c .before .before .loop .left} {j = c .before .before .before .before .args .most} (omega arith))),
-  ),
-)
+returns c =
+    let args = c .before .before .before .before .args in (
+      digits-stop (args .line .now) (args .at) (args .most) 0 1 (c .before .before .loop .end) (c .before .before .loop .left) (c .before .before .loop .value) (c .before .before .loop .inv) (sym (c .before .takes-digit .ensures) ∙ c .if1 .left),
+      (
+        c .before .before .loop .inv .fits,
+        lt-of-lt-of-le (c .before .before .loop .inv .below) (omega (arith, pow-le-pow-right {n = 10} (omega arith) {i = args .most - c .before .before .loop .left} {j = args .most} (omega arith))),
+      ),
+    )
 
 pub digits-spec : {M : Type 1} → statement M
 digits-spec =
@@ -56,10 +61,10 @@ digits-spec =
     Inv-loop
     μ-loop
     loop-holds
-    takes-digit-requires
+    (λ c κs. search needs)
     shared-slice-read-spelled
     spelled-requires
-    left-behind-requires
+    (λ c κs. search needs)
     add-end
     loop-less
     loop-again

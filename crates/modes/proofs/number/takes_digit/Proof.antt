@@ -8,15 +8,9 @@ use Rattle.modes.proofs.number.takes_digit.Tie as tie
 returns : tie.Need-returns
 returns c = simp (le-ltb _ _ (c .if1 .taken))
 
-shared-slice-read-if2 : tie.Need-shared-slice-read-if2
-shared-slice-read-if2 c = search needs
-
 returns-2 : tie.Need-returns-2
 unfolding digit
 returns-2 c = simp (lt-ltb _ _ (c .before .before .if1 .left), lt-leb _ _ (c .if2 .taken))
-
-shared-slice-read-if3 : tie.Need-shared-slice-read-if3
-shared-slice-read-if3 c = search needs
 
 returns-3 : tie.Need-returns-3
 unfolding digit
@@ -29,4 +23,4 @@ returns-4 c = simp (lt-ltb _ _ (c .before .before .before .before .if1 .left), l
 pub takes-digit-spec : {M : Type 1} → statement M
 takes-digit-spec =
     tie.close
-    (tie.spec returns shared-slice-read-if2 returns-2 shared-slice-read-if3 returns-3 returns-4)
+    (tie.spec returns (λ c. search needs) returns-2 (λ c. search needs) returns-3 returns-4)

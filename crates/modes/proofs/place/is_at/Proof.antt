@@ -7,9 +7,6 @@ use Rattle.modes.specs.Scan.{isAt}
 use Rattle.modes.proofs.place.is_at.Statement.{statement}
 use Rattle.modes.proofs.place.is_at.Tie as tie
 
-shared-slice-read-result : tie.Need-shared-slice-read-result
-shared-slice-read-result c = search needs
-
 returns : tie.Need-returns
 unfolding isAt
 returns c = (simp (lt-ltb _ _ (c .before .if1 .taken)), λ e. c .before .if1 .taken)
@@ -19,4 +16,4 @@ unfolding isAt
 returns-2 c = (simp (le-ltb _ _ (c .if1 .left)), λ e. absurd (true≢false (sym e)))
 
 pub is-at-spec : {M : Type 1} → statement M
-is-at-spec = tie.close (tie.spec shared-slice-read-result returns returns-2)
+is-at-spec = tie.close (tie.spec (λ c. search needs) returns returns-2)

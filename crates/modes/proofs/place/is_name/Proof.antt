@@ -6,12 +6,6 @@ use borrow.Author.Tests.{lt-ltb, le-ltb}
 use Rattle.modes.proofs.place.is_name.Statement.{statement}
 use Rattle.modes.proofs.place.is_name.Tie as tie
 
-shared-slice-read-name-byte : tie.Need-shared-slice-read-name-byte
-shared-slice-read-name-byte c = search needs
-
-name-byte-requires : tie.Need-name-byte-requires
-name-byte-requires c κs = search needs
-
 returns : tie.Need-returns
 returns c = (c .name-byte .ensures ∙ simp (lt-ltb _ _ (c .before .before .if1 .taken)), λ e. c .before .before .if1 .taken)
 
@@ -20,4 +14,4 @@ returns-2 c = (simp (le-ltb _ _ (c .if1 .left)), λ e. absurd (true≢false (sym
 
 pub is-name-spec : {M : Type 1} → statement M
 is-name-spec =
-    tie.close (tie.spec shared-slice-read-name-byte name-byte-requires returns returns-2)
+    tie.close (tie.spec (λ c. search needs) (λ c κs. search needs) returns returns-2)

@@ -15,41 +15,31 @@ abbrev μ-loop : tie.MeasureT-loop
 μ-loop line at word n₀ n = length word - n
 
 loop-holds : tie.Need-loop-holds Inv-loop μ-loop
-loop-holds c = matching (c .before .before .args .line .now) (c .before .before .args .word .now) (c .before .before .args .at) (c .before .before .pre)
-
-add-is-at : tie.Need-add-is-at Inv-loop μ-loop
-add-is-at c = search needs
-
-shared-slice-read-is-at : tie.Need-shared-slice-read-is-at Inv-loop μ-loop
-shared-slice-read-is-at c = search needs
-
-is-at-requires : tie.Need-is-at-requires Inv-loop μ-loop
-is-at-requires c κs = search needs
+loop-holds c =
+    let args = c .before .before .args in
+    matching (args .line .now) (args .word .now) (args .at) (c .before .before .pre)
 
 returns : tie.Need-returns Inv-loop μ-loop
-returns c = (
-  matching-off (c .before .before .before .before .before .before .before .args .line .now) (c .before .before .before .before .before .before .before .args .word .now) (c .before .before .before .before .before .before .before .args .at)
-      (c .before .before .before .before .loop .n) (c .before .before .before .before .loop .inv) (search needs) (sym (c .before .is-at .ensures .0) ∙ not-true _ (c .if1 .taken)),
-  c .before .before .before .before .loop .inv .fits,
-)
-
-add-n : tie.Need-add-n Inv-loop μ-loop
-add-n c = search needs
-
-loop-less : tie.Need-loop-less Inv-loop μ-loop
-loop-less c = search needs
+returns c =
+    let args = c .before .before .before .before .before .before .before .args in (
+      matching-off (args .line .now) (args .word .now) (args .at)
+          (c .before .before .before .before .loop .n) (c .before .before .before .before .loop .inv) (search needs) (sym (c .before .is-at .ensures .0) ∙ not-true _ (c .if1 .taken)),
+      c .before .before .before .before .loop .inv .fits,
+    )
 
 loop-again : tie.Need-loop-again Inv-loop μ-loop
 loop-again c =
-    matching-next (c .before .before .before .before .before .before .before .args .line .now) (c .before .before .before .before .before .before .before .args .word .now) (c .before .before .before .before .before .before .before .args .at)
+    let args = c .before .before .before .before .before .before .before .args in
+    matching-next (args .line .now) (args .word .now) (args .at)
     (c .before .before .before .before .loop .n) (c .before .before .before .before .loop .inv) (search needs) (sym (c .before .is-at .ensures .0) ∙ not-false _ (c .if1 .left))
 
 returns-2 : tie.Need-returns-2 Inv-loop μ-loop
-returns-2 c = (
-  matching-end (c .before .before .before .before .args .line .now) (c .before .before .before .before .args .word .now) (c .before .before .before .before .args .at)
-      (c .before .loop .n) (c .before .loop .inv) (search needs),
-  c .before .loop .inv .fits,
-)
+returns-2 c =
+    let args = c .before .before .before .before .args in (
+      matching-end (args .line .now) (args .word .now) (args .at)
+          (c .before .loop .n) (c .before .loop .inv) (search needs),
+      c .before .loop .inv .fits,
+    )
 
 pub matched-spec : {M : Type 1} → statement M
 matched-spec =
@@ -58,11 +48,11 @@ matched-spec =
     Inv-loop
     μ-loop
     loop-holds
-    add-is-at
-    shared-slice-read-is-at
-    is-at-requires
+    (λ c. search needs)
+    (λ c. search needs)
+    (λ c κs. search needs)
     returns
-    add-n
-    loop-less
+    (λ c. search needs)
+    (λ c. search needs)
     loop-again
     returns-2)

@@ -16,37 +16,33 @@ abbrev μ-loop : tie.MeasureT-loop
 μ-loop line at n₀ n = length line - (at + n)
 
 loop-holds : tie.Need-loop-holds Inv-loop μ-loop
-loop-holds c = naming (c .before .args .line .now) (c .before .args .at) (c .before .pre)
-
-add-is-name : tie.Need-add-is-name Inv-loop μ-loop
-add-is-name c = search needs
-
-is-name-requires : tie.Need-is-name-requires Inv-loop μ-loop
-is-name-requires c κs = search needs
+loop-holds c =
+    let args = c .before .args in
+    naming (args .line .now) (args .at) (c .before .pre)
 
 returns : tie.Need-returns Inv-loop μ-loop
-returns c = (
-  naming-off (c .before .before .before .before .before .args .line .now) (c .before .before .before .before .before .args .at) (c .before .before .before .loop .n) (c .before .before .before .loop .inv)
-      (sym (c .before .is-name .ensures .0) ∙ not-true _ (c .if1 .taken)),
-  c .before .before .before .loop .inv .fits,
-)
-
-add-n : tie.Need-add-n Inv-loop μ-loop
-add-n c = search needs
+returns c =
+    let args = c .before .before .before .before .before .args in (
+      naming-off (args .line .now) (args .at) (c .before .before .before .loop .n) (c .before .before .before .loop .inv)
+          (sym (c .before .is-name .ensures .0) ∙ not-true _ (c .if1 .taken)),
+      c .before .before .before .loop .inv .fits,
+    )
 
 loop-less : tie.Need-loop-less Inv-loop μ-loop
 loop-less c = omega (arith, c .before .is-name .ensures .1 (not-false _ (c .if1 .left)))
 
 loop-again : tie.Need-loop-again Inv-loop μ-loop
 loop-again c =
-    naming-next (c .before .before .before .before .before .args .line .now) (c .before .before .before .before .before .args .at) (c .before .before .before .loop .n) (c .before .before .before .loop .inv) (search needs)
+    let args = c .before .before .before .before .before .args in
+    naming-next (args .line .now) (args .at) (c .before .before .before .loop .n) (c .before .before .before .loop .inv) (search needs)
     (sym (c .before .is-name .ensures .0) ∙ not-false _ (c .if1 .left))
 
 returns-2 : tie.Need-returns-2 Inv-loop μ-loop
-returns-2 c = (
-  naming-end (c .before .before .before .args .line .now) (c .before .before .before .args .at) (c .before .loop .n) (c .before .loop .inv) (search needs),
-  c .before .loop .inv .fits,
-)
+returns-2 c =
+    let args = c .before .before .before .args in (
+      naming-end (args .line .now) (args .at) (c .before .loop .n) (c .before .loop .inv) (search needs),
+      c .before .loop .inv .fits,
+    )
 
 pub name-length-spec : {M : Type 1} → statement M
 name-length-spec =
@@ -55,10 +51,10 @@ name-length-spec =
     Inv-loop
     μ-loop
     loop-holds
-    add-is-name
-    is-name-requires
+    (λ c. search needs)
+    (λ c κs. search needs)
     returns
-    add-n
+    (λ c. search needs)
     loop-less
     loop-again
     returns-2)

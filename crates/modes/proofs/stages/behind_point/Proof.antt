@@ -14,46 +14,36 @@ use Rattle.modes.proofs.StagesRead.{decimals-bad, decimals-done, khz-be
 use Rattle.modes.proofs.stages.behind_point.Statement.{statement}
 use Rattle.modes.proofs.stages.behind_point.Tie as tie
 
-decimals-requires : tie.Need-decimals-requires
-decimals-requires c κs = search needs
-
-bad-requires : tie.Need-bad-requires
-bad-requires c κs = search needs
-
 returns : tie.Need-returns
-returns c = c .bad .ensures ∙ ap parsedOf (sym (decimals-bad (c .before .before .before .before .args .line .now) (c .before .before .before .before .args .at) (c .before .before .before .before .args .name) (c .before .before .before .before .args .whole) (c .before .before .decimals .result) (c .before .before .decimals .ensures .0) (simp (le-ltb _ _ (c .before .if1 .taken)))))
-
-bad-requires-2 : tie.Need-bad-requires-2
-bad-requires-2 c κs = search needs
+returns c =
+    let args = c .before .before .before .before .args in
+    c .bad .ensures ∙ ap parsedOf (sym (decimals-bad (args .line .now) (args .at) (args .name) (args .whole) (c .before .before .decimals .result) (c .before .before .decimals .ensures .0) (simp (le-ltb _ _ (c .before .if1 .taken)))))
 
 returns-2 : tie.Need-returns-2
-returns-2 c = c .bad2 .ensures ∙ ap parsedOf (sym (decimals-bad (c .before .before .before .before .before .args .line .now) (c .before .before .before .before .before .args .at) (c .before .before .before .before .before .args .name) (c .before .before .before .before .before .args .whole) (c .before .before .before .decimals .result) (c .before .before .before .decimals .ensures .0) (ap (λ (v : ℕ). ltb (c .before .before .before .decimals .result .left) 3 && ltb 0 v) (c .before .if2 .taken) ∙ and-false (ltb (c .before .before .before .decimals .result .left) 3))))
-
-tens-requires : tie.Need-tens-requires
-tens-requires c κs = search needs
+returns-2 c =
+    let args = c .before .before .before .before .before .args in
+    c .bad2 .ensures ∙ ap parsedOf (sym (decimals-bad (args .line .now) (args .at) (args .name) (args .whole) (c .before .before .before .decimals .result) (c .before .before .before .decimals .ensures .0) (ap (λ (v : ℕ). ltb (c .before .before .before .decimals .result .left) 3 && ltb 0 v) (c .before .if2 .taken) ∙ and-false (ltb (c .before .before .before .decimals .result .left) 3))))
 
 mul-numbered : tie.Need-mul-numbered
 mul-numbered c = record { fits = let z : c .tens .result ≡ 10 ^ (c .before .before .before .decimals .result .left) = c .tens .ensures in rw z (omega (arith, khz-below (c .before .before .before .decimals .result .value) (c .before .before .before .decimals .result .left) (c .before .before .if1 .left) (c .before .before .before .decimals .ensures .1 .1 .1))) }
 
-numbered-requires : tie.Need-numbered-requires
-numbered-requires c κs = search needs
-
 returns-3 : tie.Need-returns-3
 returns-3 c =
+    let args = c .before .before .before .before .before .before .args in
     c .numbered .ensures
-    ∙ ap (λ (t : ℕ). parsedOf (shift (c .before .before .before .before .decimals .result .end) (readNumbers 8 (c .before .before .before .before .before .before .args .name) (c .before .before .before .before .decimals .result .value * t) [] (drop (c .before .before .before .before .decimals .result .end) (c .before .before .before .before .before .before .args .line .now))))) (c .before .tens .ensures)
-    ∙ ap parsedOf (sym (decimals-done (c .before .before .before .before .before .before .args .line .now) (c .before .before .before .before .before .before .args .at) (c .before .before .before .before .before .before .args .name) (c .before .before .before .before .before .before .args .whole) (c .before .before .before .before .decimals .result) (c .before .before .before .before .decimals .ensures .0) (c .before .before .before .if1 .left) (let z : c .before .before .before .before .decimals .result .value ≡ 0 → ⊥ = c .before .before .if2 .left in omega (arith, z))))
+    ∙ ap (λ (t : ℕ). parsedOf (shift (c .before .before .before .before .decimals .result .end) (readNumbers 8 (args .name) (c .before .before .before .before .decimals .result .value * t) [] (drop (c .before .before .before .before .decimals .result .end) (args .line .now))))) (c .before .tens .ensures)
+    ∙ ap parsedOf (sym (decimals-done (args .line .now) (args .at) (args .name) (args .whole) (c .before .before .before .before .decimals .result) (c .before .before .before .before .decimals .ensures .0) (c .before .before .before .if1 .left) (let z : c .before .before .before .before .decimals .result .value ≡ 0 → ⊥ = c .before .before .if2 .left in omega (arith, z))))
 
 pub behind-point-spec : {M : Type 1} → statement M
 behind-point-spec =
     tie.close
     (tie.spec
-    decimals-requires
-    bad-requires
+    (λ c κs. search needs)
+    (λ c κs. search needs)
     returns
-    bad-requires-2
+    (λ c κs. search needs)
     returns-2
-    tens-requires
+    (λ c κs. search needs)
     mul-numbered
-    numbered-requires
+    (λ c κs. search needs)
     returns-3)

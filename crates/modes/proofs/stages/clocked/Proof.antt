@@ -6,23 +6,22 @@ use Rattle.modes.proofs.StagesRead.{token-none, token-some}
 use Rattle.modes.proofs.stages.clocked.Statement.{statement}
 use Rattle.modes.proofs.stages.clocked.Tie as tie
 
-digits-requires : tie.Need-digits-requires
-digits-requires c κs = search needs
-
-bad-requires : tie.Need-bad-requires
-bad-requires c κs = search needs
-
-returns : tie.Need-returns
-unfolding readClock
-returns c = c .bad .ensures ∙ ap parsedOf (sym (token-none (c .before .before .before .before .before .args .line .now) (c .before .before .before .before .before .args .at) 3 (readBehind (c .before .before .before .before .before .args .name)) (c .before .before .before .digits .result) (c .before .before .before .digits .ensures .0) (c .before .if1 .taken)))
-
+-- three digits are less than 1000 MHz
 behind-whole-requires : tie.Need-behind-whole-requires
 behind-whole-requires c κs = search needs
 
+returns : tie.Need-returns
+unfolding readClock
+returns c =
+    let args = c .before .before .before .before .before .args in
+    c .bad .ensures ∙ ap parsedOf (sym (token-none (args .line .now) (args .at) 3 (readBehind (args .name)) (c .before .before .before .digits .result) (c .before .before .before .digits .ensures .0) (c .before .if1 .taken)))
+
 returns-2 : tie.Need-returns-2
 unfolding readClock
-returns-2 c = c .behind-whole .ensures ∙ ap parsedOf (sym (token-some (c .before .before .before .before .before .args .line .now) (c .before .before .before .before .before .args .at) 3 (readBehind (c .before .before .before .before .before .args .name)) (c .before .before .before .digits .result) (c .before .before .before .digits .ensures .0) (c .before .if1 .left)))
+returns-2 c =
+    let args = c .before .before .before .before .before .args in
+    c .behind-whole .ensures ∙ ap parsedOf (sym (token-some (args .line .now) (args .at) 3 (readBehind (args .name)) (c .before .before .before .digits .result) (c .before .before .before .digits .ensures .0) (c .before .if1 .left)))
 
 pub clocked-spec : {M : Type 1} → statement M
 clocked-spec =
-    tie.close (tie.spec digits-requires bad-requires returns behind-whole-requires returns-2)
+    tie.close (tie.spec (λ c κs. search needs) (λ c κs. search needs) returns behind-whole-requires returns-2)
