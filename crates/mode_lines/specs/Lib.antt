@@ -1,0 +1,4 @@
+pub mod Kept
+pub mod Lines
+pub mod Report
+pub mod ClockLine

@@ -1,0 +1,11 @@
+// Modelines of an input, line by line, and what is reported of each; and the line of a file, from a name and a clock in words.
+mod composed;
+mod kept;
+mod reporting;
+mod split;
+
+pub use composed::line_of;
+pub use kept::keep;
+pub use reporting::report;
+pub use split::Taken;
+pub use split::take_line;
