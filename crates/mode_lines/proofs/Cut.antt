@@ -1,6 +1,6 @@
 -- Where a part's first line ends. Assumes nothing.
 use Prim.Native.Nat.{ℕ, suc, _+_, _≤_, _<_}
-use mathlib.Core.Bool.{Bool, true, false, cond, _||_}
+use mathlib.Core.Bool.{Bool, true, false, true≢false}
 use mathlib.Core.List.{List, [], _∷_, _++_}
 use mathlib.Core.Path.{_≡_, refl, sym, ap, _∙_}
 use native.Mathlib.Numerals.{add-one}
@@ -55,6 +55,17 @@ pub up-to-open : (part : List ℕ) → length part ≤ length (upTo part) → ha
 unfolding upTo hasNewline
 up-to-open [] = λ h. refl
 up-to-open (b ∷ s) = by-test (eqb b 0x0A) (λ e. rw e (λ h. absurd (omega (arith, h)))) (λ e. rw e (λ h. up-to-open s (omega (arith, h))))
+
+pub ended-less : (part : List ℕ) → hasNewline part ≡ true → length (upTo part) < length part
+unfolding upTo hasNewline
+ended-less [] = λ h. absurd (true≢false (sym h))
+ended-less (b ∷ s) = by-test (eqb b 0x0A) (λ e. rw e (λ h. omega arith)) (λ e. rw e (λ h. omega (arith, ended-less s h)))
+
+-- without one all of it is the line's
+pub up-to-all : (part : List ℕ) → hasNewline part ≡ false → length (upTo part) ≡ length part
+unfolding upTo hasNewline
+up-to-all [] = λ h. refl
+up-to-all (b ∷ s) = by-test (eqb b 0x0A) (λ e. rw e (λ h. absurd (true≢false h))) (λ e. rw e (λ h. ap suc (up-to-all s h)))
 
 -- a line taken, and how many bytes that took
 module _ (part before : List ℕ) (count : ℕ) (after : List ℕ) (size : ℕ) (kept : ℕ) (es : size ≡ length (upTo part)) (w : Kept before count (take size part) after kept) where

@@ -4,3 +4,6 @@ pub mod Cut
 pub mod Spelling
 pub mod Reports
 pub mod ClockLines
+pub mod ReportsOfLines
+pub mod Going
+pub mod InputLines

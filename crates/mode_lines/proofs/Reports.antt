@@ -5,7 +5,7 @@ use mathlib.Core.List.{List, [], _∷_, _++_, append-nil}
 use mathlib.Core.Path.{_≡_, refl, sym, ap, _∙_, subst}
 use native.Mathlib.Numerals.{add-one}
 use native.Mathlib.Omega.{arith}
-use borrow.Author.Tests.{leb-true, eq-eqb, ne-eqb}
+use borrow.Author.Tests.{leb-true, le-leb, eq-eqb, ne-eqb}
 use lib.Dec.{eqb, leb, lit<}
 use lib.ListN.{length, length-append}
 use Rattle.bits.proofs.Test.{by-test}
@@ -30,7 +30,7 @@ use Rattle.mode_file.specs.declared.verdict.Verdict.the-variants.{Done, Locked,
 use Rattle.mode_file.specs.Verdicts.{numberOf}
 use Rattle.mode_text.specs.Out.{done}
 use Rattle.mode_lines.specs.Kept.{Kept}
-use Rattle.mode_lines.specs.Report.{hexTwo, modeText, reportAnswer, reportLine, reportMost}
+use Rattle.mode_lines.specs.Report.{Reported, hexTwo, modeText, reportAnswer, reportLine, reportMost}
 use Rattle.mode_lines.proofs.Laying.{kept-whole}
 
 -- at most so many digits
@@ -99,3 +99,26 @@ module _ (before : List ℕ) (at : ℕ) (text : List ℕ) where
   a-report e h w =
       let room : at + length text ≤ length before = omega (arith, leb-true (at + 256) (length before) e, h) in
       whole before at text (rw e) room (kept-whole before at text room w)
+
+  -- and no more than has room
+  pub report-ends : {after : List ℕ} {end : ℕ} → leb (at + 256) (length before) ≡ true → length text ≤ reportMost → Kept before at text after end → end ≤ at + 256
+  unfolding reportMost
+  report-ends e h w =
+      let room : at + length text ≤ length before = omega (arith, leb-true (at + 256) (length before) e, h) in
+      omega (arith, kept-whole before at text room w .place, h)
+
+-- with room for it the answer is 0
+pub report-done : (line : List ℕ) (f : File) (number at : ℕ) (before after : List ℕ) (r : Placed) → at + 256 ≤ length before → Reported line f number at before after r
+    → Reported line f number at before after (record { answer = Answered 0; end = r .end })
+unfolding reportAnswer reportMost
+report-done line f number at before after r h w =
+    record {
+      read = w .read;
+      into = w .into;
+      lined =
+          record {
+            answered = sym (rw (le-leb (at + 256) (length before) h));
+            ended = w .lined .ended;
+            bytes = w .lined .bytes;
+          };
+    }

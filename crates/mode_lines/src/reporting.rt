@@ -1,7 +1,7 @@
 // What is reported of a line.
 ghost use mathlib.Core.List.{[], _∷_, _++_};
 ghost use mathlib.Core.Path.{_≡_};
-ghost use Prim.Native.Nat.{_+_, _%_};
+ghost use Prim.Native.Nat.{_+_, _%_, _≤_};
 ghost use lib.Dec.{leb};
 ghost use Rattle.text.specs.Text.{capital as capitalOf, decimal, space, spaced};
 ghost use Rattle.mode_lines.specs.Kept.{Kept};
@@ -110,6 +110,7 @@ fn has_room(room: usize, at: usize) -> bool
 // A line, read into a file, and what is reported of it, from a place of the buffer on; code 11 where fewer than 256 bytes are left there.
 pub fn report(buffer: &mut [u8], at: usize, number: u64, file: File, line: &[u8]) -> Placed
     ensures { λ r. ⌜ Reported (now (line .entry)) file number at (now (buffer .entry)) (now (buffer .exit)) r ⌝ }
+    ensures { λ r. ⌜ r .end ≤ at + 256 ⌝ }
 {
     let read = read_into(line, file);
     if !has_room(buffer.len(), at) {
