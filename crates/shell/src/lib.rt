@@ -6,6 +6,14 @@ mod reading;
 mod saving;
 mod telling;
 
+pub use course::Course;
+pub use course::run_input;
 pub use outlining::outline;
 pub use printing::replay;
+pub use reading::Filled;
+pub use reading::fill;
 pub use saving::snapshot;
+pub use telling::Handed;
+pub use telling::tell;
+pub use telling::tell_failure;
+pub use telling::write_out;
