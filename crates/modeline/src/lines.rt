@@ -6,6 +6,8 @@ use file::Effect;
 use file::File;
 use mode_lines::report_part;
 use shell::fill;
+use shell::nothing_handed;
+use shell::nothing_read;
 use shell::tell;
 use shell::tell_failure;
 use shell::write_out;
@@ -65,7 +67,8 @@ fn take_some(
         };
     }
     let reports: &[u8] = reports;
-    if write_out(b"modeline", &reports[..end]).failed {
+    let handed = write_out(b"modeline", nothing_handed(), &reports[..end]);
+    if handed.has_failed() {
         return Turn {
             used: 0,
             course: ended(before),
@@ -118,8 +121,8 @@ fn take_more(
     kept: &mut [u8; 256],
     reports: &mut [u8; 8192],
 ) -> Course {
-    let read = fill(input);
-    if read.failed {
+    let read = fill(nothing_read(), input);
+    if read.has_failed() {
         tell_failure(b"modeline", b": standard input");
         return ended(before);
     }

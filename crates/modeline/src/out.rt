@@ -3,6 +3,7 @@ use libc::STDERR_FILENO;
 use mode_lines::keep;
 use mode_lines::line_of;
 use shell::run_input;
+use shell::nothing_handed;
 use shell::write_out;
 
 // A refusal in words, with its code.
@@ -38,5 +39,5 @@ pub fn write_line() {
         return;
     }
     let end = keep(&mut line, written.size, b"\n");
-    write_out(b"modeline", &line[..end]);
+    write_out(b"modeline", nothing_handed(), &line[..end]);
 }
