@@ -249,6 +249,7 @@ brought {before = before} goes count so tested test =
       so = sym tested ∙ test;
     }
 
+-- the course with what was handed to be written
 abbrev withHanded : Handed → Course → Course
 withHanded handed c = record { file = c .file; number = c .number; more = c .more; failed = c .failed; read = c .read; handed = handed }
 
