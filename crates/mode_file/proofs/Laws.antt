@@ -26,7 +26,7 @@ use Rattle.timing.proofs.Computed.{table-stored}
 use Rattle.timing.proofs.Kept.{written-sound}
 use Rattle.timing.specs.Table.{table, wide}
 use Rattle.timing.specs.Timing.{numbersOf, timingAnswer, withTiming}
-use Rattle.modes.proofs.Once.{told-good}
+use Rattle.modes.proofs.Once.{told-good, told-once}
 use Rattle.modes.specs.Form.{Parts, Formed, header, spelled, modeOf, Good}
 use Rattle.modes.specs.declared.mode.Mode.{Mode}
 use Rattle.modes.specs.declared.mode.Parsed.{Parsed}
@@ -110,6 +110,11 @@ unfolding withMode withTiming
 mode-sound m f s =
     apply-sound (flagStore (m .«h_minus») (m .«v_minus»)) (withTiming (timingSaid (m .numbers)) f) (flags-kept (m .«h_minus») (m .«v_minus»))
     (written-sound (table (wide f)) (numbersOf (timingSaid (m .numbers))) f (table-stored (wide f)) s)
+
+-- two answers that the contract allows are equal
+pub read-once : (line : List ℕ) (f : File) (r s : ReadLine) → ReadInto line f r → ReadInto line f s → r ≡ s
+read-once line f r s a b =
+    a .answers ∙ ap (λ (p : Parsed). readWith p f) (told-once line (a .parsed) (b .parsed) (a .told) (b .told)) ∙ sym (b .answers)
 
 -- a name stands in a line behind the word and the quote
 name-stands : (p : Parts) → take (length (p .name)) (drop (length header) (spelled p)) ≡ p .name

@@ -22,16 +22,20 @@ loop-holds c = (omega arith, refl)
 
 returns : tie.Need-returns Inv-loop μ-loop
 returns c =
+    let here = c .before .before .before .before .loop in
     let args = c .before .before .before .before .before .before .args in
-    sym (c .before .before .before .before .loop .inv .1 ∙ byte-named (args .name .now) (c .before .before .before .before .loop .i) (c .before .before .before .loop-test .taken) ∙ ap (λ (b : Bool). b && every nameByte (drop (c .before .before .before .before .loop .i + 1) (args .name .now))) (sym (c .before .name-byte .ensures) ∙ not-true _ (c .if1 .taken)))
+    sym (here .inv .1 ∙ byte-named (args .name .now) (here .i) (c .before .before .before .loop-test .taken) ∙ ap (λ (b : Bool). b && every nameByte (drop (here .i + 1) (args .name .now))) (sym (c .before .name-byte .ensures) ∙ not-true _ (c .if1 .taken)))
 
 loop-again : tie.Need-loop-again Inv-loop μ-loop
 loop-again c =
+    let here = c .before .before .before .before .loop in
     let args = c .before .before .before .before .before .before .args in
-    (omega arith, c .before .before .before .before .loop .inv .1 ∙ byte-named (args .name .now) (c .before .before .before .before .loop .i) (c .before .before .before .loop-test .taken) ∙ ap (λ (b : Bool). b && every nameByte (drop (c .before .before .before .before .loop .i + 1) (args .name .now))) (sym (c .before .name-byte .ensures) ∙ not-false _ (c .if1 .left)))
+    (omega arith, here .inv .1 ∙ byte-named (args .name .now) (here .i) (c .before .before .before .loop-test .taken) ∙ ap (λ (b : Bool). b && every nameByte (drop (here .i + 1) (args .name .now))) (sym (c .before .name-byte .ensures) ∙ not-false _ (c .if1 .left)))
 
 returns-2 : tie.Need-returns-2 Inv-loop μ-loop
-returns-2 c = sym (c .before .loop .inv .1 ∙ all-named (c .before .before .before .args .name .now) (c .before .loop .i) (c .loop-test .left))
+returns-2 c =
+    let here = c .before .loop in
+    sym (here .inv .1 ∙ all-named (c .before .before .before .args .name .now) (here .i) (c .loop-test .left))
 
 pub named-spec : {M : Type 1} → statement M
 named-spec =

@@ -21,41 +21,51 @@ loop-holds c =
     spelling decimalRunner (args .line .now) (args .at) 3 (args .whole) 1000 (c .before .pre .0) (c .before .pre .1)
 
 takes-decimal-requires : tie.Need-takes-decimal-requires Inv-loop μ-loop
-takes-decimal-requires c κs = bound-thousands (c .loop .value) (3 - c .loop .left) (c .loop .inv .below) (omega arith)
+takes-decimal-requires c κs =
+    let here = c .loop in
+    bound-thousands (here .value) (3 - here .left) (here .inv .below) (omega arith)
 
 shared-slice-read-spelled : tie.Need-shared-slice-read-spelled Inv-loop μ-loop
 shared-slice-read-spelled c =
+    let here = c .before .before .before .loop in
     let args = c .before .before .before .before .before .args in
-    decimal-there (args .line .now) (args .at) 3 (args .whole) 1000 (c .before .before .before .loop .end) (c .before .before .before .loop .left) (c .before .before .before .loop .value) (sym (c .before .before .takes-decimal .ensures) ∙ c .before .if1 .taken) .0
+    decimal-there (args .line .now) (args .at) 3 (args .whole) 1000 (here .end) (here .left) (here .value) (sym (c .before .before .takes-decimal .ensures) ∙ c .before .if1 .taken) .0
 
 spelled-requires : tie.Need-spelled-requires Inv-loop μ-loop
-spelled-requires c κs = bound-thousands (c .before .before .before .loop .value) (3 - c .before .before .before .loop .left) (c .before .before .before .loop .inv .below) (omega arith)
+spelled-requires c κs =
+    let here = c .before .before .before .loop in
+    bound-thousands (here .value) (3 - here .left) (here .inv .below) (omega arith)
 
 sub-left : tie.Need-sub-left Inv-loop μ-loop
 sub-left c =
+    let here = c .before .before .before .before .loop in
     let args = c .before .before .before .before .before .before .args in
-    decimal-there (args .line .now) (args .at) 3 (args .whole) 1000 (c .before .before .before .before .loop .end) (c .before .before .before .before .loop .left) (c .before .before .before .before .loop .value) (sym (c .before .before .before .takes-decimal .ensures) ∙ c .before .before .if1 .taken) .2
+    decimal-there (args .line .now) (args .at) 3 (args .whole) 1000 (here .end) (here .left) (here .value) (sym (c .before .before .before .takes-decimal .ensures) ∙ c .before .before .if1 .taken) .2
 
 add-end : tie.Need-add-end Inv-loop μ-loop
 add-end c =
+    let here = c .before .before .before .before .loop in
     let args = c .before .before .before .before .before .before .args in
-    search (needs, decimal-there (args .line .now) (args .at) 3 (args .whole) 1000 (c .before .before .before .before .loop .end) (c .before .before .before .before .loop .left) (c .before .before .before .before .loop .value) (sym (c .before .before .before .takes-decimal .ensures) ∙ c .before .before .if1 .taken) .0)
+    search (needs, decimal-there (args .line .now) (args .at) 3 (args .whole) 1000 (here .end) (here .left) (here .value) (sym (c .before .before .before .takes-decimal .ensures) ∙ c .before .before .if1 .taken) .0)
 
 loop-less : tie.Need-loop-less Inv-loop μ-loop
 loop-less c =
+    let here = c .before .before .before .before .loop in
     let args = c .before .before .before .before .before .before .args in
-    omega (arith, decimal-there (args .line .now) (args .at) 3 (args .whole) 1000 (c .before .before .before .before .loop .end) (c .before .before .before .before .loop .left) (c .before .before .before .before .loop .value) (sym (c .before .before .before .takes-decimal .ensures) ∙ c .before .before .if1 .taken) .0)
+    omega (arith, decimal-there (args .line .now) (args .at) 3 (args .whole) 1000 (here .end) (here .left) (here .value) (sym (c .before .before .before .takes-decimal .ensures) ∙ c .before .before .if1 .taken) .0)
 
 loop-again : tie.Need-loop-again Inv-loop μ-loop
 loop-again c =
+    let here = c .before .before .before .before .loop in
     let args = c .before .before .before .before .before .before .args in
-    decimals-next (args .line .now) (args .at) 3 (args .whole) 1000 (c .before .before .before .before .loop .end) (c .before .before .before .before .loop .left) (c .before .before .before .before .loop .value) (c .before .before .before .before .loop .inv) (sym (c .before .before .before .takes-decimal .ensures) ∙ c .before .before .if1 .taken) (c .spelled .result) (c .spelled .ensures)
+    decimals-next (args .line .now) (args .at) 3 (args .whole) 1000 (here .end) (here .left) (here .value) (here .inv) (sym (c .before .before .before .takes-decimal .ensures) ∙ c .before .before .if1 .taken) (c .spelled .result) (c .spelled .ensures)
 
 returns : tie.Need-returns Inv-loop μ-loop
 returns c =
+    let here = c .before .before .loop in
     let args = c .before .before .before .before .args in (
-      decimals-stop (args .line .now) (args .at) 3 (args .whole) 1000 (c .before .before .loop .end) (c .before .before .loop .left) (c .before .before .loop .value) (c .before .before .loop .inv) (sym (c .before .takes-decimal .ensures) ∙ c .if1 .left),
-      (c .before .before .loop .inv .fits, (c .before .before .loop .inv .few, c .before .before .loop .inv .below)),
+      decimals-stop (args .line .now) (args .at) 3 (args .whole) 1000 (here .end) (here .left) (here .value) (here .inv) (sym (c .before .takes-decimal .ensures) ∙ c .if1 .left),
+      (here .inv .fits, (here .inv .few, here .inv .below)),
     )
 
 pub decimals-spec : {M : Type 1} → statement M

@@ -23,34 +23,41 @@ loop-holds c =
 
 shared-slice-read-spelled : tie.Need-shared-slice-read-spelled Inv-loop μ-loop
 shared-slice-read-spelled c =
+    let here = c .before .before .before .loop in
     let args = c .before .before .before .before .before .args in
-    digit-there (args .line .now) (args .at) (args .most) 0 1 (c .before .before .before .loop .end) (c .before .before .before .loop .left) (c .before .before .before .loop .value) (sym (c .before .before .takes-digit .ensures) ∙ c .before .if1 .taken) .0
+    digit-there (args .line .now) (args .at) (args .most) 0 1 (here .end) (here .left) (here .value) (sym (c .before .before .takes-digit .ensures) ∙ c .before .if1 .taken) .0
 
 spelled-requires : tie.Need-spelled-requires Inv-loop μ-loop
-spelled-requires c κs = bound-most (c .before .before .before .loop .value) (c .before .before .before .before .before .args .most - c .before .before .before .loop .left) (omega (arith, c .before .before .before .loop .inv .below)) (omega (arith, c .before .before .before .before .before .pre .1))
+spelled-requires c κs =
+    let here = c .before .before .before .loop in
+    bound-most (here .value) (c .before .before .before .before .before .args .most - here .left) (omega (arith, here .inv .below)) (omega (arith, c .before .before .before .before .before .pre .1))
 
 add-end : tie.Need-add-end Inv-loop μ-loop
 add-end c =
+    let here = c .before .before .before .before .before .loop in
     let args = c .before .before .before .before .before .before .before .args in
-    search (needs, digit-there (args .line .now) (args .at) (args .most) 0 1 (c .before .before .before .before .before .loop .end) (c .before .before .before .before .before .loop .left) (c .before .before .before .before .before .loop .value) (sym (c .before .before .before .before .takes-digit .ensures) ∙ c .before .before .before .if1 .taken) .0)
+    search (needs, digit-there (args .line .now) (args .at) (args .most) 0 1 (here .end) (here .left) (here .value) (sym (c .before .before .before .before .takes-digit .ensures) ∙ c .before .before .before .if1 .taken) .0)
 
 loop-less : tie.Need-loop-less Inv-loop μ-loop
 loop-less c =
+    let here = c .before .before .before .before .before .loop in
     let args = c .before .before .before .before .before .before .before .args in
-    omega (arith, digit-there (args .line .now) (args .at) (args .most) 0 1 (c .before .before .before .before .before .loop .end) (c .before .before .before .before .before .loop .left) (c .before .before .before .before .before .loop .value) (sym (c .before .before .before .before .takes-digit .ensures) ∙ c .before .before .before .if1 .taken) .0)
+    omega (arith, digit-there (args .line .now) (args .at) (args .most) 0 1 (here .end) (here .left) (here .value) (sym (c .before .before .before .before .takes-digit .ensures) ∙ c .before .before .before .if1 .taken) .0)
 
 loop-again : tie.Need-loop-again Inv-loop μ-loop
 loop-again c =
+    let here = c .before .before .before .before .before .loop in
     let args = c .before .before .before .before .before .before .before .args in
-    digits-next (args .line .now) (args .at) (args .most) 0 1 (c .before .before .before .before .before .loop .end) (c .before .before .before .before .before .loop .left) (c .before .before .before .before .before .loop .value) (omega arith) (c .before .before .before .before .before .loop .inv) (sym (c .before .before .before .before .takes-digit .ensures) ∙ c .before .before .before .if1 .taken) (c .before .spelled .result) (c .left-behind .result) (c .before .spelled .ensures) (c .left-behind .ensures)
+    digits-next (args .line .now) (args .at) (args .most) 0 1 (here .end) (here .left) (here .value) (omega arith) (here .inv) (sym (c .before .before .before .before .takes-digit .ensures) ∙ c .before .before .before .if1 .taken) (c .before .spelled .result) (c .left-behind .result) (c .before .spelled .ensures) (c .left-behind .ensures)
 
 returns : tie.Need-returns Inv-loop μ-loop
 returns c =
+    let here = c .before .before .loop in
     let args = c .before .before .before .before .args in (
-      digits-stop (args .line .now) (args .at) (args .most) 0 1 (c .before .before .loop .end) (c .before .before .loop .left) (c .before .before .loop .value) (c .before .before .loop .inv) (sym (c .before .takes-digit .ensures) ∙ c .if1 .left),
+      digits-stop (args .line .now) (args .at) (args .most) 0 1 (here .end) (here .left) (here .value) (here .inv) (sym (c .before .takes-digit .ensures) ∙ c .if1 .left),
       (
-        c .before .before .loop .inv .fits,
-        lt-of-lt-of-le (c .before .before .loop .inv .below) (omega (arith, pow-le-pow-right {n = 10} (omega arith) {i = args .most - c .before .before .loop .left} {j = args .most} (omega arith))),
+        here .inv .fits,
+        lt-of-lt-of-le (here .inv .below) (omega (arith, pow-le-pow-right {n = 10} (omega arith) {i = args .most - here .left} {j = args .most} (omega arith))),
       ),
     )
 

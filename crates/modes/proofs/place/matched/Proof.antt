@@ -21,24 +21,27 @@ loop-holds c =
 
 returns : tie.Need-returns Inv-loop μ-loop
 returns c =
+    let here = c .before .before .before .before .loop in
     let args = c .before .before .before .before .before .before .before .args in (
       matching-off (args .line .now) (args .word .now) (args .at)
-          (c .before .before .before .before .loop .n) (c .before .before .before .before .loop .inv) (search needs) (sym (c .before .is-at .ensures .0) ∙ not-true _ (c .if1 .taken)),
-      c .before .before .before .before .loop .inv .fits,
+          (here .n) (here .inv) (search needs) (sym (c .before .is-at .ensures .0) ∙ not-true _ (c .if1 .taken)),
+      here .inv .fits,
     )
 
 loop-again : tie.Need-loop-again Inv-loop μ-loop
 loop-again c =
+    let here = c .before .before .before .before .loop in
     let args = c .before .before .before .before .before .before .before .args in
     matching-next (args .line .now) (args .word .now) (args .at)
-    (c .before .before .before .before .loop .n) (c .before .before .before .before .loop .inv) (search needs) (sym (c .before .is-at .ensures .0) ∙ not-false _ (c .if1 .left))
+    (here .n) (here .inv) (search needs) (sym (c .before .is-at .ensures .0) ∙ not-false _ (c .if1 .left))
 
 returns-2 : tie.Need-returns-2 Inv-loop μ-loop
 returns-2 c =
+    let here = c .before .loop in
     let args = c .before .before .before .before .args in (
       matching-end (args .line .now) (args .word .now) (args .at)
-          (c .before .loop .n) (c .before .loop .inv) (search needs),
-      c .before .loop .inv .fits,
+          (here .n) (here .inv) (search needs),
+      here .inv .fits,
     )
 
 pub matched-spec : {M : Type 1} → statement M

@@ -22,10 +22,11 @@ loop-holds c =
 
 returns : tie.Need-returns Inv-loop μ-loop
 returns c =
+    let here = c .before .before .before .loop in
     let args = c .before .before .before .before .before .args in (
-      naming-off (args .line .now) (args .at) (c .before .before .before .loop .n) (c .before .before .before .loop .inv)
+      naming-off (args .line .now) (args .at) (here .n) (here .inv)
           (sym (c .before .is-name .ensures .0) ∙ not-true _ (c .if1 .taken)),
-      c .before .before .before .loop .inv .fits,
+      here .inv .fits,
     )
 
 loop-less : tie.Need-loop-less Inv-loop μ-loop
@@ -33,15 +34,17 @@ loop-less c = omega (arith, c .before .is-name .ensures .1 (not-false _ (c .if1 
 
 loop-again : tie.Need-loop-again Inv-loop μ-loop
 loop-again c =
+    let here = c .before .before .before .loop in
     let args = c .before .before .before .before .before .args in
-    naming-next (args .line .now) (args .at) (c .before .before .before .loop .n) (c .before .before .before .loop .inv) (search needs)
+    naming-next (args .line .now) (args .at) (here .n) (here .inv) (search needs)
     (sym (c .before .is-name .ensures .0) ∙ not-false _ (c .if1 .left))
 
 returns-2 : tie.Need-returns-2 Inv-loop μ-loop
 returns-2 c =
+    let here = c .before .loop in
     let args = c .before .before .before .args in (
-      naming-end (args .line .now) (args .at) (c .before .loop .n) (c .before .loop .inv) (search needs),
-      c .before .loop .inv .fits,
+      naming-end (args .line .now) (args .at) (here .n) (here .inv) (search needs),
+      here .inv .fits,
     )
 
 pub name-length-spec : {M : Type 1} → statement M

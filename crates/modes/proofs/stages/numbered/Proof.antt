@@ -22,27 +22,31 @@ loop-holds c =
 
 returns : tie.Need-returns Inv-loop μ-loop
 returns c =
+    let here = c .before .before .before .before .loop in
     let args = c .before .before .before .before .before .before .args in
-    c .bad .ensures ∙ ap parsedOf (sym (numbers-none (args .line .now) (args .at) (args .name) (args .khz) (c .before .before .before .before .loop .numbers) (c .before .before .before .before .loop .end) (c .before .before .before .before .loop .count) (c .before .before .before .before .loop .inv) (c .before .before .before .loop-test .taken) (sym (c .before .before .is-at .ensures .0) ∙ not-true _ (c .before .if1 .taken))))
+    c .bad .ensures ∙ ap parsedOf (sym (numbers-none (args .line .now) (args .at) (args .name) (args .khz) (here .numbers) (here .end) (here .count) (here .inv) (c .before .before .before .loop-test .taken) (sym (c .before .before .is-at .ensures .0) ∙ not-true _ (c .before .if1 .taken))))
 
 digits-requires : tie.Need-digits-requires Inv-loop μ-loop
 digits-requires c κs = (omega (arith, c .before .is-at .ensures .1 (not-false _ (c .if1 .left))), omega arith)
 
 returns-2 : tie.Need-returns-2 Inv-loop μ-loop
 returns-2 c =
+    let here = c .before .before .before .before .before .before .before .loop in
     let args = c .before .before .before .before .before .before .before .before .before .args in
-    c .bad2 .ensures ∙ ap parsedOf (sym (numbers-bad (args .line .now) (args .at) (args .name) (args .khz) (c .before .before .before .before .before .before .before .loop .numbers) (c .before .before .before .before .before .before .before .loop .end) (c .before .before .before .before .before .before .before .loop .count) (c .before .before .before .before .before .before .before .loop .inv) (c .before .before .before .before .before .before .loop-test .taken) (sym (c .before .before .before .before .before .is-at .ensures .0) ∙ not-false _ (c .before .before .before .before .if1 .left)) (c .before .before .before .digits .result) (c .before .before .before .digits .ensures .0) (c .before .if2 .taken)))
+    c .bad2 .ensures ∙ ap parsedOf (sym (numbers-bad (args .line .now) (args .at) (args .name) (args .khz) (here .numbers) (here .end) (here .count) (here .inv) (c .before .before .before .before .before .before .loop-test .taken) (sym (c .before .before .before .before .before .is-at .ensures .0) ∙ not-false _ (c .before .before .before .before .if1 .left)) (c .before .before .before .digits .result) (c .before .before .before .digits .ensures .0) (c .before .if2 .taken)))
 
 loop-again : tie.Need-loop-again Inv-loop μ-loop
 loop-again c =
+    let here = c .before .before .before .before .before .before .loop in
     let args = c .before .before .before .before .before .before .before .before .args in
-    numbers-next (args .line .now) (args .at) (args .name) (args .khz) (c .before .before .before .before .before .before .loop .numbers) (c .before .before .before .before .before .before .loop .end) (c .before .before .before .before .before .before .loop .count) (c .before .before .before .before .before .before .loop .inv) (c .before .before .before .before .before .loop-test .taken) (sym (c .before .before .before .before .is-at .ensures .0) ∙ not-false _ (c .before .before .before .if1 .left)) (c .before .before .digits .result) (c .before .before .digits .ensures .0) (c .if2 .left) (c .before .before .digits .ensures .1 .0)
+    numbers-next (args .line .now) (args .at) (args .name) (args .khz) (here .numbers) (here .end) (here .count) (here .inv) (c .before .before .before .before .before .loop-test .taken) (sym (c .before .before .before .before .is-at .ensures .0) ∙ not-false _ (c .before .before .before .if1 .left)) (c .before .before .digits .result) (c .before .before .digits .ensures .0) (c .if2 .left) (c .before .before .digits .ensures .1 .0)
 
 returns-3 : tie.Need-returns-3 Inv-loop μ-loop
 unfolding unflagged
 returns-3 c =
+    let here = c .before .before .loop in
     let args = c .before .before .before .before .args in
-    c .flags .ensures ∙ ap parsedOf (sym (numbers-done (args .line .now) (args .at) (args .name) (args .khz) (c .before .before .loop .numbers) (c .before .before .loop .end) (c .before .before .loop .count) (c .before .before .loop .inv) (c .before .loop-test .left)))
+    c .flags .ensures ∙ ap parsedOf (sym (numbers-done (args .line .now) (args .at) (args .name) (args .khz) (here .numbers) (here .end) (here .count) (here .inv) (c .before .loop-test .left)))
 
 pub numbered-spec : {M : Type 1} → statement M
 numbered-spec =
