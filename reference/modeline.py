@@ -14,8 +14,9 @@ ending makes a good line of it.
 import re
 import sys
 
+CLOCK = rb"(0|[1-9][0-9]{0,8})(?:\.([0-9]{1,3}))?"
 FULL = re.compile(
-    rb'Modeline "([ !#-~]{1,32})" (0|[1-9][0-9]*)(?:\.([0-9]{1,3}))?((?: (?:0|[1-9][0-9]{0,4})){8})((?: [+-][hv]sync){0,2})')
+    rb'Modeline "([ !#-~]{1,32})" ' + CLOCK + rb"((?: (?:0|[1-9][0-9]{0,4})){8})((?: [+-][hv]sync){0,2})")
 FLAGS = [b""] + [b" " + s + a + b"sync" for s in (b"+", b"-") for a in (b"h", b"v")]
 FLAGS += [f + b" " + s + (b"v" if f[2:3] == b"h" else b"h") + b"sync" for f in FLAGS[1:] for s in (b"+", b"-")]
 SAMPLES = [b'Modeline "a" 0.001 1 1 1 1 1 1 1 1' + f for f in FLAGS]
@@ -24,6 +25,12 @@ ENDINGS = sorted({s[i:] for s in SAMPLES for i in range(len(s) + 1)}, key=len)
 
 def kilohertz(whole, decimals):
     return int(whole) * 1000 + int((decimals or b"").ljust(3, b"0"))
+
+
+def clock(mhz):
+    """The kHz of a clock in MHz; 0 where it isn't of the form."""
+    m = re.fullmatch(CLOCK, mhz)
+    return kilohertz(*m.groups()) if m else 0
 
 
 def good(line):
@@ -96,9 +103,8 @@ def write(name, khz, misc, t):
 def main():
     if sys.argv[1:2] == ["--of"]:
         name, mhz = (a.encode() for a in sys.argv[2:4])
-        whole, _, decimals = mhz.partition(b".")
         misc, _, *timing = (int(a, 0) for a in sys.argv[4:])
-        line = write(name, kilohertz(whole, decimals), misc, timing)
+        line = write(name, clock(mhz), misc, timing)
         sys.stdout.buffer.write((b"%d" % line if isinstance(line, int) else line) + b"\n")
         return
     lines = sys.stdin.buffer.read().split(b"\n")
@@ -108,4 +114,5 @@ def main():
         print(number, *read(line, "--wide" in sys.argv))
 
 
-main()
+if __name__ == "__main__":
+    main()
