@@ -2,8 +2,8 @@
 use libc::STDERR_FILENO;
 use mode_lines::keep;
 use mode_lines::line_of;
-use shell::run_input;
 use shell::nothing_handed;
+use shell::run_input;
 use shell::write_out;
 
 // A refusal in words, with its code.
