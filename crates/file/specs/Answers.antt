@@ -51,14 +51,19 @@ valueOf InsideWider = 0
 unfoldable pub refused : Answer → Bool
 refused a = leb 2 (codeOf a)
 
--- an answer's code is one of these
-unfoldable pub oneOf : List ℕ → Answer → Bool
-oneOf [] a = false
-oneOf (code ∷ codes) a = eqb (codeOf a) code || oneOf codes a
+-- a code is one of these
+unfoldable pub among : List ℕ → ℕ → Bool
+among [] n = false
+among (code ∷ codes) n = eqb n code || among codes n
 
--- the fixed list: 01's table of codes, and 02's 16 and 17 (2/13)
+-- an answer's code is
+unfoldable pub oneOf : List ℕ → Answer → Bool
+unfolding among
+oneOf codes a = among codes (codeOf a)
+
+-- the fixed list: 01's table of codes, 02's 16 and 17 (2/13), and 18, 19, 21 and 22 of a line (02, 4/13)
 unfoldable pub listed : List ℕ
-listed = 0 ∷ 1 ∷ 2 ∷ 3 ∷ 4 ∷ 5 ∷ 6 ∷ 7 ∷ 8 ∷ 9 ∷ 10 ∷ 11 ∷ 12 ∷ 13 ∷ 14 ∷ 16 ∷ 17 ∷ []
+listed = 0 ∷ 1 ∷ 2 ∷ 3 ∷ 4 ∷ 5 ∷ 6 ∷ 7 ∷ 8 ∷ 9 ∷ 10 ∷ 11 ∷ 12 ∷ 13 ∷ 14 ∷ 16 ∷ 17 ∷ 18 ∷ 19 ∷ 21 ∷ 22 ∷ []
 
 unfoldable pub isListed : Answer → Bool
 isListed a = oneOf listed a

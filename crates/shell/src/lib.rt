@@ -6,6 +6,16 @@ mod reading;
 mod saving;
 mod telling;
 
+pub use course::Course;
+pub use course::run_input;
 pub use outlining::outline;
 pub use printing::replay;
+pub use reading::Filled;
+pub use reading::fill;
+pub use reading::nothing_read;
 pub use saving::snapshot;
+pub use telling::Handed;
+pub use telling::nothing_handed;
+pub use telling::tell;
+pub use telling::tell_failure;
+pub use telling::write_out;

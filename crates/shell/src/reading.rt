@@ -76,7 +76,7 @@ fn read_on(buffer: &mut [u8], at: usize) -> Got
 }
 
 // Reads until the buffer is full, the input ends or a read fails.
-fn fill(before: Filled, buffer: &mut [u8]) -> Filled
+pub fn fill(before: Filled, buffer: &mut [u8]) -> Filled
     ensures { λ r. ⌜ Counts (r .count) (now (buffer .exit)) ⌝ }
     ensures { λ r. ⌜ r .all ≡ counted (before .all) (r .count) ⌝ }
 {

@@ -7,7 +7,7 @@ use native.Mathlib.Nat.{add-zero, add-suc, suc-add, add-assoc}
 use native.Mathlib.Omega.{arith}
 use native.Mathlib.Numerals.{add-one}
 use lib.ListN.{length, set, drop, getD, length-append}
-use borrow.Author.Tests.{leb-true}
+use borrow.Author.Tests.{le-leb, leb-true}
 use lib.Dec.{leb}
 use lib.Seq.{sets, sets-eq, set-comm, drop-cons}
 use Rattle.file.specs.declared.answer.Answer.{Answer}
@@ -74,6 +74,12 @@ module _ (buffer : List ℕ) (at : ℕ) (text : List ℕ) {size : ℕ} (long : s
       → Lined (roomAnswer buffer at text) at text buffer after (record { answer = Done 0; end = end })
   unfolding roomAnswer
   room e w = whole buffer at text (rw (room-test e) refl) (omega (arith, leb-true (at + size) (length buffer) e, long)) w
+
+-- and back: what was asked for was stored, since it had room
+pub had-room : {buffer : List ℕ} {at : ℕ} {text after : List ℕ} {r : Placed} → at + length text ≤ length buffer
+    → Lined (roomAnswer buffer at text) at text buffer after r → Wrote buffer at text after (r .end)
+unfolding roomAnswer fits
+had-room {buffer} {at} {text} h l = wrote buffer at text (rw (le-leb (at + length text) (length buffer) h) refl) h l
 
 -- what is left of a text, stored behind its beginning
 pub rest-stored : {before : List ℕ} {at : ℕ} {a after : List ℕ} {p : ℕ} (rest : List ℕ)

@@ -8,6 +8,8 @@ pub use line::numbers_fit;
 pub use line::record_line;
 pub use line::reply_lines;
 pub use numbers::cursor_line;
+pub use numbers::plain_text;
+pub use numbers::spaced_numbers;
 pub use numbers::timing_line;
 pub use numbers::window2_line;
 pub use placed::Placed;

@@ -1,4 +1,4 @@
-// A line of a word and numbers: the timing line, and those of the cursor and of window 2.
+// A line of a word and numbers: the timing line, and those of the cursor and of window 2; and the parts of such a line by themselves.
 ghost use mathlib.Core.Path.{_≡_};
 ghost use mathlib.Core.Bool.{false};
 ghost use mathlib.Core.List.{_++_};
@@ -46,6 +46,38 @@ pub fn window2_line(buffer: &mut [u8], at: usize, numbers: [u32; 10]) -> Placed
     numbers_line(buffer, at, b"window2", &minus, &numbers)
 }
 
+// A text, from a place of the buffer on; code 11 where it has no room.
+pub fn plain_text(buffer: &mut [u8], at: usize, text: &[u8]) -> Placed
+    ensures { λ r. ⌜ Lined (roomAnswer (now (buffer .entry)) at (now (text .entry))) at (now (text .entry)) (now (buffer .entry)) (now (buffer .exit)) r ⌝ }
+{
+    if has_room(buffer.len(), at, text.len()) {
+        return Placed {
+            answer: Answer::Done(0),
+            end: copy(text, buffer, at),
+        };
+    }
+    Placed {
+        answer: Answer::ShortBuffer,
+        end: at,
+    }
+}
+
+// Numbers, each behind a space and a minus where it is marked, from a place of the buffer on; code 11 where they have no room.
+pub fn spaced_numbers(buffer: &mut [u8], at: usize, minus: &[bool], numbers: &[u32]) -> Placed
+    ensures { λ r. ⌜ Lined (roomAnswer (now (buffer .entry)) at (spaced (now (minus .entry)) (now (numbers .entry)))) at (spaced (now (minus .entry)) (now (numbers .entry))) (now (buffer .entry)) (now (buffer .exit)) r ⌝ }
+{
+    if all_fit(minus, numbers, buffer.len(), at) {
+        return Placed {
+            answer: Answer::Done(0),
+            end: spell_each(minus, numbers, buffer, at),
+        };
+    }
+    Placed {
+        answer: Answer::ShortBuffer,
+        end: at,
+    }
+}
+
 // A word and numbers behind it, from a place of the buffer on.
 fn numbers_line(
     buffer: &mut [u8],
@@ -79,6 +111,16 @@ fn line_fits(word: &[u8], minus: &[bool], numbers: &[u32], room: usize, at: usiz
         return spaced_fit(minus, numbers, room - around - at);
     }
     false
+}
+
+// The numbers have room from a place on.
+fn all_fit(minus: &[bool], numbers: &[u32], room: usize, at: usize) -> bool
+    ensures { λ r. ⌜ r ≡ leb (at + length (spaced (now (minus .entry)) (now (numbers .entry)))) room ⌝ }
+{
+    if room < at {
+        return false;
+    }
+    spaced_fit(minus, numbers, room - at)
 }
 
 // The numbers, each behind a space, take no more than so many bytes.

@@ -1,0 +1,5 @@
+pub mod Clamped
+pub mod Codes
+pub mod InOrder
+pub mod Laws
+pub mod Lines

@@ -1,0 +1,4 @@
+pub mod Verdicts
+pub mod Said
+pub mod Into
+pub mod Promises

@@ -1,0 +1,9 @@
+pub mod FirstBytes
+pub mod Laying
+pub mod Cut
+pub mod Spelling
+pub mod Reports
+pub mod ClockLines
+pub mod ReportsOfLines
+pub mod Going
+pub mod InputLines

@@ -1,0 +1,11 @@
+pub mod Decimals
+pub mod Spellings
+pub mod Fitting
+pub mod Joined
+pub mod WrittenGood
+pub mod Short
+pub mod NumbersSaid
+pub mod ModeInFile
+pub mod RoundTrip
+pub mod Respelled
+pub mod Codes

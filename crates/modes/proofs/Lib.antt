@@ -1,0 +1,9 @@
+pub mod Readers
+pub mod Forms
+pub mod Tokens
+pub mod FlagsForm
+pub mod Lines
+pub mod Steps
+pub mod Loops
+pub mod StagesRead
+pub mod Once

@@ -1,0 +1,4 @@
+pub mod Form
+pub mod Place
+pub mod Scan
+pub mod Promises
