@@ -1,4 +1,5 @@
 pub mod Names
+pub mod StoredByGroup
 pub mod Soundness
 pub mod Reached
 pub mod Typed

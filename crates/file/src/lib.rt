@@ -1,6 +1,7 @@
 // The register file of the CL-GD546X as a value: registers, palette, bank, and a state with pointer, marks and toggle; what an access may do to it.
 mod answer;
 mod effect;
+mod groups;
 mod numbered;
 mod palette;
 mod pointer;

@@ -2,6 +2,15 @@ ghost use mathlib.Core.Path.{_≡_};
 ghost use Prim.Native.Nat.{_<_};
 ghost use Rattle.file.specs.File.{powerOn};
 ghost use Rattle.file.specs.Registers.{storedBits, storedTable};
+use crate::groups::core_attribute;
+use crate::groups::core_crtc;
+use crate::groups::core_general;
+use crate::groups::core_graphics;
+use crate::groups::core_sequencer;
+use crate::groups::extended_crtc;
+use crate::groups::extended_pci;
+use crate::groups::extended_sequencer;
+use crate::groups::video_pipeline;
 use crate::palette::Colour;
 use crate::state::State;
 
@@ -21,108 +30,108 @@ pub struct File {
 }
 
 impl File {
-    // The bits that each register stores.
+    // The bits that each register stores, by its number.
     pub const STORED: [u16; REGISTERS] = [
-        0xEF, // MISC
-        0x1F, // SRX
-        0x3F, // CRX
-        0x3F, // GRX
-        0x3F, // ARX
-        0xFF, // pixel mask
-        0x0027, // PCI04
-        0x03, // SR0
-        0x3D, // SR1
-        0x0F, // SR2
-        0x3F, // SR3
-        0x0E, // SR4
-        0x01, // SR7
-        0xFF, // SR9
-        0xFF, // SRA
-        0xFF, // SR0B
-        0xFF, // SR0C
-        0xFF, // SR0D
-        0xFF, // SR0E
-        0xFF, // SR14
-        0xFF, // SR15
-        0x7F, // SR1B
-        0x7F, // SR1C
-        0x7F, // SR1D
-        0x7F, // SR1E
-        0xFF, // CR0
-        0xFF, // CR1
-        0xFF, // CR2
-        0xFF, // CR3
-        0xFF, // CR4
-        0xFF, // CR5
-        0xFF, // CR6
-        0xFF, // CR7
-        0x7F, // CR8
-        0xFF, // CR9
-        0x3F, // CRA
-        0x7F, // CRB
-        0xFF, // CRC
-        0xFF, // CRD
-        0xFF, // CRE
-        0xFF, // CRF
-        0xFF, // CR10
-        0xFF, // CR11
-        0xFF, // CR12
-        0xFF, // CR13
-        0x7F, // CR14
-        0xFF, // CR15
-        0xFF, // CR16
-        0xEF, // CR17
-        0xFF, // CR18
-        0xFF, // CR19
-        0xFF, // CR1A
-        0xFF, // CR1B
-        0x18, // CR1D
-        0xFF, // CR1E
-        0x0F, // GR0
-        0x0F, // GR1
-        0x0F, // GR2
-        0x1F, // GR3
-        0x03, // GR4
-        0x7B, // GR5
-        0x0F, // GR6
-        0x0F, // GR7
-        0xFF, // GR8
-        0x3F, // AR0
-        0x3F, // AR1
-        0x3F, // AR2
-        0x3F, // AR3
-        0x3F, // AR4
-        0x3F, // AR5
-        0x3F, // AR6
-        0x3F, // AR7
-        0x3F, // AR8
-        0x3F, // AR9
-        0x3F, // ARA
-        0x3F, // ARB
-        0x3F, // ARC
-        0x3F, // ARD
-        0x3F, // ARE
-        0x3F, // ARF
-        0xEF, // AR10
-        0xFF, // AR11
-        0x3F, // AR12
-        0x0F, // AR13
-        0x0F, // AR14
-        0x88, // B0
-        0xFF, // B8
-        0xFF, // BC
-        0x3F3F, // C0
-        0x0FFF, // CC
-        0x0FFF, // CE
-        0x0FFF, // D0
-        0x0FFF, // D2
-        0xFF, // D4
-        0x3F, // D5
-        0x0FFF, // E0
-        0x0FFF, // E2
-        0x7F7F, // E4
-        0x1101, // E6
-        0x7FFC, // E8
+        core_general::MISC,
+        core_sequencer::SRX,
+        core_crtc::CRX,
+        core_graphics::GRX,
+        core_attribute::ARX,
+        core_general::PIXEL_MASK,
+        extended_pci::PCI04,
+        core_sequencer::SR0,
+        core_sequencer::SR1,
+        core_sequencer::SR2,
+        core_sequencer::SR3,
+        core_sequencer::SR4,
+        extended_sequencer::SR7,
+        extended_sequencer::SR9,
+        extended_sequencer::SRA,
+        extended_sequencer::SR0B,
+        extended_sequencer::SR0C,
+        extended_sequencer::SR0D,
+        extended_sequencer::SR0E,
+        extended_sequencer::SR14,
+        extended_sequencer::SR15,
+        extended_sequencer::SR1B,
+        extended_sequencer::SR1C,
+        extended_sequencer::SR1D,
+        extended_sequencer::SR1E,
+        core_crtc::CR0,
+        core_crtc::CR1,
+        core_crtc::CR2,
+        core_crtc::CR3,
+        core_crtc::CR4,
+        core_crtc::CR5,
+        core_crtc::CR6,
+        core_crtc::CR7,
+        core_crtc::CR8,
+        core_crtc::CR9,
+        core_crtc::CRA,
+        core_crtc::CRB,
+        core_crtc::CRC,
+        core_crtc::CRD,
+        core_crtc::CRE,
+        core_crtc::CRF,
+        core_crtc::CR10,
+        core_crtc::CR11,
+        core_crtc::CR12,
+        core_crtc::CR13,
+        core_crtc::CR14,
+        core_crtc::CR15,
+        core_crtc::CR16,
+        core_crtc::CR17,
+        core_crtc::CR18,
+        extended_crtc::CR19,
+        extended_crtc::CR1A,
+        extended_crtc::CR1B,
+        extended_crtc::CR1D,
+        extended_crtc::CR1E,
+        core_graphics::GR0,
+        core_graphics::GR1,
+        core_graphics::GR2,
+        core_graphics::GR3,
+        core_graphics::GR4,
+        core_graphics::GR5,
+        core_graphics::GR6,
+        core_graphics::GR7,
+        core_graphics::GR8,
+        core_attribute::AR0,
+        core_attribute::AR1,
+        core_attribute::AR2,
+        core_attribute::AR3,
+        core_attribute::AR4,
+        core_attribute::AR5,
+        core_attribute::AR6,
+        core_attribute::AR7,
+        core_attribute::AR8,
+        core_attribute::AR9,
+        core_attribute::ARA,
+        core_attribute::ARB,
+        core_attribute::ARC,
+        core_attribute::ARD,
+        core_attribute::ARE,
+        core_attribute::ARF,
+        core_attribute::AR10,
+        core_attribute::AR11,
+        core_attribute::AR12,
+        core_attribute::AR13,
+        core_attribute::AR14,
+        video_pipeline::B0,
+        video_pipeline::B8,
+        video_pipeline::BC,
+        video_pipeline::C0,
+        video_pipeline::CC,
+        video_pipeline::CE,
+        video_pipeline::D0,
+        video_pipeline::D2,
+        video_pipeline::D4,
+        video_pipeline::D5,
+        video_pipeline::E0,
+        video_pipeline::E2,
+        video_pipeline::E4,
+        video_pipeline::E6,
+        video_pipeline::E8,
     ];
 
     // Every stored bit and entry 0, the toggle at index, the pointer at address 0, write mode, red, nothing held.
