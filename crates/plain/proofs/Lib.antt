@@ -1,0 +1,4 @@
+pub mod KindsOfRecord
+pub mod EitherChip
+pub mod RowsSay
+pub mod RowsFrom
