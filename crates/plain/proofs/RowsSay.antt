@@ -98,7 +98,7 @@ module _ (f : File) (kind address : ℕ) where
         (λ chip. rw (chip, and-false) refl)
 
   -- what was found, as a row of the list of places
-  pub meantRow : Found → Option PlaceRow
+  unfoldable pub meantRow : Found → Option PlaceRow
   meantRow (At row) = some (said row kind)
   meantRow Nothing = none
 
