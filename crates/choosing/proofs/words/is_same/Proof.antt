@@ -2,8 +2,8 @@
 use borrow.Author.Needs.{needs}
 use denote.Ref.{now}
 use Rattle.choosing.proofs.SameTexts.{same-told}
-use Rattle.choosing.proofs.choosing.is_same.Statement.{statement}
-use Rattle.choosing.proofs.choosing.is_same.Tie as tie
+use Rattle.choosing.proofs.words.is_same.Statement.{statement}
+use Rattle.choosing.proofs.words.is_same.Tie as tie
 
 returns : tie.Need-returns
 returns c = same-told _ _ _ (c .same .ensures)
