@@ -1,5 +1,5 @@
 // For bench/run: runs the trace on standard input from power-on and prints nothing of it; then does one thing some hundred times with
-// the file that it ends in. Words: `run`, or `listed`, the run by the plain engine; or `read`, `write` (the timing), `plan` or `restore` (from
+// the file that it ends in. Words: `run`, or `flat`, the run by the plain engine; or `read`, `write` (the timing), `plan` or `restore` (from
 // power-on) and a digit for the hundreds. The number that it prints hangs on all that it did.
 use engines::Engine;
 use engines::run_by;
@@ -117,7 +117,7 @@ fn letter(place: usize) -> u8 {
 }
 
 fn engine_for(what: u8) -> Engine {
-    if what == b'l' {
+    if what == b'f' {
         return Engine::Plain;
     }
     Engine::Quick
