@@ -22,7 +22,7 @@ static uint64_t run_input(struct sc_file *f)
     uint64_t sum = 0;
     size_t length;
 
-    sc_power_on(f);
+    sc_power_on(f, SC_5464);
     do {
         length = fread(trace, 1, sizeof trace, stdin);
         sc_run(f, trace, length, replies, sizeof replies);
@@ -67,30 +67,17 @@ static uint64_t plan_many(const struct sc_file *f, unsigned times)
     return mix(sum, buffer[sum % SC_PLAN_BYTES]);
 }
 
-/* A plan made and run, each record accepted; the reference has no such function. */
-static size_t restore(struct sc_file *current, const struct sc_file *wanted, uint8_t *buffer)
-{
-    static uint8_t replies[SC_PLAN_BYTES];
-    size_t count, k;
-
-    if (!sc_sound(current) || sc_plan(wanted, buffer, SC_PLAN_BYTES, &count) != SC_DONE)
-        return 0;
-    sc_run(current, buffer, SC_RECORD_BYTES * count, replies, sizeof replies);
-    for (k = 0; k < count; k++)
-        if (replies[SC_REPLY_BYTES * k] != SC_DONE)
-            return 0;
-    return count;
-}
-
 static uint64_t restore_many(const struct sc_file *f, unsigned times)
 {
     static uint8_t buffer[SC_PLAN_BYTES];
     struct sc_file current;
     uint64_t sum = 0;
+    size_t count;
 
     for (; times > 0; times--) {
-        sc_power_on(&current);
-        sum = mix(sum, restore(&current, f, buffer));
+        sc_power_on(&current, SC_5464);
+        sc_restore(&current, f, buffer, sizeof buffer, &count);
+        sum = mix(sum, count);
     }
     return mix(sum, buffer[sum % SC_PLAN_BYTES]);
 }

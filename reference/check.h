@@ -8,14 +8,18 @@
 
 #include "sedgecoil.h"
 
+/* Every check is made on both chips. */
+static enum sc_chip chip;
+
 static inline bool same_file(const struct sc_file *a, const struct sc_file *b)
 {
-    return a->pci04 == b->pci04 && a->misc == b->misc && a->srx == b->srx && a->crx == b->crx
-        && a->grx == b->grx && a->arx == b->arx && a->pixel_mask == b->pixel_mask
+    return a->chip == b->chip && a->pci04 == b->pci04 && a->misc == b->misc
+        && a->srx == b->srx && a->crx == b->crx && a->grx == b->grx && a->arx == b->arx && a->pixel_mask == b->pixel_mask
         && a->data_next == b->data_next
         && !memcmp(a->sr, b->sr, sizeof a->sr) && !memcmp(a->cr, b->cr, sizeof a->cr)
         && !memcmp(a->gr, b->gr, sizeof a->gr) && !memcmp(a->ar, b->ar, sizeof a->ar)
         && !memcmp(a->pipe, b->pipe, sizeof a->pipe)
+        && !memcmp(a->vport, b->vport, sizeof a->vport)
         && a->pointer.address == b->pointer.address && a->pointer.reading == b->pointer.reading
         && a->pointer.colour == b->pointer.colour
         && !memcmp(a->pointer.held, b->pointer.held, sizeof a->pointer.held)
@@ -86,7 +90,7 @@ static inline struct sc_file opened(void)
 {
     struct sc_file f;
 
-    sc_power_on(&f);
+    sc_power_on(&f, chip);
     if (ask(&f, SC_CONFIG_WRITE, 2, 0x04, 3) != 0) {
         printf("FAILED: PCI04 can't be written\n");
         exit(1);
@@ -100,16 +104,18 @@ struct check {
     bool (*holds)(void);
 };
 
-/* Prints a line for each; 1 if one failed, else 0. */
+/* Prints a line for each on each chip; 1 if one failed, else 0. */
 static inline int run_checks(const struct check *check, size_t count)
 {
     int failed = 0;
 
-    for (size_t i = 0; i < count; i++) {
-        bool ok = check[i].holds();
-        failed |= !ok;
-        printf("%-9s %-6s %s\n", check[i].name, ok ? "ok" : "FAILED", check[i].text);
-    }
+    for (chip = 0; chip < SC_CHIPS; chip++)
+        for (size_t i = 0; i < count; i++) {
+            bool ok = check[i].holds();
+            failed |= !ok;
+            printf("%s %-9s %-6s %s\n", chip == SC_5462 ? "5462" : "5464", check[i].name,
+                   ok ? "ok" : "FAILED", check[i].text);
+        }
     return failed;
 }
 

@@ -1,21 +1,22 @@
 /*
  * What a trace on standard input ends in, from power-on: every part of the file, a line each; with
  * the word `plan` the bytes of a plan of it, if the pointer is before red; with the word `geometry`
- * its cursor and its window 2.
+ * its cursor, its window 2 and its capture window. For the 5462 with `--chip 5462` before the word.
  */
 #include <stdio.h>
 #include <string.h>
 
+#include "chip.h"
 #include "sedgecoil.h"
 
 enum { PLACES = 1 << 12 };
 
-static bool run_input(struct sc_file *f)
+static bool run_input(struct sc_file *f, enum sc_chip chip)
 {
     static uint8_t trace[SC_RECORD_BYTES * PLACES], replies[SC_REPLY_BYTES * PLACES];
     size_t length;
 
-    sc_power_on(f);
+    sc_power_on(f, chip);
     do {
         length = fread(trace, 1, sizeof trace, stdin);
         sc_run(f, trace, length, replies, sizeof replies);
@@ -52,6 +53,7 @@ static void print_file(const struct sc_file *f)
     printf("address %02X\nmode %s\n", p->address, p->reading ? "read" : "write");
     printf("last %s %u\n", f->last.reading ? "read" : "write", f->last.colour);
     printf("toggle %s\n", f->data_next ? "data" : "index");
+    printf("chip %s\n", f->chip == SC_5462 ? "5462" : "5464");
     print("PCI04", f->pci04);
     print("MISC", f->misc);
     print("SRX", f->srx);
@@ -61,6 +63,8 @@ static void print_file(const struct sc_file *f)
     print("pixel mask", f->pixel_mask);
     for (unsigned i = 0; i < SC_PIPES; i++)
         print(pipe[i], f->pipe[i]);
+    for (unsigned i = 0; i < SC_VPORTS; i++)
+        printf("%X %04X\n", 0x100 + 2 * i, f->vport[i]);
     print_group("SR", f->sr, SC_SRS);
     print_group("CR", f->cr, SC_CRS);
     print_group("GR", f->gr, SC_GRS);
@@ -84,22 +88,31 @@ static void print_geometry(const struct sc_file *f)
 {
     struct sc_cursor c;
     struct sc_window2 w;
+    struct sc_capture v;
 
     sc_cursor_read(f, &c);
     sc_window2_read(f, &w);
+    sc_capture_read(f, &v);
     printf("cursor %d %ld %ld %lu %lu %lu\n", c.enabled, (long)c.left, (long)c.top,
            (unsigned long)c.width, (unsigned long)c.height, (unsigned long)c.image);
     printf("window2 %d %d %lu %lu %lu %lu %d %d %lu %lu\n", w.enabled, w.format,
            (unsigned long)w.left, (unsigned long)w.top, (unsigned long)w.right,
            (unsigned long)w.bottom, w.empty, w.fault,
            (unsigned long)w.blt_scanlines[0], (unsigned long)w.blt_scanlines[1]);
+    printf("capture %lu %lu %lu %lu\n", (unsigned long)v.x_start, (unsigned long)v.x_stop,
+           (unsigned long)v.y_start, (unsigned long)v.y_stop);
 }
 
 int main(int words, char **word)
 {
     struct sc_file f;
-    bool good = run_input(&f);
+    enum sc_chip chip;
 
+    if (!take_chip(&words, &word, &chip)) {
+        fputs("usage: ending [--chip 5462|5464] [plan|geometry]\n", stderr);
+        return 2;
+    }
+    bool good = run_input(&f, chip);
     if (words > 1 && strcmp(word[1], "plan") == 0)
         good = write_plan(&f) && good;
     else if (words > 1 && strcmp(word[1], "geometry") == 0)

@@ -1,4 +1,4 @@
-/* 01 "Marked examples" P1 to P11 and the example of 01 "The replay program". */
+/* 01 "Marked examples" P1 to P11, the example of 01 "The replay program", and what 02 names. */
 #include "check.h"
 #include "replay.h"
 
@@ -6,7 +6,7 @@ static bool p1(void)
 {
     struct sc_file f;
 
-    sc_power_on(&f);
+    sc_power_on(&f, chip);
     return in(&f, 0x3CC) == -3 && ask(&f, 9, 1, 0x3CC, 0) == -2;
 }
 
@@ -50,6 +50,19 @@ static bool request2(void)
     return out(&f, 0x3CC, 0) == -16 && out(&f, 0x3C2, 0x01) == 0 && out(&f, 0x3BA, 0) == -16
         && ask(&f, SC_CONFIG_READ, 1, 5, 0) == -17 && peek(&f, 0xC1) == -17
         && poke(&f, 0xC1, 0) == -17 && in(&f, 0x3CA) == -4;
+}
+
+/* 02, 6/13: PCI02, and 10Ch at power-on, with all bits written, and with none. */
+static bool request6(void)
+{
+    struct sc_file f = opened();
+    bool old = chip == SC_5462;
+
+    return ask(&f, SC_CONFIG_READ, 2, 0x02, 0) == (old ? 0x00D0 : 0x00D4)
+        && peek16(&f, 0x10C) == (old ? 0x0C90 : 0)
+        && poke16(&f, 0x10C, 0xFFFF) == 0 && peek16(&f, 0x10C) == (old ? 0xFFDF : 0x01FF)
+        && poke16(&f, 0x10C, 0) == 0 && peek16(&f, 0x10C) == (old ? 0x0C00 : 0)
+        && peek(&f, 0x10D) == -17 && peek16(&f, 0x110) == -4;
 }
 
 static bool p6(void)
@@ -141,7 +154,7 @@ static bool prints(const uint8_t *trace, size_t length, const char *wanted)
     if (!input || !output || fwrite(trace, 1, length, input) != length)
         return false;
     rewind(input);
-    bool done = replay(input, output);
+    bool done = replay(chip, input, output);
     rewind(output);
     size_t count = fread(printed, 1, sizeof printed, output);
     fclose(input);
@@ -189,6 +202,7 @@ int main(void)
         { "P10", "the widest H blank", p10 },
         { "P11", "the cursor left of the screen", p11 },
         { "02 2/13", "three kinds of nothing held", request2 },
+        { "02 6/13", "PCI02 and 10Ch by the chip", request6 },
         { "replay", "the example", replay_example },
         { "replay", "an empty trace", replay_empty },
         { "replay", "a fragment alone", replay_fragment },

@@ -1,6 +1,7 @@
 /*
  * The open points of 01 as they were settled, one check each (1 to 31; 6 is checked by
- * examples.c and tests/compare, 32 to 35 concern plans), then checks over many files.
+ * examples.c and tests/compare, 32 to 35 concern plans), those of 02, 6/13, then checks over many
+ * files. All are made on both chips.
  */
 #include "check.h"
 
@@ -41,6 +42,7 @@ static const uint16_t mmio8[] = {
 };
 static const uint16_t mmio16[] = {
     0xC0, 0xCC, 0xCE, 0xD0, 0xD2, 0xE0, 0xE2, 0xE4, 0xE6, 0xE8, 0x300, 0x302, 0x304,
+    0x100, 0x102, 0x104, 0x106, 0x108, 0x10A, 0x10C, 0x10E,
 };
 static const uint16_t config16[] = { 0x00, 0x02, 0x04 };
 
@@ -200,7 +202,7 @@ static bool point7(void)
 {
     struct sc_file f;
 
-    sc_power_on(&f);
+    sc_power_on(&f, chip);
     for (int address = 0; address < 0x10000; address++)
         if (in(&f, address) != -3 || poke(&f, address, 0) != -3 || ask(&f, 2, 2, address, 0) != -3)
             return false;
@@ -242,7 +244,9 @@ static bool point9(void)
         if (ask(&f, SC_CONFIG_WRITE, 2, address, 0) != -7 || poke16(&f, 0x300 + address, 0) != -7)
             return false;
     }
-    return peek16(&f, 0x300) == 0x1013 && peek16(&f, 0x302) == 0x00D4 && peek16(&f, 0x304) == 3;
+    int device = chip == SC_5462 ? 0x00D0 : 0x00D4;
+    return peek16(&f, 0x300) == 0x1013 && peek16(&f, 0x302) == device && peek16(&f, 0x304) == 3
+        && ask(&f, SC_CONFIG_READ, 2, 0x02, 0) == device;
 }
 
 static bool point10(void)
@@ -273,14 +277,12 @@ static bool point11(void)
 
 static bool point12(void)
 {
-    static const uint16_t wide[] = { 0xC0, 0xCC, 0xCE, 0xD0, 0xD2, 0xE0, 0xE2, 0xE4, 0xE6, 0xE8,
-                                     0x300, 0x302, 0x304 };
     struct sc_file f = opened();
 
-    for (size_t i = 0; i < LENGTH(wide); i++)
-        if (peek(&f, wide[i]) != -6 || poke(&f, wide[i], 0) != -6
-            || peek(&f, wide[i] + 1) != -17 || poke(&f, wide[i] + 1, 0) != -17
-            || peek16(&f, wide[i] + 1) != -17 || poke16(&f, wide[i] + 1, 0) != -17)
+    for (size_t i = 0; i < LENGTH(mmio16); i++)
+        if (peek(&f, mmio16[i]) != -6 || poke(&f, mmio16[i], 0) != -6
+            || peek(&f, mmio16[i] + 1) != -17 || poke(&f, mmio16[i] + 1, 0) != -17
+            || peek16(&f, mmio16[i] + 1) != -17 || poke16(&f, mmio16[i] + 1, 0) != -17)
             return false;
     for (int address = 1; address <= 5; address += 2)
         if (ask(&f, SC_CONFIG_READ, 1, address, 0) != -17
@@ -781,7 +783,7 @@ static bool point28(void)
     struct sc_file f, before;
     struct sc_timing t;
 
-    sc_power_on(&f);
+    sc_power_on(&f, chip);
     sc_timing_read(&f, &t);
     t.number[SC_OFFSET] = 40;
     if (sc_timing_write(&f, &t) != 0 || f.cr[0x13] != 40)
@@ -873,6 +875,132 @@ static bool point31(void)
         && !w.left && !w.top && !w.right && !w.bottom && !w.blt_scanlines[0] && !w.blt_scanlines[1];
 }
 
+/* ---- 02, 6/13 ---- */
+
+/* What the register at 100h plus twice the number stores; 10Ch by the chip. */
+static int vport_bits(int number)
+{
+    static const uint16_t bits[] = { 0x1F00, 0x1F00, 0x3FFF, 0x3FFF, 0x03FF, 0x03FF, 0, 0x01FF };
+
+    return number != 6 ? bits[number] : chip == SC_5462 ? 0xF3DF : 0x01FF;
+}
+
+/* What it reads if it stores this. */
+static int vport_shown(int number, int stored)
+{
+    return chip == SC_5462 && number == 6 ? stored | 0x0C00 : stored;
+}
+
+/* Each register by itself: what it starts with, what it keeps of many values, no other moving. */
+static bool vport_registers(void)
+{
+    for (int number = 0; number < SC_VPORTS; number++) {
+        struct sc_file f = opened();
+        int address = 0x100 + 2 * number;
+        if (peek16(&f, address) != (chip == SC_5462 && number == 6 ? 0x0C90 : 0))
+            return false;
+        for (int round = 0; round < 2000; round++) {
+            struct sc_file before = f;
+            int value = round < 16 ? 1 << round : round == 16 ? 0xFFFF : (int)below(0x10000);
+            int stored = value & vport_bits(number);
+            if (poke16(&f, address, value) != 0
+                || peek16(&f, address) != vport_shown(number, stored))
+                return false;
+            before.vport[number] = (uint16_t)stored;
+            if (!same_file(&f, &before))
+                return false;
+        }
+    }
+    return true;
+}
+
+/* The lock and the palette's power-down don't bear on them; no port and no config road leads there. */
+static bool vport_roads(void)
+{
+    struct sc_file f = opened();
+
+    poke(&f, 0x44, 0x80);
+    poke(&f, 0xB0, 0x80);
+    for (int address = 0x100; address < 0x110; address += 2)
+        if (poke16(&f, address, 0xFFFF) != 0 || peek16(&f, address) <= 0
+            || ask(&f, SC_PORT_READ, 2, address, 0) != -4
+            || ask(&f, SC_CONFIG_READ, 2, address, 0) != -4)
+            return false;
+    for (int address = 0x110; address < 0x120; address++)
+        if (peek(&f, address) != -4 || poke(&f, address, 0) != -4
+            || peek16(&f, address) != -4 || poke16(&f, address, 0) != -4)
+            return false;
+    return ask(&f, SC_CONFIG_WRITE, 2, 0x04, 1) == 0 && peek16(&f, 0x100) == -3;
+}
+
+static bool capture(void)
+{
+    static const struct sc_capture zeros;
+    struct sc_file f = opened();
+    struct sc_capture c;
+
+    if (sc_capture_read(&f, &c) != 0 || memcmp(&c, &zeros, sizeof c))
+        return false;
+    for (int round = 0; round < 2000; round++) {
+        for (int address = 0x108; address < 0x110; address += 2)
+            if (poke16(&f, address, (int)below(0x10000)) != 0)
+                return false;
+        uint32_t top = chip == SC_5462 ? 0 : (uint32_t)peek16(&f, 0x10C);
+        if (sc_capture_read(&f, &c) != 0 || c.x_start != (uint32_t)peek16(&f, 0x108)
+            || c.x_stop != (uint32_t)peek16(&f, 0x10A) || c.y_start != top
+            || c.y_stop != (uint32_t)peek16(&f, 0x10E))
+            return false;
+    }
+    f.vport[SC_10C] = 0x8001;
+    f.chip = SC_5464;
+    return sc_capture_read(&f, &c) == 12 && !memcmp(&c, &zeros, sizeof c);
+}
+
+/* A refused restore leaves the current file and the buffer; its code, or -1. */
+static int refused(struct sc_file *current, const struct sc_file *wanted, size_t room)
+{
+    uint8_t buffer[SC_PLAN_BYTES], found[SC_PLAN_BYTES];
+    struct sc_file before = *current;
+    size_t count;
+
+    memset(buffer, 0xEE, sizeof buffer);
+    memset(found, 0xEE, sizeof found);
+    int code = sc_restore(current, wanted, buffer, room, &count);
+    return count == 0 && same_file(current, &before) && !memcmp(buffer, found, sizeof found)
+        ? code : -1;
+}
+
+/* 12, 15, 13, 11, each before the ones behind it. */
+static bool restore_order(void)
+{
+    struct sc_file good = opened(), bad = unsound(), other, inside = good;
+    struct sc_file far;
+
+    sc_power_on(&other, chip == SC_5462 ? SC_5464 : SC_5462);
+    inside.pointer.colour = SC_GREEN;
+    far = other;
+    far.pointer.colour = SC_GREEN;
+    return refused(&bad, &far, 0) == 12 && refused(&good, &bad, 0) == 12
+        && refused(&good, &far, 0) == 15 && refused(&good, &other, SC_PLAN_BYTES) == 15
+        && refused(&good, &inside, 0) == 13 && refused(&good, &good, SC_PLAN_BYTES - 1) == 11;
+}
+
+/* A restore of any file from any file of its chip ends in it. */
+static bool restored(void)
+{
+    uint8_t buffer[SC_PLAN_BYTES];
+
+    for (int round = 0; round < 400; round++) {
+        struct sc_file wanted = random_file(), current = random_file();
+        size_t count;
+        wanted.pointer = pointer((int)below(256), below(2), SC_RED, 0, 0);
+        if (sc_restore(&current, &wanted, buffer, sizeof buffer, &count) != 0
+            || count > 1024 || !same_file(&current, &wanted))
+            return false;
+    }
+    return true;
+}
+
 /* ---- Soundness over many files ---- */
 
 /* Sets one bit of a byte; is the file sound exactly if the bit is in the table? */
@@ -914,6 +1042,13 @@ static bool sound_bits(void)
             if (sc_sound(&f) != ((pipe_bits[i] >> bit & 1) != 0))
                 return false;
         }
+    for (int i = 0; i < SC_VPORTS; i++)
+        for (int bit = 0; bit < 16; bit++) {
+            struct sc_file f = opened();
+            f.vport[i] ^= (uint16_t)(1u << bit);
+            if (sc_sound(&f) != ((vport_bits(i) >> bit & 1) != 0))
+                return false;
+        }
     return bits_decide(offsetof(struct sc_file, misc), 0xEF)
         && bits_decide(offsetof(struct sc_file, srx), 0x1F)
         && bits_decide(offsetof(struct sc_file, crx), 0x3F)
@@ -947,7 +1082,7 @@ static bool sound_kept(void)
             uint32_t kind = i % 64 ? below(7) : 1;
             bool write = kind & 1, wide = below(4) == 0;
             uint32_t address = i % 64 == 0 ? 4 : kind < 2 ? below(6) : kind < 4
-                ? 0x3B0 + below(0x30) : below(16) ? below(0x100) : 0x300 + below(6);
+                ? 0x3B0 + below(0x30) : below(16) ? below(0x112) : 0x300 + below(6);
             b[0] = (uint8_t)kind;
             b[1] = i % 64 ? (uint8_t)(1 + wide) : 2;
             b[2] = (uint8_t)address;
@@ -1008,6 +1143,11 @@ int main(void)
         { "point 29", "the cursor", point29 },
         { "point 30", "window 2", point30 },
         { "point 31", "readers of an unsound file", point31 },
+        { "02, 6/13", "V-Port registers, each by itself", vport_registers },
+        { "02, 6/13", "V-Port registers have one road", vport_roads },
+        { "02, 6/13", "capture geometry", capture },
+        { "02, 6/13", "a restore's order of codes", restore_order },
+        { "02, 6/13", "a restore ends in the wanted file", restored },
         { "timing", "reads as counted up from the table", timing_read },
         { "timing", "written back changes nothing; written is read", timing_kept },
         { "sound", "every bit by the table", sound_bits },

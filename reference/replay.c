@@ -1,9 +1,10 @@
 /*
- * 01 "The replay program": a trace of any length on standard input, in fixed memory.
- * Built with REPLAY_WITHOUT_MAIN it is the function alone.
+ * 01 "The replay program": a trace of any length on standard input, in fixed memory; for the 5462
+ * with `--chip 5462` (02, 6/13). Built with REPLAY_WITHOUT_MAIN it is the function alone.
  */
 #include "replay.h"
 
+#include "chip.h"
 #include "sedgecoil.h"
 
 enum {
@@ -61,13 +62,13 @@ static bool print_timing(const struct sc_file *f, FILE *out)
 }
 
 /* fread gives less than asked at the end of the input alone, so only that leaves a fragment. */
-bool replay(FILE *in, FILE *out)
+bool replay(enum sc_chip chip, FILE *in, FILE *out)
 {
     struct sc_file f;
     uint64_t number = 0;
     size_t length;
 
-    sc_power_on(&f);
+    sc_power_on(&f, chip);
     do {
         length = fread(trace, 1, sizeof trace, in);
         struct sc_progress done = sc_run(&f, trace, length, replies, sizeof replies);
@@ -82,9 +83,15 @@ bool replay(FILE *in, FILE *out)
 }
 
 #ifndef REPLAY_WITHOUT_MAIN
-int main(void)
+int main(int words, char **word)
 {
-    if (replay(stdin, stdout))
+    enum sc_chip chip;
+
+    if (!take_chip(&words, &word, &chip) || words > 1) {
+        fputs("usage: replay [--chip 5462|5464]\n", stderr);
+        return 2;
+    }
+    if (replay(chip, stdin, stdout))
         return 0;
     perror("replay");
     return 1;

@@ -5,7 +5,9 @@
 #include <stdbool.h>
 #include <stdio.h>
 
+#include "sedgecoil.h"
+
 /* Replays a trace from power-on. False if the input can't be read or the output written. */
-bool replay(FILE *in, FILE *out);
+bool replay(enum sc_chip chip, FILE *in, FILE *out);
 
 #endif

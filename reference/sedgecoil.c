@@ -46,6 +46,28 @@ static const struct {
     [SC_E4] = { 0xE4, 2, 0x7F7F }, [SC_E6] = { 0xE6, 2, 0x1101 }, [SC_E8] = { 0xE8, 2, 0x7FFC },
 };
 
+struct vport {
+    uint16_t mask;
+    uint16_t besides;   /* what it reads, whatever it stores */
+    uint16_t start;     /* what it stores at power-on */
+};
+
+/* 02, 6/13: the V-Port registers, 10Ch as the 5464 has it. */
+static const struct vport vports[SC_VPORTS] = {
+    [SC_BUFFER0_X] = { 0x1F00, 0, 0 }, [SC_BUFFER1_X] = { 0x1F00, 0, 0 },
+    [SC_BUFFER0_Y] = { 0x3FFF, 0, 0 }, [SC_BUFFER1_Y] = { 0x3FFF, 0, 0 },
+    [SC_X_START] = { 0x03FF, 0, 0 }, [SC_X_STOP] = { 0x03FF, 0, 0 },
+    [SC_10C] = { 0x01FF, 0, 0 }, [SC_Y_STOP] = { 0x01FF, 0, 0 },
+};
+
+/* 02, 6/13: 10Ch on the 5462, "storing F3DFh; bits 11 and 10 read 1, bit 5 reads 0". */
+static const struct vport vport_control = { 0xF3DF, 0x0C00, 0x0090 };
+
+static const struct vport *vport(enum sc_chip chip, size_t number)
+{
+    return chip == SC_5462 && number == SC_10C ? &vport_control : &vports[number];
+}
+
 enum {
     MISC_MASK = 0xEF,
     SRX_MASK = 0x1F,
@@ -59,7 +81,8 @@ enum {
 enum {
     SR6_READS = 0x12,
     PCI00_READS = 0x1013,
-    PCI02_READS = 0x00D4,
+    PCI02_READS_5462 = 0x00D0,
+    PCI02_READS_5464 = 0x00D4,
     MISC_COLOUR = 0x01,     /* MISC[0]: '?' is D */
     ARX_INDEX = 0x1F,       /* ARX[4:0] */
     CR7_UNLOCKED = 0x10,    /* CR7[4], writable while CR11[7]=1 */
@@ -70,9 +93,11 @@ enum {
     B0_READING = 0x04
 };
 
-void sc_power_on(struct sc_file *f)
+void sc_power_on(struct sc_file *f, enum sc_chip chip)
 {
-    *f = (struct sc_file){ .last = { .colour = SC_BLUE } };
+    *f = (struct sc_file){ .chip = chip, .last = { .colour = SC_BLUE } };
+    for (size_t i = 0; i < SC_VPORTS; i++)
+        f->vport[i] = vport(chip, i)->start;
 }
 
 /* ---- Soundness ---- */
@@ -90,6 +115,9 @@ static bool bits_sound(const struct sc_file *f)
 {
     for (size_t i = 0; i < SC_PIPES; i++)
         if (f->pipe[i] & ~pipes[i].mask)
+            return false;
+    for (size_t i = 0; i < SC_VPORTS; i++)
+        if (f->vport[i] & ~vport(f->chip, i)->mask)
             return false;
     return !(f->pci04 & ~PCI04_MASK) && !(f->misc & ~MISC_MASK)
         && !(f->srx & ~SRX_MASK) && !(f->crx & ~CRX_MASK)
@@ -115,7 +143,7 @@ bool sc_sound(const struct sc_file *f)
 
 enum unit {
     NOWHERE, PCI00, PCI02, PCI04, MISC, SRX, CRX, GRX, ARX, SR, CR, GR, AR,
-    ATTRIBUTE, STATUS, PIXEL_MASK, READ_ADDRESS, WRITE_ADDRESS, PIXEL, PIPE
+    ATTRIBUTE, STATUS, PIXEL_MASK, READ_ADDRESS, WRITE_ADDRESS, PIXEL, PIPE, VPORT
 };
 
 struct place {
@@ -177,6 +205,14 @@ static struct place pipe_place(uint16_t address)
     return at8(NOWHERE, 0);
 }
 
+/* 02, 6/13: the V-Port registers, 16 bits each. */
+static struct place vport_place(uint16_t offset)
+{
+    if (offset % 2 == 0 && offset / 2 < SC_VPORTS)
+        return (struct place){ VPORT, 2, (uint8_t)(offset / 2) };
+    return at8(NOWHERE, 0);
+}
+
 /* 01 "Places", MMIO: CRn at 4n where CRn stores anything (CR24 and CR26 do not). */
 static struct place mmio_place(uint16_t address)
 {
@@ -191,6 +227,8 @@ static struct place mmio_place(uint16_t address)
     }
     if (address >= 0x300)
         return config_place(address - 0x300);
+    if (address >= 0x100)
+        return vport_place(address - 0x100);
     if (address % 4 == 0 && address / 4 < SC_CRS && cr_mask[address / 4])
         return at8(CR, address / 4);
     return pipe_place(address);
@@ -355,7 +393,7 @@ static uint8_t read_place(struct sc_file *f, struct place at, uint16_t *value)
     case AR: return load(f->ar, ar_mask, at.number, value);
     case PIXEL: return read_pixel(f, value);
     case PCI00: *value = PCI00_READS; break;
-    case PCI02: *value = PCI02_READS; break;
+    case PCI02: *value = f->chip == SC_5462 ? PCI02_READS_5462 : PCI02_READS_5464; break;
     case PCI04: *value = f->pci04; break;
     case MISC: *value = f->misc; break;
     case SRX: *value = f->srx; break;
@@ -367,6 +405,7 @@ static uint8_t read_place(struct sc_file *f, struct place at, uint16_t *value)
     case READ_ADDRESS: *value = f->pointer.reading ? 3 : 0; break;
     case WRITE_ADDRESS: *value = f->pointer.address; break;
     case PIPE: *value = at.number == SC_B0 ? read_b0(f) : f->pipe[at.number]; break;
+    case VPORT: *value = f->vport[at.number] | vport(f->chip, at.number)->besides; break;
     case ATTRIBUTE: case NOWHERE: return SC_NOT_HELD;           /* never a read's */
     }
     return SC_DONE;
@@ -392,6 +431,7 @@ static uint8_t write_place(struct sc_file *f, struct place at, uint16_t value)
     case READ_ADDRESS: point(&f->pointer, value, true); break;
     case WRITE_ADDRESS: point(&f->pointer, value, false); break;
     case PIPE: f->pipe[at.number] = value & pipes[at.number].mask; break;
+    case VPORT: f->vport[at.number] = value & vport(f->chip, at.number)->mask; break;
     case ARX: case STATUS: case NOWHERE: return SC_NOT_HELD;    /* never a write's */
     }
     return SC_DONE;
@@ -711,6 +751,18 @@ uint8_t sc_window2_read(const struct sc_file *f, struct sc_window2 *w)
     return SC_DONE;
 }
 
+uint8_t sc_capture_read(const struct sc_file *f, struct sc_capture *c)
+{
+    *c = (struct sc_capture){ 0 };
+    if (!sc_sound(f))
+        return SC_UNSOUND;
+    c->x_start = f->vport[SC_X_START];
+    c->x_stop = f->vport[SC_X_STOP];
+    c->y_start = f->chip == SC_5462 ? 0 : f->vport[SC_10C];
+    c->y_stop = f->vport[SC_Y_STOP];
+    return SC_DONE;
+}
+
 /*
  * ---- Plan ----
  * Written with the proved plan in sight: it is no measure of a plan's bytes, but what the wrong
@@ -793,6 +845,8 @@ static uint8_t *put_registers(uint8_t *end, const struct sc_file *w)
             end = put_mmio(end, 4 * i, w->cr[i]);
     for (uint8_t i = SC_B0 + 1; i < SC_PIPES; i++)
         end = put(end, SC_MMIO_WRITE, pipes[i].width, pipes[i].offset, w->pipe[i]);
+    for (uint8_t i = 0; i < SC_VPORTS; i++)
+        end = put(end, SC_MMIO_WRITE, 2, 0x100 + 2 * i, w->vport[i]);
     end = put_mmio(end, 0xA0, w->pixel_mask);
     end = put_group(end, 0x3C4, 0x3C5, w->sr, sr_mask, SC_SRS);
     end = put_group(end, 0x3CE, 0x3CF, w->gr, gr_mask, SC_GRS);
@@ -836,5 +890,27 @@ uint8_t sc_plan(const struct sc_file *wanted, uint8_t *buffer, size_t room, size
     end = put_indices(end, wanted);
     end = put_closing(end, wanted);
     *count = (size_t)(end - buffer) / SC_RECORD_BYTES;
+    return SC_DONE;
+}
+
+uint8_t sc_restore(struct sc_file *current, const struct sc_file *wanted,
+                   uint8_t *buffer, size_t room, size_t *count)
+{
+    uint8_t replies[SC_PLAN_BYTES], code;
+
+    *count = 0;
+    if (!sc_sound(current) || !sc_sound(wanted))
+        return SC_UNSOUND;
+    if (current->chip != wanted->chip)
+        return SC_OTHER_CHIP;
+    code = sc_plan(wanted, buffer, room, count);
+    if (code != SC_DONE)
+        return code;
+    sc_run(current, buffer, SC_RECORD_BYTES * *count, replies, sizeof replies);
+    for (size_t i = 0; i < *count; i++)
+        if (replies[SC_REPLY_BYTES * i] != SC_DONE) {
+            *count = 0;
+            return SC_RECORD_REFUSED;   /* by 01's demand 3 it never comes to this */
+        }
     return SC_DONE;
 }

@@ -27,6 +27,8 @@ enum sc_code {
     SC_SHORT_BUFFER = 11,
     SC_UNSOUND = 12,
     SC_NOT_BEFORE_RED = 13,
+    SC_RECORD_REFUSED = 14,
+    SC_OTHER_CHIP = 15,         /* 02, 6/13 */
     SC_OTHER_DIRECTION = 16,    /* 02 2/13 */
     SC_INSIDE_WIDER = 17
 };
@@ -64,6 +66,17 @@ enum sc_pipe {
     SC_PIPES
 };
 
+/* 02, 6/13: "Make the chip a choice when a file is created". */
+enum sc_chip { SC_5462, SC_5464, SC_CHIPS };
+
+/* 02, 6/13 and 001: the 8 V-Port registers, 16 bits each, at 100h, 102h and so on to 10Eh. */
+enum sc_vport {
+    SC_BUFFER0_X, SC_BUFFER1_X, SC_BUFFER0_Y, SC_BUFFER1_Y, SC_X_START, SC_X_STOP,
+    SC_10C,             /* Capture Y Start on the 5464, V-Port Control on the 5462 */
+    SC_Y_STOP,
+    SC_VPORTS
+};
+
 /* 01 "The palette pointer". */
 enum { SC_RED, SC_GREEN, SC_BLUE, SC_COLOURS };
 
@@ -85,6 +98,7 @@ enum { SC_SRS = 0x20, SC_CRS = 0x40, SC_GRS = 0x40, SC_ARS = 0x20 };
 enum { SC_PALETTE_ENTRIES = 256, SC_BANK_ENTRIES = 16 };
 
 struct sc_file {
+    enum sc_chip chip;  /* no access changes it */
     uint16_t pci04;
     uint8_t misc;
     uint8_t srx, crx, grx, arx;
@@ -92,6 +106,7 @@ struct sc_file {
     bool data_next;     /* the attribute toggle: the next 3C0h write is data */
     uint8_t sr[SC_SRS], cr[SC_CRS], gr[SC_GRS], ar[SC_ARS];
     uint16_t pipe[SC_PIPES];
+    uint16_t vport[SC_VPORTS];
     struct sc_pointer pointer;
     struct sc_last last;
     uint8_t palette[SC_PALETTE_ENTRIES][SC_COLOURS];
@@ -124,6 +139,11 @@ struct sc_window2 {
     uint32_t blt_scanlines[2];  /* from D4 and D5 */
 };
 
+/* 02, 6/13: the capture window; x counts pixel clocks, y incoming scanlines. */
+struct sc_capture {
+    uint32_t x_start, x_stop, y_start, y_stop;
+};
+
 /* What a run did, and the part of the trace it has not read. */
 struct sc_progress {
     uint8_t code;
@@ -134,11 +154,11 @@ struct sc_progress {
 
 /*
  * 01 "Places": all stored bits and entries 0, toggle at index, pointer at 0, write mode, red;
- * 02, 1/13: "power-on is write, blue".
+ * 02, 1/13: "power-on is write, blue"; 02, 6/13: the 5462's 10Ch "reads 0C90h at power-on".
  */
-void sc_power_on(struct sc_file *f);
+void sc_power_on(struct sc_file *f, enum sc_chip chip);
 
-/* 01 "The palette pointer", last sentence, and 02, 1/13: is the file sound? */
+/* 01 "The palette pointer", last sentence, 02, 1/13 and 6/13: is the file sound, by its chip? */
 bool sc_sound(const struct sc_file *f);
 
 /* 01 "Accesses and replies": the 8 bytes of a record read, the 8 bytes of a reply written. */
@@ -165,10 +185,20 @@ uint8_t sc_timing_write(struct sc_file *f, const struct sc_timing *t);
 uint8_t sc_cursor_read(const struct sc_file *f, struct sc_cursor *c);
 uint8_t sc_window2_read(const struct sc_file *f, struct sc_window2 *w);
 
+/* 02, 6/13: "start and stop as stored; the 5462's vertical start is given as 0"; or 12 and zeros. */
+uint8_t sc_capture_read(const struct sc_file *f, struct sc_capture *c);
+
 /*
- * 01 "Accesses and replies": records that lead from any sound file to the wanted one. 0 and their
- * count, or 12, 13, 11 (in this order), count 0 and the buffer as it was.
+ * 01 "Accesses and replies": records that lead from any sound file of its chip to the wanted one. 0
+ * and their count, or 12, 13, 11 (in this order), count 0 and the buffer as it was.
  */
 uint8_t sc_plan(const struct sc_file *wanted, uint8_t *buffer, size_t room, size_t *count);
+
+/*
+ * 01 "Accesses and replies", 02, 6/13: the plan made and run. 12 (the current file first), 15, 13, 11
+ * leave the current file and the buffer as they were, and the count is 0; 14 is the last.
+ */
+uint8_t sc_restore(struct sc_file *current, const struct sc_file *wanted,
+                   uint8_t *buffer, size_t room, size_t *count);
 
 #endif

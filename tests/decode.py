@@ -11,10 +11,11 @@ import sys
 
 CONFIG, PORT, MMIO = 0, 1, 2
 SPACES = ("config", "port", "MMIO")
+VPORT = range(0x100, 0x110, 2)
 
 
 def places():
-    """01 "Places": (space, address) -> (name, width, held for reads, held for writes)."""
+    """01 "Places", 02 6/13: (space, address) -> (name, width, held for reads, held for writes)."""
     held = {}
 
     def hold(space, address, name, width=1, reads=True, writes=True):
@@ -43,7 +44,7 @@ def places():
             hold(space, first + stride * n, name)
     for offset in (0xB0, 0xB8, 0xBC, 0xD4, 0xD5):
         hold(MMIO, offset, f"{offset:X}")
-    for offset in (0xC0, 0xCC, 0xCE, 0xD0, 0xD2, 0xE0, 0xE2, 0xE4, 0xE6, 0xE8):
+    for offset in (0xC0, 0xCC, 0xCE, 0xD0, 0xD2, 0xE0, 0xE2, 0xE4, 0xE6, 0xE8, *VPORT):
         hold(MMIO, offset, f"{offset:X}", width=2)
     for address in (0x00, 0x02, 0x04):
         hold(CONFIG, address, f"PCI{address:02X}", width=2)

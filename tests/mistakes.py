@@ -108,6 +108,61 @@ MISTAKES = [
     ("E8 bit 15 kept", "0x7FFC", "0xFFFC"),
     ("SR6 reads 0", "SR6_READS = 0x12", "SR6_READS = 0x00"),
 
+    # The V-Port and the chip, 02 6/13
+    ("100h keeps bit 13", "[SC_BUFFER0_X] = { 0x1F00", "[SC_BUFFER0_X] = { 0x3F00"),
+    ("102h keeps bit 7", "[SC_BUFFER1_X] = { 0x1F00", "[SC_BUFFER1_X] = { 0x1F80"),
+    ("104h keeps bit 14", "[SC_BUFFER0_Y] = { 0x3FFF", "[SC_BUFFER0_Y] = { 0x7FFF"),
+    ("106h keeps bit 15", "[SC_BUFFER1_Y] = { 0x3FFF", "[SC_BUFFER1_Y] = { 0xBFFF"),
+    ("108h keeps bit 10", "[SC_X_START] = { 0x03FF", "[SC_X_START] = { 0x07FF"),
+    ("10Ah keeps bit 10", "[SC_X_STOP] = { 0x03FF", "[SC_X_STOP] = { 0x07FF"),
+    ("10Ch keeps bit 9 on the 5464", "[SC_10C] = { 0x01FF", "[SC_10C] = { 0x03FF"),
+    ("10Eh keeps bit 9", "[SC_Y_STOP] = { 0x01FF", "[SC_Y_STOP] = { 0x03FF"),
+    ("100h drops bit 8", "[SC_BUFFER0_X] = { 0x1F00", "[SC_BUFFER0_X] = { 0x1E00"),
+    ("bit 5 of 10Ch stored on the 5462", "{ 0xF3DF, 0x0C00, 0x0090 }", "{ 0xF3FF, 0x0C00, 0x0090 }"),
+    ("bit 15 of 10Ch dropped on the 5462", "{ 0xF3DF, 0x0C00, 0x0090 }", "{ 0x73DF, 0x0C00, 0x0090 }"),
+    ("bits 11 and 10 of 10Ch read 0 on the 5462", "{ 0xF3DF, 0x0C00, 0x0090 }", "{ 0xF3DF, 0x0000, 0x0090 }"),
+    ("bit 10 of 10Ch reads 0 on the 5462", "{ 0xF3DF, 0x0C00, 0x0090 }", "{ 0xF3DF, 0x0800, 0x0090 }"),
+    ("bits 11 and 10 of 10Ch read what was written",
+     "{ 0xF3DF, 0x0C00, 0x0090 }", "{ 0xFFDF, 0x0000, 0x0C90 }"),
+    ("10Ch of the 5462 stores 0 at power-on", "{ 0xF3DF, 0x0C00, 0x0090 }", "{ 0xF3DF, 0x0C00, 0x0000 }"),
+    ("10Ch with the other chip's bits",
+     "chip == SC_5462 && number == SC_10C", "chip != SC_5462 && number == SC_10C"),
+    ("10Ch is V-Port Control on both chips", "chip == SC_5462 && number == SC_10C", "number == SC_10C"),
+    ("10Ch is Capture Y Start on both chips", "chip == SC_5462 && number == SC_10C", "chip == SC_CHIPS"),
+    ("10Eh is V-Port Control on the 5462",
+     "chip == SC_5462 && number == SC_10C", "chip == SC_5462 && number == SC_Y_STOP"),
+    ("PCI02 of the other chip",
+     "f->chip == SC_5462 ? PCI02_READS_5462", "f->chip != SC_5462 ? PCI02_READS_5462"),
+    ("PCI02 reads 00D4h on both chips", "PCI02_READS_5462 = 0x00D0", "PCI02_READS_5462 = 0x00D4"),
+    ("PCI02 written",
+     "case PCI00: case PCI02: return SC_READ_ONLY;",
+     "case PCI02: f->chip = value == PCI02_READS_5462 ? SC_5462 : SC_5464; break;\n"
+     "    case PCI00: return SC_READ_ONLY;"),
+    ("fixed bits of 10Ch refused",
+     "    case VPORT: f->vport[at.number] =",
+     "    case VPORT: if (value & vport(f->chip, at.number)->besides) return SC_READ_ONLY;\n"
+     "        f->vport[at.number] ="),
+    ("the V-Port under the lock",
+     "    case VPORT: f->vport[at.number] =",
+     "    case VPORT: if (f->cr[0x11] & CR11_LOCK) return SC_LOCKED;\n"
+     "        f->vport[at.number] ="),
+    ("a V-Port register's odd half answered 4",
+     "    below.address--;\n",
+     "    if (r->address >= 0x100 && r->address < 0x110)\n        return SC_NOT_HELD;\n"
+     "    below.address--;\n"),
+    ("110h held",
+     "if (offset % 2 == 0 && offset / 2 < SC_VPORTS)\n        return (struct place){ VPORT, 2, (uint8_t)(offset / 2) };",
+     "if (offset % 2 == 0 && offset / 2 <= SC_VPORTS)\n        return (struct place){ VPORT, 2, offset / 2 % SC_VPORTS };"),
+    ("114h held",
+     "if (offset % 2 == 0 && offset / 2 < SC_VPORTS)\n        return (struct place){ VPORT, 2, (uint8_t)(offset / 2) };",
+     "if (offset % 2 == 0 && (offset < 0x10 || offset == 0x14))\n        return (struct place){ VPORT, 2, offset / 2 % SC_VPORTS };"),
+    ("118h held",
+     "if (offset % 2 == 0 && offset / 2 < SC_VPORTS)\n        return (struct place){ VPORT, 2, (uint8_t)(offset / 2) };",
+     "if (offset % 2 == 0 && (offset < 0x10 || offset == 0x18))\n        return (struct place){ VPORT, 2, offset / 2 % SC_VPORTS };"),
+    ("the V-Port mirrored", "return vport_place(address - 0x100);", "return vport_place((address - 0x100) & 0x7F);"),
+    ("V-Port registers of 8 bits", "{ VPORT, 2, (uint8_t)(offset / 2) }", "{ VPORT, 1, (uint8_t)(offset / 2) }"),
+    ("102h is 100h", "{ VPORT, 2, (uint8_t)(offset / 2) }", "{ VPORT, 2, offset == 2 ? 0 : (uint8_t)(offset / 2) }"),
+
     # The lock
     ("CR6 not locked", "if (locked && number <= 0x06)", "if (locked && number <= 0x05)"),
     ("locked CR7 loses its other bits",
@@ -211,6 +266,11 @@ ROAD_MISTAKES = [
      "    return r->value != 0;\n}", "    return r->value != 0 && r->kind != SC_MMIO_READ;\n}"),
     ("any width taken by MMIO",
      "    if (r->width != at.width)\n", "    if (r->width != at.width && r->kind < SC_MMIO_READ)\n"),
+    ("302h reads 00D4h on both chips",
+     "    return is_write(r) ? write_place",
+     "    if (r->kind == SC_MMIO_READ && at.unit == PCI02)\n"
+     "        return *value = PCI02_READS_5464, SC_DONE;\n"
+     "    return is_write(r) ? write_place"),
 ]
 
 GEOMETRY_MISTAKES = [
@@ -231,6 +291,14 @@ GEOMETRY_MISTAKES = [
     ("enabled and format exchanged", "w->enabled = f->pipe[SC_D4] & 0x80;", "w->enabled = f->pipe[SC_D4] & 0x40;"),
     ("BLT scanlines in steps of 32", "w->blt_scanlines[1] = 64 *", "w->blt_scanlines[1] = 32 *"),
     ("stop by D4", "(f->pipe[SC_D5] & 0x3F)", "(f->pipe[SC_D4] & 0x3F)"),
+    # 02 6/13
+    ("capture's top by 10Ch on the 5462", "f->chip == SC_5462 ? 0 : f->vport[SC_10C]", "f->vport[SC_10C]"),
+    ("capture's top 0 on the 5464", "f->chip == SC_5462 ? 0 : f->vport[SC_10C]", "0"),
+    ("capture's left by its stop", "c->x_start = f->vport[SC_X_START]", "c->x_start = f->vport[SC_X_STOP]"),
+    ("capture's right by its start", "c->x_stop = f->vport[SC_X_STOP]", "c->x_stop = f->vport[SC_X_START]"),
+    ("capture's bottom by 10Ch", "c->y_stop = f->vport[SC_Y_STOP]", "c->y_stop = f->vport[SC_10C]"),
+    ("capture's bottom 0 on the 5462", "c->y_stop = f->vport[SC_Y_STOP]",
+     "c->y_stop = f->chip == SC_5462 ? 0 : f->vport[SC_Y_STOP]"),
 ]
 
 PLAN_MISTAKES = [
@@ -258,6 +326,15 @@ PLAN_MISTAKES = [
     ("the bank left out",
      "    end = put_entries(end, B0_BANK, wanted->bank[0], sizeof wanted->bank);\n", ""),
     ("the pixel mask left out", "    end = put_mmio(end, 0xA0, w->pixel_mask);\n", ""),
+    ("the V-Port left out",
+     "    for (uint8_t i = 0; i < SC_VPORTS; i++)\n        end = put(end,",
+     "    for (uint8_t i = SC_VPORTS; i < SC_VPORTS; i++)\n        end = put(end,"),
+    ("10Eh left out",
+     "    for (uint8_t i = 0; i < SC_VPORTS; i++)\n        end = put(end,",
+     "    for (uint8_t i = 0; i < SC_Y_STOP; i++)\n        end = put(end,"),
+    ("10Ch left out",
+     "        end = put(end, SC_MMIO_WRITE, 2, 0x100 + 2 * i,",
+     "        if (i != SC_10C)\n            end = put(end, SC_MMIO_WRITE, 2, 0x100 + 2 * i,"),
     ("the toggle left at data", "return w->data_next ? end : put_status(end, w);", "return end;"),
     ("ARX written without bit 5", "put_port(end, 0x3C0, w->arx)",
      "put_port(end, 0x3C0, w->arx & ARX_INDEX)"),

@@ -12,7 +12,7 @@ import struct
 import sys
 
 sys.dont_write_bytecode = True
-from decode import CONFIG, HELD, MMIO, PORT
+from decode import CONFIG, HELD, MMIO, PORT, VPORT
 
 READ, WRITE = 0, 1
 PIXEL_PORTS = ((PORT, 0x3C7), (PORT, 0x3C8), (PORT, 0x3C9))
@@ -32,6 +32,9 @@ class Chance:
 
     def pick(self, items):
         return items[int(self.random() * len(items))]
+
+    def shuffled(self, items):
+        return sorted(items, key=lambda item: self.random())
 
     def one_in(self, times):
         return self.random() * times < 1
@@ -198,9 +201,10 @@ def sweep(chance):
         yield from sweep_over(chance, chance.below(2), range(0x400, 0x10000))
 
 
-# The records of one sweep: 4 an address, and what sweep_over adds at held and unsteady places.
-SWEEP = (3 * 4 * (0x400 + 0x10000) + 2 * len(HELD)
-         + len(steady(0)) * (3 + 2 * len(UNSTEADY)))
+# The records of one sweep: 4 an address, and what sweep_over adds at held and unsteady places. Those
+# of its first part are below 400h, where all that is held stands.
+LOW_SWEEP = 2 * (3 * 4 * 0x400 + len(HELD) + len(steady(0)) * (1 + len(UNSTEADY)))
+SWEEP = LOW_SWEEP + 3 * 4 * (0x10000 - 0x400) + len(steady(0))
 
 
 def index(chance):
@@ -413,7 +417,7 @@ def near(chance, value, top):
 
 
 def geometry(chance):
-    """rounds of 16 writes that bear on cursor and window 2, edges close to each other; best as many short traces"""
+    """rounds of 20 writes that bear on cursor, window 2 and capture, edges close to each other; best as many short traces"""
     yield OPEN
     while True:
         lines = chance.below(0x400)
@@ -434,8 +438,26 @@ def geometry(chance):
             yield write(MMIO, address, near(chance, chance.below(0x80), 0x1000), 2)
         preset = chance.pick((0x3F, 0x40, 0x41, chance.below(0x80)))
         yield write(MMIO, 0xE4, chance.pick((0x3F, 0x40, chance.below(0x80))) << 8 | preset, 2)
-        for address in (0xE6, 0xE8):
+        for address in (0xE6, 0xE8, 0x108, 0x10A, 0x10C, 0x10E):
             yield write(MMIO, address, chance.fitting(2), 2)
+
+
+def vport(chance):
+    """MMIO 100h to 11Fh in both directions and widths, each V-Port register bit by bit; PCI02"""
+    yield OPEN
+    while True:
+        for address in chance.shuffled(range(0x100, 0x120)):
+            for width in (1, 2):
+                yield read(MMIO, address, width)
+                yield write(MMIO, address, chance.fitting(width), width)
+                yield read(MMIO, address & ~1, 2)
+        for address in chance.shuffled(VPORT):
+            for bit in range(16):
+                yield write(MMIO, address, 1 << bit ^ chance.pick((0, 0xFFFF)), 2)
+                yield read(MMIO, address, 2)
+        for space, address in ((CONFIG, 0x02), (MMIO, 0x302)):
+            yield read(space, address, 2)
+            yield write(space, address, chance.below(0x10000), 2)
 
 
 def fragment(chance):
@@ -453,7 +475,7 @@ def tail(chance, seed):
 
 def long(chance):
     """stretches of all the other kinds"""
-    streams = [make(chance) for make in (noise, mixed, index, toggles, palette, polls, timing, geometry, sweep)]
+    streams = [make(chance) for make in (noise, mixed, index, toggles, palette, polls, timing, geometry, vport, sweep)]
     yield OPEN
     while True:
         yield from itertools.islice(chance.pick(streams), 20 + chance.below(1500))
@@ -474,6 +496,7 @@ KINDS = {
     "ports": ports,
     "timing": timing,
     "geometry": geometry,
+    "vport": vport,
     "fragment": fragment,
     "long": long,
 }

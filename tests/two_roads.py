@@ -8,7 +8,8 @@ either direction, any width and any value, the card locked or not, the palette d
 each both spaces are enabled, the index register is set and MISC[0] made to fit; after each all
 that can be read is read, and at the end palette and bank too. A walk is two traces, which differ
 in the road of these accesses alone: what REPLAY_COMMAND prints of them must be the same. A line
-for each register says how many accesses were made and which codes they drew.
+for each register says how many accesses were made and which codes they drew. With '--chip 5462' at
+its end the walks are made on that chip.
 """
 import argparse
 import itertools

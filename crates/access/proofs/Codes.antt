@@ -10,7 +10,7 @@ use Rattle.file.specs.declared.answer.Answer.the-variants.{Done, Locked, Palett
 use Rattle.file.specs.declared.registers.File.{File}
 use Rattle.file.specs.Answers.{refused}
 use Rattle.places.specs.declared.place.Place.{Place}
-use Rattle.places.specs.Profile.{Reading, givesHeld, givesFixed, givesToggle, givesPaletteState, givesDacState, givesAddress, givesPixel, resetsToggle, namesNothing, Writing, storesTo, readOnly, setsAddress, writesPixel, storesNothing, profile}
+use Rattle.places.specs.Profile.{Reading, givesHeld, givesFixed, givesDeviceId, givesToggle, givesPaletteState, givesVPortState, givesDacState, givesAddress, givesPixel, resetsToggle, namesNothing, Writing, storesTo, readOnly, setsAddress, writesPixel, storesNothing, profile}
 use Rattle.access.specs.declared.record.Record.{Record}
 use Rattle.access.specs.Access.{placeOf, lockedOut, paletteUp, shownIn, readAnswer, writeAnswer, answerAt, answer}
 use Rattle.access.specs.Checks.{Check, isWrite, checks, firstRefusal}
@@ -34,8 +34,10 @@ read-code : (f : File) (reading : Reading) → T (accessCode (readAnswer f readi
 unfolding accessCode readAnswer
 read-code f (givesHeld number) = tt
 read-code f (givesFixed value) = tt
+read-code f givesDeviceId = tt
 read-code f givesToggle = tt
 read-code f givesPaletteState = tt
+read-code f givesVPortState = tt
 read-code f givesDacState = tt
 read-code f givesAddress = tt
 read-code f givesPixel = chosen accessCode (paletteUp f) (Done (shownIn f)) PaletteDown tt tt

@@ -24,7 +24,7 @@ use Rattle.places.specs.declared.place.Place.{Place}
 use Rattle.places.specs.EngineCells.{otherWayHeld, widerHeld, heldCell, cellAt, isNothing, cellWidth, cellIn, cellTable, cellPlace, taken, takesBytes}
 use Rattle.places.specs.Lookup.{attributeIndex, matches, placeOfRow, placeAt}
 use Rattle.places.specs.Places.{Row}
-use Rattle.places.specs.Profile.{Reading, givesHeld, givesFixed, givesToggle, givesPaletteState, givesDacState, givesAddress, givesPixel, resetsToggle, namesNothing, Writing, storesTo, readOnly, setsAddress, writesPixel, storesNothing, profile, readsPixel}
+use Rattle.places.specs.Profile.{Reading, givesHeld, givesFixed, givesDeviceId, givesToggle, givesPaletteState, givesVPortState, givesDacState, givesAddress, givesPixel, resetsToggle, namesNothing, Writing, storesTo, readOnly, setsAddress, writesPixel, storesNothing, profile, readsPixel}
 use Rattle.places.proofs.CellsOfRows.{Outcome, nothing, held, outcome, spoken}
 use Rattle.places.proofs.IndexedPorts.{decider, count, Indexed, cell-names}
 use Rattle.places.proofs.NotHeld.{something-held, cell-held}
@@ -46,9 +46,9 @@ use Rattle.access.proofs.SeenFiles.{decided-refused, decided-write, dec
 -- the index registers of a sound file
 indices : (f : File) → T (sound f) → Indexed f
 unfolding decider count register attributeIndex bits storedBits
-indices f s zero h = omega (arith, at-most (f .registers) 1 (registers-sound f s))
-indices f s (suc zero) h = omega (arith, at-most (f .registers) 2 (registers-sound f s))
-indices f s (suc (suc zero)) h = omega (arith, at-most (f .registers) 3 (registers-sound f s))
+indices f s zero h = omega (arith, at-most (f .state .chip) (f .registers) 1 (registers-sound f s))
+indices f s (suc zero) h = omega (arith, at-most (f .state .chip) (f .registers) 2 (registers-sound f s))
+indices f s (suc (suc zero)) h = omega (arith, at-most (f .state .chip) (f .registers) 3 (registers-sound f s))
 indices f s (suc (suc (suc zero))) h = omega arith
 indices f s (suc (suc (suc (suc zero)))) h = omega arith
 indices f s (suc (suc (suc (suc (suc c))))) h = absurd (omega arith)
@@ -94,8 +94,10 @@ pixel-shown : (f : File) (reading : Reading) → (readsPixel reading && paletteU
 unfolding readsPixel readAnswer refused codeOf
 pixel-shown f (givesHeld number) = refl
 pixel-shown f (givesFixed value) = refl
+pixel-shown f givesDeviceId = refl
 pixel-shown f givesToggle = refl
 pixel-shown f givesPaletteState = refl
+pixel-shown f givesVPortState = refl
 pixel-shown f givesDacState = refl
 pixel-shown f givesAddress = refl
 pixel-shown f givesPixel = by-test (paletteUp f) (λ e. rw e refl) (λ e. rw e refl)
@@ -103,6 +105,10 @@ pixel-shown f resetsToggle = refl
 pixel-shown f namesNothing = refl
 
 module _ (f : File) (s : T (sound f)) (r : Record) where
+  -- the stored bits on the file's chip
+  abbrev pub Stored : List ℕ
+  Stored = storedTable (f .state .chip)
+
   -- the checks' refusal is the answer, and does nothing
   module _ (a : Answer) (e : lookedBy cellTable f r ≡ Refused a) where
     answer-refused : answer f r ≡ a
@@ -113,9 +119,9 @@ module _ (f : File) (s : T (sound f)) (r : Record) where
     unfolding refuses
     is-refused = ap refused answer-refused ∙ is-true (refused a) (subst (λ (l : Looked). T (refuses l)) e (looked-refuses cellTable f r))
 
-    refused-decision : decidedBy cellTable storedTable f r ≡ decision f r
+    refused-decision : decidedBy cellTable Stored f r ≡ decision f r
     unfolding decision effect asksPixel
-    refused-decision = decided-refused cellTable storedTable f r a e ∙ same-decision (sym answer-refused) (sym (rw is-refused refl)) (sym (rw is-refused refl))
+    refused-decision = decided-refused cellTable Stored f r a e ∙ same-decision (sym answer-refused) (sym (rw is-refused refl)) (sym (rw is-refused refl))
 
   -- past them the place is the cell's, and it answers
   module _ (cell : ℕ) (e : lookedBy cellTable f r ≡ At cell) where
@@ -163,11 +169,11 @@ module _ (f : File) (s : T (sound f)) (r : Record) where
             (either (eqb (row .width) 1) (not (takesBytes (profile (row .place) .writing))) (left (narrow row) (matches f (r .kind) (r .address) row) passes-narrow)
             (λ o. true≢false (sym (is-true (eqb (row .width) 1) o) ∙ two)))))))
 
-    write-decision : isWrite r ≡ true → decidedBy cellTable storedTable f r ≡ decision f r
+    write-decision : isWrite r ≡ true → decidedBy cellTable Stored f r ≡ decision f r
     unfolding decision effect effectAt answerAt decidedWrite reachBy reachIn storedBits asksPixel
     write-decision w =
-        decided-write cellTable storedTable f r cell e w
-        ∙ ap (λ (p : Place). decidedWrite storedTable f (profile p .writing) (r .value)) (sym place-there)
+        decided-write cellTable Stored f r cell e w
+        ∙ ap (λ (p : Place). decidedWrite Stored f (profile p .writing) (r .value)) (sym place-there)
         ∙ same-decision same-answer
         (ap₂ (λ (a : Answer) (v : ℕ). cond (refused a) Nothing (writeEffect (reachIn f) f (profile (placeOf f r) .writing) v)) same-answer (value-taken w) ∙ sym (rw w refl))
         (sym (rw (w, and-false) refl))
@@ -175,10 +181,10 @@ module _ (f : File) (s : T (sound f)) (r : Record) where
         same-answer : writeAnswer f (profile (placeOf f r) .writing) ≡ answer f r
         same-answer = sym (answer-there ∙ rw w refl)
 
-    read-decision : isWrite r ≡ false → decidedBy cellTable storedTable f r ≡ decision f r
+    read-decision : isWrite r ≡ false → decidedBy cellTable Stored f r ≡ decision f r
     unfolding decision effect effectAt answerAt decidedRead asksPixel
     read-decision w =
-        decided-read cellTable storedTable f r cell e w
+        decided-read cellTable Stored f r cell e w
         ∙ ap (λ (p : Place). decidedRead f (profile p .reading)) (sym place-there)
         ∙ same-decision same-answer
         (ap (λ (a : Answer). cond (refused a) Nothing (readEffect f (profile (placeOf f r) .reading))) same-answer ∙ sym (rw w refl))
@@ -189,9 +195,9 @@ module _ (f : File) (s : T (sound f)) (r : Record) where
         same-answer = sym (answer-there ∙ rw w refl)
 
   -- 01's answer and effect, by 01's tables
-  pub decided-by-tables : decidedBy cellTable storedTable f r ≡ decision f r
+  pub decided-by-tables : decidedBy cellTable Stored f r ≡ decision f r
   decided-by-tables = by (lookedBy cellTable f r) refl
     where
-      by : (l : Looked) → lookedBy cellTable f r ≡ l → decidedBy cellTable storedTable f r ≡ decision f r
+      by : (l : Looked) → lookedBy cellTable f r ≡ l → decidedBy cellTable Stored f r ≡ decision f r
       by (Refused a) e = refused-decision a e
       by (At cell) e = by-test (isWrite r) (write-decision cell e) (read-decision cell e)

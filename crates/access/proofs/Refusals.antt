@@ -12,7 +12,7 @@ use Rattle.file.specs.Answers.{codeOf, refused}
 use Rattle.file.specs.Effects.{apply}
 use Rattle.file.specs.Palette.{addressed, afterWrite, afterRead, stores, mixed, marksFrom}
 use Rattle.file.specs.Sound.{sound}
-use Rattle.places.specs.Profile.{Reading, givesHeld, givesFixed, givesToggle, givesPaletteState, givesDacState, givesAddress, givesPixel, resetsToggle, namesNothing, Writing, storesTo, readOnly, setsAddress, writesPixel, storesNothing, profile}
+use Rattle.places.specs.Profile.{Reading, givesHeld, givesFixed, givesDeviceId, givesToggle, givesPaletteState, givesVPortState, givesDacState, givesAddress, givesPixel, resetsToggle, namesNothing, Writing, storesTo, readOnly, setsAddress, writesPixel, storesNothing, profile}
 use Rattle.access.specs.declared.record.Record.{Record}
 use Rattle.access.specs.Access.{placeOf, reachIn, inBank, entryNumber, pixelWrite, writeEffect, readEffect, effectAt, answer, effect, access}
 use Rattle.access.specs.Checks.{isWrite, checks, firstRefusal, notSound}
@@ -43,8 +43,10 @@ pub by-read : (P : Effect → Type 0) (f : File) (reading : Reading)
 unfolding readEffect
 by-read P f (givesHeld number) none move toggle = none
 by-read P f (givesFixed value) none move toggle = none
+by-read P f givesDeviceId none move toggle = none
 by-read P f givesToggle none move toggle = none
 by-read P f givesPaletteState none move toggle = none
+by-read P f givesVPortState none move toggle = none
 by-read P f givesDacState none move toggle = none
 by-read P f givesAddress none move toggle = none
 by-read P f givesPixel none move toggle = move

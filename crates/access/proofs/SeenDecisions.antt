@@ -17,11 +17,11 @@ use Rattle.file.specs.Sound.{sound}
 use Rattle.places.specs.declared.place.Place.{Place}
 use Rattle.places.specs.Lookup.{rowAt, placeOfRow, placeAt, otherWay, heldIn, insideIn}
 use Rattle.places.specs.Places.{Row, places}
-use Rattle.places.specs.Profile.{Reading, givesHeld, givesFixed, givesToggle, givesPaletteState, givesDacState, givesAddress, givesPixel, resetsToggle, namesNothing, Writing, storesTo, readOnly, setsAddress, writesPixel, storesNothing, profile, readsPixel}
+use Rattle.places.specs.Profile.{Reading, givesHeld, givesFixed, givesDeviceId, givesToggle, givesPaletteState, givesVPortState, givesDacState, givesAddress, givesPixel, resetsToggle, namesNothing, Writing, storesTo, readOnly, setsAddress, writesPixel, storesNothing, profile, readsPixel}
 use Rattle.places.proofs.SeenRows.{row-seen}
 use Rattle.access.specs.declared.engine.Decision.{Decision}
 use Rattle.access.specs.declared.record.Record.{Record}
-use Rattle.access.specs.Access.{placeOf, lockedOut, reachIn, paletteUp, inBank, entryNumber, shownIn, readAnswer, writeAnswer, answerAt, pixelWrite, readEffect, writeEffect, effectAt, answer, effect}
+use Rattle.access.specs.Access.{placeOf, lockedOut, reachIn, paletteUp, inBank, entryNumber, shownIn, vPortState, readAnswer, writeAnswer, answerAt, pixelWrite, readEffect, writeEffect, effectAt, answer, effect}
 use Rattle.access.specs.Checks.{Check, isWrite, checks, firstRefusal, notSound, malformed, spaceOff, notHeld, noRow, otherDirection, insideWider, otherHalf, otherWidth, wrongWidth}
 use Rattle.access.specs.Engine.{asksPixel, decision}
 
@@ -48,8 +48,10 @@ module _ (f : File) where
   unfolding readEffect seen
   read-effect (givesHeld number) = refl
   read-effect (givesFixed value) = refl
+  read-effect givesDeviceId = refl
   read-effect givesToggle = refl
   read-effect givesPaletteState = refl
+  read-effect givesVPortState = refl
   read-effect givesDacState = refl
   read-effect givesAddress = refl
   read-effect givesPixel = refl
@@ -77,11 +79,13 @@ module _ (f : File) where
   Shown pixel a = cond (not (refused a) && pixel) (Done (shownIn f)) a
 
   read-answer : (reading : Reading) → readAnswer f reading ≡ Shown (readsPixel reading) (readAnswer Seen reading)
-  unfolding readAnswer readsPixel paletteUp refused codeOf seen register
+  unfolding readAnswer readsPixel paletteUp vPortState refused codeOf seen register
   read-answer (givesHeld number) = refl
   read-answer (givesFixed value) = refl
+  read-answer givesDeviceId = refl
   read-answer givesToggle = refl
   read-answer givesPaletteState = refl
+  read-answer givesVPortState = refl
   read-answer givesDacState = refl
   read-answer givesAddress = refl
   read-answer givesPixel = by-test (paletteUp Seen) (λ e. rw e refl) (λ e. rw e refl)

@@ -10,7 +10,7 @@ use Rattle.file.specs.declared.registers.File.{File}
 use Rattle.file.specs.declared.state.State.{State}
 use Rattle.file.specs.File.{register, seen, black}
 use Rattle.file.specs.Palette.{byColour, component}
-use Rattle.file.specs.State.{initial}
+use Rattle.file.specs.State.{unasked}
 use Rattle.places.specs.EngineCells.{cellPlace}
 use Rattle.places.specs.Profile.{profile}
 use Rattle.access.specs.declared.engine.Looked.the-variants.{Refused, At}
@@ -31,7 +31,7 @@ none-shown registers state =
     by-test (inBank (seen registers state)) (λ e. rw e (all-black (state .pointer .next))) (λ e. rw e (all-black (state .pointer .next)))
 
 -- the checks don't look at the state
-pub looked-alike : (cells registers : List ℕ) (state : State) (r : Record) → lookedBy cells (seen registers initial) r ≡ lookedBy cells (seen registers state) r
+pub looked-alike : (cells registers : List ℕ) (state : State) (r : Record) → lookedBy cells (seen registers unasked) r ≡ lookedBy cells (seen registers state) r
 unfolding lookedBy malformed spaceOff otherRow seen register
 looked-alike cells registers state r = refl
 

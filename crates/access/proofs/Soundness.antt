@@ -13,26 +13,26 @@ use Rattle.file.specs.Names.{CR7}
 use Rattle.file.specs.Palette.{afterWrite, afterRead, marksFrom, marksSound, pointerSound}
 use Rattle.file.specs.Registers.{storedBits}
 use Rattle.file.specs.Sound.{sound, keeps}
-use Rattle.file.proofs.Soundness.{apply-sound, addressed-sound, afterWrite-sound, afterRead-sound, marksFrom-sound, pointer-sound}
+use Rattle.file.proofs.Soundness.{apply-sound, apply-chip, addressed-sound, afterWrite-sound, afterRead-sound, marksFrom-sound, pointer-sound}
 use Rattle.places.specs.Profile.{Reading, Writing, profile}
 use Rattle.access.specs.declared.record.Record.{Record}
 use Rattle.access.specs.Access.{placeOf, lockedReach, reachIn, writeEffect, readEffect, effect, access}
 use Rattle.access.proofs.Refusals.{by-read, by-write, by-effect}
 
 -- what a write may reach is within the stored bits, under the lock too
-pub reach-within : (f : File) (number : ℕ) → T (within (storedBits number) (reachIn f number))
+pub reach-within : (f : File) (number : ℕ) → T (within (storedBits (f .state .chip) number) (reachIn f number))
 unfolding reachIn lockedReach storedBits within store
 reach-within f number =
-    chosen-by (within (storedBits number)) (crtcLocked f && eqb number CR7) lockedReach (storedBits number)
-    (λ e. subst (λ (n : ℕ). T (within (storedBits n) lockedReach))
+    chosen-by (within (storedBits (f .state .chip) number)) (crtcLocked f && eqb number CR7) lockedReach (storedBits (f .state .chip) number)
+    (λ e. subst (λ (n : ℕ). T (within (storedBits (f .state .chip) n) lockedReach))
     (sym (eqb→eq number CR7 (right (crtcLocked f) (eqb number CR7) (passes (crtcLocked f && eqb number CR7) e)))) tt)
-    (within-self (storedBits number))
+    (within-self (storedBits (f .state .chip) number))
 
 module _ (f : File) (s : T (sound f)) where
-  write-keeps : (writing : Writing) (value : ℕ) → T (keeps (writeEffect (reachIn f) f writing value))
+  write-keeps : (writing : Writing) (value : ℕ) → T (keeps (f .state .chip) (writeEffect (reachIn f) f writing value))
   unfolding keeps
   write-keeps writing value =
-      by-write (λ (e : Effect). T (keeps e)) (reachIn f) f writing value tt (λ number flips e. reach-within f number)
+      by-write (λ (e : Effect). T (keeps (f .state .chip) e)) (reachIn f) f writing value tt (λ number flips e. reach-within f number)
       (λ reading. addressed-sound reading value) stepped stepped (λ e. tt)
     where
       stepped : T (marksSound (marksFrom false (f .state .pointer)) && pointerSound (afterWrite (f .state .pointer) value))
@@ -40,10 +40,10 @@ module _ (f : File) (s : T (sound f)) where
           both (marksSound (marksFrom false (f .state .pointer))) (pointerSound (afterWrite (f .state .pointer) value))
           (marksFrom-sound false (f .state .pointer)) (afterWrite-sound (f .state .pointer) value (pointer-sound f s))
 
-  read-keeps : (reading : Reading) → T (keeps (readEffect f reading))
+  read-keeps : (reading : Reading) → T (keeps (f .state .chip) (readEffect f reading))
   unfolding keeps
   read-keeps reading =
-      by-read (λ (e : Effect). T (keeps e)) f reading tt
+      by-read (λ (e : Effect). T (keeps (f .state .chip) e)) f reading tt
       (both (marksSound (marksFrom true (f .state .pointer))) (pointerSound (afterRead (f .state .pointer)))
       (marksFrom-sound true (f .state .pointer)) (afterRead-sound (f .state .pointer) (pointer-sound f s)))
       (λ e. tt)
@@ -52,5 +52,10 @@ module _ (f : File) (s : T (sound f)) where
   unfolding access keeps
   access-sound r =
       apply-sound (effect f r) f
-      (by-effect (λ (e : Effect). T (keeps e)) f r tt (λ n w. write-keeps (profile (placeOf f r) .writing) (r .value))
+      (by-effect (λ (e : Effect). T (keeps (f .state .chip) e)) f r tt (λ n w. write-keeps (profile (placeOf f r) .writing) (r .value))
       (read-keeps (profile (placeOf f r) .reading))) s
+
+-- 02, 6/13: no access changes the chip
+pub access-chip : (f : File) (r : Record) → access f r .file .state .chip ≡ f .state .chip
+unfolding access
+access-chip f r = apply-chip (effect f r) f

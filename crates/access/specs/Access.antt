@@ -13,15 +13,16 @@ use Rattle.file.specs.declared.effect.Reach.{Reach}
 use Rattle.file.specs.declared.palette.Colour.{Colour}
 use Rattle.file.specs.declared.registers.File.{File}
 use Rattle.file.specs.Answers.{codeOf, valueOf, refused}
+use Rattle.file.specs.Chips.{pci02, vPortShown}
 use Rattle.file.specs.Effects.{apply, reachOf}
 use Rattle.file.specs.File.{register, black, bankCount, crtcLocked}
-use Rattle.file.specs.Names.{CR0, CR6, CR7, B0}
+use Rattle.file.specs.Names.{CR0, CR6, CR7, B0, captureYStart}
 use Rattle.file.specs.Palette.{component, addressed, afterWrite, afterRead, stores, mixed, dacState, marksFrom}
 use Rattle.file.specs.Registers.{storedBits}
 use Rattle.file.specs.Sound.{sound}
 use Rattle.places.specs.declared.place.Place.{Place}
 use Rattle.places.specs.Lookup.{placeAt}
-use Rattle.places.specs.Profile.{Reading, givesHeld, givesFixed, givesToggle, givesPaletteState, givesDacState, givesAddress, givesPixel, resetsToggle, namesNothing, Writing, storesTo, readOnly, setsAddress, writesPixel, storesNothing, profile}
+use Rattle.places.specs.Profile.{Reading, givesHeld, givesFixed, givesDeviceId, givesToggle, givesPaletteState, givesVPortState, givesDacState, givesAddress, givesPixel, resetsToggle, namesNothing, Writing, storesTo, readOnly, setsAddress, writesPixel, storesNothing, profile}
 use Rattle.access.specs.declared.access.Accessed.{Accessed}
 use Rattle.access.specs.declared.access.ReachRead.{ReachRead}
 use Rattle.access.specs.declared.record.Item.{Item}
@@ -42,9 +43,9 @@ lockedOut f number = crtcLocked f && (leb CR0 number && leb number CR6)
 unfoldable pub lockedReach : ℕ
 lockedReach = 0x10
 
--- the bits of a register that a write may change
+-- the bits of a register that a write may change; what a register stores goes by the file's chip (02, 6/13)
 unfoldable pub reachIn : File → ℕ → ℕ
-reachIn f number = cond (crtcLocked f && eqb number CR7) lockedReach (storedBits number)
+reachIn f number = cond (crtcLocked f && eqb number CR7) lockedReach (storedBits (f .state .chip) number)
 
 -- code 9: 'pixel data access while B0[7]=1'
 unfoldable pub paletteUp : File → Bool
@@ -69,12 +70,18 @@ shownIn f = component (entry f) (f .state .pointer .next)
 unfoldable pub shownState : ℕ
 shownState = 0x07
 
+-- 02, 6/13, of 10Ch, 'bits 11 and 10 read 1' on the 5462: what it reads
+unfoldable pub vPortState : File → ℕ
+vPortState f = store (vPortShown (f .state .chip)) (register f captureYStart) (vPortShown (f .state .chip))
+
 -- what a read answers: 'then 1 or .. 9', or done with what was read
 unfoldable pub readAnswer : File → Reading → Answer
 readAnswer f (givesHeld number) = Done (register f number)
 readAnswer f (givesFixed value) = Done value
+readAnswer f givesDeviceId = Done (pci02 (f .state .chip))
 readAnswer f givesToggle = Done (cond (f .state .toggle) 0x80 0x00)
 readAnswer f givesPaletteState = Done (store shownState (register f B0) (f .state .marks))
+readAnswer f givesVPortState = Done (vPortState f)
 readAnswer f givesDacState = Done (dacState (f .state .pointer))
 readAnswer f givesAddress = Done (f .state .pointer .address)
 readAnswer f givesPixel = cond (paletteUp f) (Done (shownIn f)) PaletteDown
@@ -114,8 +121,10 @@ writeEffect reach f (storesNothing flips) value = cond flips (Toggle (not (f .st
 unfoldable pub readEffect : File → Reading → Effect
 readEffect f (givesHeld number) = Nothing
 readEffect f (givesFixed value) = Nothing
+readEffect f givesDeviceId = Nothing
 readEffect f givesToggle = Nothing
 readEffect f givesPaletteState = Nothing
+readEffect f givesVPortState = Nothing
 readEffect f givesDacState = Nothing
 readEffect f givesAddress = Nothing
 readEffect f givesPixel = Step (afterRead (f .state .pointer)) (marksFrom true (f .state .pointer))

@@ -74,6 +74,6 @@ decidedBy cells stored f r = decidedFrom cells stored f r (lookedBy cells f r)
 unfoldable pub asksPixel : File → Record → Bool
 asksPixel f r = not (refused (answer f r)) && (not (isWrite r) && readsPixel (profile (placeOf f r) .reading))
 
--- 01's answer and effect of a record
+-- the answer and the effect of a record by the rules
 unfoldable pub decision : File → Record → Decision
 decision f r = record { answer = answer f r; effect = effect f r; pixel = asksPixel f r }

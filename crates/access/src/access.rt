@@ -66,8 +66,10 @@ fn decide_in(asked: Record, whole: File) -> engine::Decision
 {
     let registers = whole.registers;
     let cells = places::cells();
-    let stored = File::stored();
-    let decision = engine::decide(&cells, &stored, &registers, whole.state, asked);
+    let state = whole.state;
+    let chip = state.chip;
+    let stored = File::stored(chip);
+    let decision = engine::decide(&cells, &stored, &registers, state, asked);
     if decision.pixel {
         let answer = Answer::Done(shown_in(whole) as u16);
         let effect = decision.effect;

@@ -5,14 +5,16 @@ ghost use mathlib.Core.Bool.{false, cond};
 ghost use lib.Dec.{T};
 ghost use lib.ListN.{getD};
 ghost use mathlib.Core.List.{[]};
+ghost use Rattle.file.specs.Chips.{pci02};
 ghost use Rattle.file.specs.File.{seen, crtcLocked, powerOn, bankCount};
 ghost use Rattle.file.specs.Registers.{registerCount};
-ghost use Rattle.file.specs.State.{initial};
+ghost use Rattle.file.specs.State.{unasked};
 ghost use Rattle.file.specs.declared.answer.Answer.the-variants.{Done as DoneAnswer};
+ghost use Rattle.file.specs.declared.chip.Chip.the-variants.{Gd5464};
 ghost use Rattle.file.specs.declared.effect.Effect.the-variants.{Nothing};
 ghost use Rattle.places.specs.EngineCells.{inFile};
 ghost use Rattle.places.specs.Profile.{profile, storesTo, writesPixel, givesPixel};
-ghost use Rattle.access.specs.Access.{lockedOut, paletteUp, inBank, pixelWrite, shownState};
+ghost use Rattle.access.specs.Access.{lockedOut, paletteUp, inBank, pixelWrite, shownState, vPortState};
 ghost use Rattle.bits.specs.Store.{store as storeBits};
 ghost use Rattle.file.specs.Names.{B0 as B0Number};
 ghost use Rattle.access.specs.Checks.{malformed, spaceOff};
@@ -22,6 +24,7 @@ use file::ARX;
 use file::Answer;
 use file::B0;
 use file::BANK;
+use file::CAPTURE_Y_START;
 use file::CR0;
 use file::CR6;
 use file::CR7;
@@ -45,7 +48,7 @@ pub enum Looked {
 
 // Code 2.
 fn is_malformed(asked: Record) -> bool
-    ensures { λ r. ⌜ r ≡ malformed powerOn asked ⌝ }
+    ensures { λ r. ⌜ r ≡ malformed (powerOn Gd5464) asked ⌝ }
 {
     let kind = asked.kind;
     let width = asked.width;
@@ -73,7 +76,7 @@ fn is_malformed(asked: Record) -> bool
 
 // Code 3.
 fn is_space_off(registers: &[u16; REGISTERS], asked: Record) -> bool
-    ensures { λ r. ⌜ r ≡ spaceOff (seen (now (registers .entry)) initial) asked ⌝ }
+    ensures { λ r. ⌜ r ≡ spaceOff (seen (now (registers .entry)) unasked) asked ⌝ }
 {
     let space = asked.kind / 2;
     let enables = registers[PCI04];
@@ -88,7 +91,7 @@ fn is_space_off(registers: &[u16; REGISTERS], asked: Record) -> bool
 
 // Code 5, of an address that is held: of the ports, 3B?h and 3D?h are the CRTC's.
 fn is_other_row(registers: &[u16; REGISTERS], asked: Record) -> bool
-    ensures { λ r. ⌜ r ≡ otherRow (seen (now (registers .entry)) initial) asked ⌝ }
+    ensures { λ r. ⌜ r ≡ otherRow (seen (now (registers .entry)) unasked) asked ⌝ }
 {
     let space = asked.kind / 2;
     let row = asked.address / 16;
@@ -119,7 +122,7 @@ fn nothing_held(cell: u8) -> Answer
 
 // The checks that every record passes before its place is asked, in 01's order.
 fn look(cells: &[u8; CELLS], registers: &[u16; REGISTERS], asked: Record) -> Looked
-    ensures { λ r. ⌜ r ≡ lookedBy (now (cells .entry)) (seen (now (registers .entry)) initial) asked ⌝ }
+    ensures { λ r. ⌜ r ≡ lookedBy (now (cells .entry)) (seen (now (registers .entry)) unasked) asked ⌝ }
 {
     if is_malformed(asked) {
         return Looked::Refused(Answer::Malformed);
@@ -142,7 +145,7 @@ fn look(cells: &[u8; CELLS], registers: &[u16; REGISTERS], asked: Record) -> Loo
 
 // CR11[7] locks CR0 to CR6.
 fn is_locked_out(registers: &[u16; REGISTERS], number: usize) -> bool
-    ensures { λ r. ⌜ r ≡ lockedOut (seen (now (registers .entry)) initial) number ⌝ }
+    ensures { λ r. ⌜ r ≡ lockedOut (seen (now (registers .entry)) unasked) number ⌝ }
 {
     if is_locked(registers) {
         if CR0 <= number {
@@ -153,7 +156,7 @@ fn is_locked_out(registers: &[u16; REGISTERS], number: usize) -> bool
 }
 
 fn is_locked(registers: &[u16; REGISTERS]) -> bool
-    ensures { λ r. ⌜ r ≡ crtcLocked (seen (now (registers .entry)) initial) ⌝ }
+    ensures { λ r. ⌜ r ≡ crtcLocked (seen (now (registers .entry)) unasked) ⌝ }
 {
     registers[CR11] / 128 % 2 == 1
 }
@@ -161,7 +164,7 @@ fn is_locked(registers: &[u16; REGISTERS]) -> bool
 // The bits of a register that a write may change.
 fn reach_in(stored: &[u16; REGISTERS], registers: &[u16; REGISTERS], number: usize) -> u16
     requires { ⌜ number < registerCount ⌝ }
-    ensures { λ r. ⌜ r ≡ reachBy (now (stored .entry)) (seen (now (registers .entry)) initial) number ⌝ }
+    ensures { λ r. ⌜ r ≡ reachBy (now (stored .entry)) (seen (now (registers .entry)) unasked) number ⌝ }
 {
     if number != CR7 {
         return stored[number];
@@ -174,14 +177,14 @@ fn reach_in(stored: &[u16; REGISTERS], registers: &[u16; REGISTERS], number: usi
 }
 
 fn is_palette_up(registers: &[u16; REGISTERS]) -> bool
-    ensures { λ r. ⌜ r ≡ paletteUp (seen (now (registers .entry)) initial) ⌝ }
+    ensures { λ r. ⌜ r ≡ paletteUp (seen (now (registers .entry)) unasked) ⌝ }
 {
     registers[B0] / 128 % 2 == 0
 }
 
 // The pointer's entry is one of the bank's.
 pub fn is_in_bank(registers: &[u16; REGISTERS]) -> bool
-    ensures { λ r. ⌜ r ≡ inBank (seen (now (registers .entry)) initial) ⌝ }
+    ensures { λ r. ⌜ r ≡ inBank (seen (now (registers .entry)) unasked) ⌝ }
 {
     registers[B0] / 8 % 2 == 1
 }
@@ -242,7 +245,7 @@ fn write_register(
     value: u16,
 ) -> Decision
     requires { ⌜ number < registerCount ⌝ }
-    ensures { λ r. ⌜ r ≡ decidedWrite (now (stored .entry)) (seen (now (registers .entry)) initial) (storesTo number flips) value ⌝ }
+    ensures { λ r. ⌜ r ≡ decidedWrite (now (stored .entry)) (seen (now (registers .entry)) unasked) (storesTo number flips) value ⌝ }
 {
     if is_locked_out(registers, number) {
         return only(Answer::Locked);
@@ -318,6 +321,8 @@ fn write_at(
         Place::ToggleState => only(Answer::ReadOnly),
         Place::AttributeIndex => only(Answer::ReadOnly),
         Place::ToggleReset => only(Answer::ReadOnly),
+        Place::DeviceId => only(Answer::ReadOnly),
+        Place::VPortState => write_register(stored, registers, CAPTURE_Y_START, false, value),
     }
 }
 
@@ -346,6 +351,23 @@ fn palette_state(registers: &[u16; REGISTERS], state: State) -> u16
     bits::store(0x07, registers[B0], state.marks as u16)
 }
 
+// What PCI02 reads.
+fn device_id(state: State) -> u16
+    ensures { λ r. ⌜ r ≡ pci02 (state .chip) ⌝ }
+{
+    let chip = state.chip;
+    chip.device_id()
+}
+
+// What 10Ch reads: on the 5462 two of its bits read 1.
+fn v_port_state(registers: &[u16; REGISTERS], state: State) -> u16
+    ensures { λ r. ⌜ r ≡ vPortState (seen (now (registers .entry)) state) ⌝ }
+{
+    let chip = state.chip;
+    let shown = chip.v_port_shown();
+    bits::store(shown, registers[CAPTURE_Y_START], shown)
+}
+
 // A read at a place.
 fn read_at(registers: &[u16; REGISTERS], state: State, place: Place) -> Decision
     requires { ⌜ T (inFile place) ⌝ }
@@ -365,6 +387,8 @@ fn read_at(registers: &[u16; REGISTERS], state: State, place: Place) -> Decision
         Place::ToggleReset => done(Effect::Toggle(false)),
         Place::Unnamed => only(Answer::NoRegister),
         Place::UnnamedAttribute => only(Answer::NoRegister),
+        Place::DeviceId => only(Answer::Done(device_id(state))),
+        Place::VPortState => only(Answer::Done(v_port_state(registers, state))),
     }
 }
 

@@ -6,7 +6,7 @@ use lib.Dec.{T, ltb}
 use lib.ListN.{getD}
 use Rattle.bits.proofs.Test.{chosen}
 use Rattle.file.specs.declared.answer.Answer.{Answer}
-use Rattle.file.specs.declared.answer.Answer.the-variants.{Done, NoRegister, Malformed, SpaceOff, NotHeld, OtherHalf, WrongWidth, ReadOnly, Locked, PaletteDown, OutOfRange, ShortBuffer, NotSound, NotBeforeRed, PlanRefused, OtherDirection, InsideWider}
+use Rattle.file.specs.declared.answer.Answer.the-variants.{Done, NoRegister, Malformed, SpaceOff, NotHeld, OtherHalf, WrongWidth, ReadOnly, Locked, PaletteDown, OutOfRange, ShortBuffer, NotSound, NotBeforeRed, PlanRefused, OtherChip, OtherDirection, InsideWider}
 use Rattle.file.specs.declared.palette.Colour.{Colour}
 use Rattle.file.specs.declared.readers.EntryRead.{EntryRead}
 use Rattle.file.specs.declared.readers.NumberRead.{NumberRead}
@@ -37,6 +37,7 @@ every-listed ShortBuffer = tt
 every-listed NotSound = tt
 every-listed NotBeforeRed = tt
 every-listed PlanRefused = tt
+every-listed OtherChip = tt
 every-listed OtherDirection = tt
 every-listed InsideWider = tt
 

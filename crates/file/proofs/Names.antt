@@ -8,14 +8,20 @@ use lib.Dec.{T, eqb, eqb→eq}
 use lib.ListN.{length, getD}
 use Rattle.bits.proofs.Test.{everyBelow, below}
 use Rattle.file.specs.declared.answer.Answer.the-variants.{Done}
+use Rattle.file.specs.declared.chip.Chip.{Chip}
 use Rattle.file.specs.Named.{nameOf, allNamed, names}
 use Rattle.file.specs.Readers.{ascii, nameTable, same, position, numberOf, readNumber}
-use Rattle.file.specs.Registers.{registerCount, registers}
+use Rattle.file.specs.Registers.{registerCount, registers, storedTable}
 
 -- the table has as many registers as the file
 pub registers-counted : length registers ≡ registerCount
 unfolding registers
 registers-counted = refl
+
+-- and so has the table of stored bits, on each chip
+pub stored-counted : (chip : Chip) → length (storedTable chip) ≡ registerCount
+unfolding storedTable
+stored-counted chip = refl
 
 pub named : T (allNamed names)
 unfolding allNamed names nameOf registers

@@ -27,7 +27,7 @@ stored-inside f number reach value i h e =
 pub same-outside : (e : Effect) (f : File) → SameOutside (reachOf e) f (apply e f)
 unfolding reachOf apply register
 same-outside Nothing f =
-    record { registers = λ n i h. refl; palette = λ n h. refl; bank = λ n h. refl; pointer = λ h. refl; marks = λ h. refl; toggle = λ h. refl }
+    record { registers = λ n i h. refl; palette = λ n h. refl; bank = λ n h. refl; pointer = λ h. refl; marks = λ h. refl; toggle = λ h. refl; chip = refl }
 same-outside (Store flips number reach value) f =
     record {
       registers = stored-outside (f .registers) number reach value;
@@ -36,11 +36,12 @@ same-outside (Store flips number reach value) f =
       pointer = λ h. refl;
       marks = λ h. refl;
       toggle = λ h. rw h refl;
+      chip = refl;
     }
 same-outside (Toggle toggle) f =
-    record { registers = λ n i h. refl; palette = λ n h. refl; bank = λ n h. refl; pointer = λ h. refl; marks = λ h. refl; toggle = λ h. absurd (true≢false h) }
+    record { registers = λ n i h. refl; palette = λ n h. refl; bank = λ n h. refl; pointer = λ h. refl; marks = λ h. refl; toggle = λ h. absurd (true≢false h); chip = refl }
 same-outside (Move pointer) f =
-    record { registers = λ n i h. refl; palette = λ n h. refl; bank = λ n h. refl; pointer = λ h. absurd (true≢false h); marks = λ h. refl; toggle = λ h. refl }
+    record { registers = λ n i h. refl; palette = λ n h. refl; bank = λ n h. refl; pointer = λ h. absurd (true≢false h); marks = λ h. refl; toggle = λ h. refl; chip = refl }
 same-outside (Step pointer marks) f =
     record {
       registers = λ n i h. refl;
@@ -49,6 +50,7 @@ same-outside (Step pointer marks) f =
       pointer = λ h. absurd (true≢false h);
       marks = λ h. absurd (true≢false h);
       toggle = λ h. refl;
+      chip = refl;
     }
 same-outside (Paint true entry pointer colour marks) f =
     record {
@@ -58,6 +60,7 @@ same-outside (Paint true entry pointer colour marks) f =
       pointer = λ h. absurd (true≢false h);
       marks = λ h. absurd (true≢false h);
       toggle = λ h. refl;
+      chip = refl;
     }
 same-outside (Paint false entry pointer colour marks) f =
     record {
@@ -67,4 +70,5 @@ same-outside (Paint false entry pointer colour marks) f =
       pointer = λ h. absurd (true≢false h);
       marks = λ h. absurd (true≢false h);
       toggle = λ h. refl;
+      chip = refl;
     }

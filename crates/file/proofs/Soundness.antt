@@ -14,12 +14,15 @@ use lib.Seq.{drop-cons}
 use Rattle.bits.specs.Store.{store, within}
 use Rattle.bits.proofs.Stored.{store-within, within-le, none-or, none-stray}
 use Rattle.bits.proofs.Test.{left, right, both, by-test, and-assoc, and-true}
+use Rattle.file.specs.declared.chip.Chip.{Chip}
+use Rattle.file.specs.declared.chip.Chip.the-variants.{Gd5462, Gd5464}
 use Rattle.file.specs.declared.effect.Effect.{Effect}
 use Rattle.file.specs.declared.effect.Effect.the-variants.{Nothing, Store, Toggle, Move, Step, Paint}
 use Rattle.file.specs.declared.palette.Colour.{Colour}
 use Rattle.file.specs.declared.palette.Pointer.{Pointer}
 use Rattle.file.specs.declared.registers.File.{File}
 use Rattle.file.specs.declared.state.State.{State}
+use Rattle.file.specs.Chips.{vPortAtPowerOn}
 use Rattle.file.specs.Effects.{apply, storeIn, paintIn}
 use Rattle.file.specs.File.{register, powerOn}
 use Rattle.file.specs.Palette.{byColour, addressed, moved, afterWrite, afterRead, marksOf, markedRead, markedColour, marksFrom, marksSound, pointerSound}
@@ -131,17 +134,17 @@ afterRead-sound p t =
     (green-free (p .address) (p .reading) (p .next) (p .red) (p .green) t)
 
 -- the two parts of soundness
-pub registers-sound : (f : File) → T (sound f) → T (allWithin storedTable (f .registers))
+pub registers-sound : (f : File) → T (sound f) → T (allWithin (storedTable (f .state .chip)) (f .registers))
 unfolding sound
-registers-sound f = left (allWithin storedTable (f .registers)) (stateSound (f .state))
+registers-sound f = left (allWithin (storedTable (f .state .chip)) (f .registers)) (stateSound (f .state))
 
 pub state-sound : (f : File) → T (sound f) → T (stateSound (f .state))
 unfolding sound
-state-sound f = right (allWithin storedTable (f .registers)) (stateSound (f .state))
+state-sound f = right (allWithin (storedTable (f .state .chip)) (f .registers)) (stateSound (f .state))
 
-pub sound-by : (f : File) → T (allWithin storedTable (f .registers)) → T (stateSound (f .state)) → T (sound f)
+pub sound-by : (f : File) → T (allWithin (storedTable (f .state .chip)) (f .registers)) → T (stateSound (f .state)) → T (sound f)
 unfolding sound
-sound-by f = both (allWithin storedTable (f .registers)) (stateSound (f .state))
+sound-by f = both (allWithin (storedTable (f .state .chip)) (f .registers)) (stateSound (f .state))
 
 -- a state with a part anew
 pub pointing-sound : (p : Pointer) (s : State) → T (pointerSound p) → T (stateSound s) → T (stateSound (pointing p s))
@@ -189,15 +192,19 @@ marks-parted m t =
 -- a sound file has all registers
 pub sound-count : (f : File) → T (sound f) → length (f .registers) ≡ registerCount
 unfolding storedTable
-sound-count f s = within-count storedTable (f .registers) (registers-sound f s)
+sound-count f s = within-count (storedTable (f .state .chip)) (f .registers) (registers-sound f s)
 
 store-sound : (f : File) (number reach value : ℕ)
-    → T (within (storedBits number) reach) → T (sound f) → T (allWithin storedTable (storeIn number reach value f .registers))
+    → T (within (storedBits (f .state .chip) number) reach) → T (sound f)
+    → T (allWithin (storedTable (f .state .chip)) (storeIn number reach value f .registers))
 unfolding storedBits storeIn register
 store-sound f number reach value w s =
-    set-within storedTable (f .registers) number (store reach (getD (f .registers) number 0) value) (registers-sound f s)
-    (store-within (getD storedTable number 0) reach (getD (f .registers) number 0) value w
-    (at storedTable (f .registers) number (registers-sound f s)))
+    set-within table (f .registers) number (store reach (getD (f .registers) number 0) value) (registers-sound f s)
+    (store-within (getD table number 0) reach (getD (f .registers) number 0) value w
+    (at table (f .registers) number (registers-sound f s)))
+  where
+    table : List ℕ
+    table = storedTable (f .state .chip)
 
 -- what is painted is neither registers nor state
 pub paint-keeps : (f : File) (bank : Bool) (entry : ℕ) (colour : Colour) → paintIn bank entry colour f .registers ≡ f .registers
@@ -211,7 +218,7 @@ paint-keeps-state f true entry colour = refl
 paint-keeps-state f false entry colour = refl
 
 -- such an effect leaves a sound file sound
-pub apply-sound : (e : Effect) (f : File) → T (keeps e) → T (sound f) → T (sound (apply e f))
+pub apply-sound : (e : Effect) (f : File) → T (keeps (f .state .chip) e) → T (sound f) → T (sound (apply e f))
 unfolding keeps apply
 apply-sound Nothing f k s = s
 apply-sound (Store flips number reach value) f k s =
@@ -222,15 +229,26 @@ apply-sound (Move pointer) f k s = sound-by (apply (Move pointer) f) (registers-
 apply-sound (Step pointer marks) f k s = sound-by (apply (Step pointer marks) f) (registers-sound f s) (stepping-sound pointer marks (f .state) k)
 apply-sound (Paint bank entry pointer colour marks) f k s =
     sound-by (apply (Paint bank entry pointer colour marks) f)
-    (subst (λ (l : List ℕ). T (allWithin storedTable l)) (sym (paint-keeps f bank entry colour)) (registers-sound f s))
+    (subst (λ (l : List ℕ). T (allWithin (storedTable (f .state .chip)) l)) (sym (paint-keeps f bank entry colour)) (registers-sound f s))
     (stepping-sound pointer marks (f .state) k)
 
+-- 02, 6/13: no effect changes the chip
+pub apply-chip : (e : Effect) (f : File) → apply e f .state .chip ≡ f .state .chip
+unfolding apply
+apply-chip Nothing f = refl
+apply-chip (Store flips number reach value) f = refl
+apply-chip (Toggle toggle) f = refl
+apply-chip (Move pointer) f = refl
+apply-chip (Step pointer marks) f = refl
+apply-chip (Paint bank entry pointer colour marks) f = refl
+
 -- the file at power-on is sound
-pub powerOn-sound : T (sound powerOn)
-unfolding sound stateSound powerOn allWithin storedTable within store marksSound pointerSound
-powerOn-sound = tt
+pub powerOn-sound : (chip : Chip) → T (sound (powerOn chip))
+unfolding sound stateSound powerOn vPortAtPowerOn allWithin storedTable within store marksSound pointerSound
+powerOn-sound Gd5462 = tt
+powerOn-sound Gd5464 = tt
 
 -- a register of a sound file is at most its stored bits
-pub at-most : (values : List ℕ) (number : ℕ) → T (allWithin storedTable values) → getD values number 0 ≤ storedBits number
+pub at-most : (chip : Chip) (values : List ℕ) (number : ℕ) → T (allWithin (storedTable chip) values) → getD values number 0 ≤ storedBits chip number
 unfolding storedBits
-at-most values number t = within-le (getD storedTable number 0) (getD values number 0) (at storedTable values number t)
+at-most chip values number t = within-le (getD (storedTable chip) number 0) (getD values number 0) (at (storedTable chip) values number t)

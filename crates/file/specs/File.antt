@@ -3,14 +3,16 @@
 use Prim.Native.Nat.{ℕ}
 use mathlib.Core.Bool.{Bool}
 use mathlib.Core.List.{List, []}
-use lib.ListN.{getD, replicate}
+use lib.ListN.{getD, set, replicate}
 use lib.Dec.{eqb}
 use Rattle.bits.specs.Store.{bit}
+use Rattle.file.specs.declared.chip.Chip.{Chip}
 use Rattle.file.specs.declared.palette.Colour.{Colour}
 use Rattle.file.specs.declared.palette.Pointer.{Pointer}
 use Rattle.file.specs.declared.registers.File.{File}
 use Rattle.file.specs.declared.state.State.{State}
-use Rattle.file.specs.Names.{CR11}
+use Rattle.file.specs.Chips.{vPortAtPowerOn}
+use Rattle.file.specs.Names.{CR11, captureYStart}
 use Rattle.file.specs.Registers.{registerCount}
 use Rattle.file.specs.State.{initial, pointing, toggling}
 
@@ -58,13 +60,13 @@ abbrev pub bankCount : ℕ
 bankCount = 16
 
 -- 01, end of 'Places': 'At power-on all stored bits and entries are 0, the toggle is index, and the pointer is at address 0, write mode, red, nothing held.'
--- 02, 1/13: 'power-on is write, blue'
-unfoldable pub powerOn : File
+-- 02, 1/13: 'power-on is write, blue'; 02, 6/13: 10Ch of the 5462 is the one register that starts with a stored bit set
+unfoldable pub powerOn : Chip → File
 unfolding initial black
-powerOn =
+powerOn chip =
     record {
-      registers = replicate registerCount 0;
+      registers = set (replicate registerCount 0) captureYStart (vPortAtPowerOn chip);
       palette = replicate paletteCount black;
       bank = replicate bankCount black;
-      state = initial;
+      state = initial chip;
     }

@@ -1,24 +1,32 @@
 -- 02, 5/13: the bits that each register stores, by group and in the manual's page order. Chapters 3 and 4 have no headings for groups: they are cut
 -- where the registers' names pass to another part of the chip.
--- The bits are those of 01, 'Stored bits'; where a bit table of the manual reads otherwise is in docs/MANUAL.md.
+-- The bits are those of 01, 'Stored bits', and of 02, 6/13; where a bit table of the manual reads otherwise is in docs/MANUAL.md.
 -- Assumes nothing.
 use Prim.Native.Nat.{ℕ}
 use Prim.Native.String.{String}
-use mathlib.Core.Bool.{cond}
+use mathlib.Core.Bool.{Bool, true, cond, _&&_}
 use mathlib.Core.List.{List, [], _∷_, _++_}
 use lib.Text.{eqt}
+use Rattle.file.specs.declared.chip.Chip.{Chip}
+use Rattle.file.specs.declared.chip.Chip.the-variants.{Gd5462, Gd5464}
+use Rattle.file.specs.Chips.{sameChip}
 
--- a register of a group: the page that it begins on, its name, and the bits that it stores
+-- a register of a group: the page that it begins on, its name, the bits that it stores, and the chips that it is so on
 pub record Row : Type 0 where
   pub page : ℕ
   pub name : String
   pub stored : ℕ
+  pub isOn : Chip → Bool
 
 abbrev on : ℕ → String → ℕ → Row
-on page name stored = record { page = page; name = name; stored = stored }
+on page name stored = record { page = page; name = name; stored = stored; isOn = λ (chip : Chip). true }
+
+-- 02, 6/13: the row of one chip alone
+abbrev only : Chip → ℕ → String → ℕ → Row
+only its page name stored = record { page = page; name = name; stored = stored; isOn = sameChip its }
 
 -- registers that stand together in the manual: in which source document, chapter and sections, from which page to which, and those
--- whose bits the file stores (01, 'Stored bits'), in page order. A section without a row is of a register that 01 doesn't hold, or that is only read or
+-- whose bits the file stores (01, 'Stored bits'; 02, 6/13), in page order. A section without a row is of a register that the file doesn't hold, or that is only read or
 -- derived, or of the palette.
 -- Page 15 of chapter 3 is printed 3-15
 pub record Group : Type 0 where
@@ -246,19 +254,42 @@ videoPipeline =
           ∷ [];
     }
 
--- the groups in page order: source documents 002, 000, 003. Sections 4.25 to 4.27 (GR9 to GRB) and 4.33 to 4.37 (CSL to TLUT_LOAD) are in none: the file
--- stores nothing of them
+-- chapter 6, 'Enhanced V-Port registers', 02, 6/13. 'Offset 10Ch differs: on the 5464 it is Capture Y Start ..; on the 5462 it is V-Port Control'
+unfoldable pub vPortGroup : Group
+unfolding sameChip
+vPortGroup =
+    record {
+      document = "001";
+      chapter = 6;
+      sections = "6.1 to 6.9";
+      firstPage = 3;
+      lastPage = 13;
+      rows =
+          on 3 "100" 0x1F00
+          ∷ on 4 "102" 0x1F00
+          ∷ on 5 "104" 0x3FFF
+          ∷ on 6 "106" 0x3FFF
+          ∷ on 7 "108" 0x03FF
+          ∷ on 8 "10A" 0x03FF
+          ∷ only Gd5464 9 "10C" 0x01FF
+          ∷ on 10 "10E" 0x01FF
+          ∷ only Gd5462 11 "10C" 0xF3DF
+          ∷ [];
+    }
+
+-- the groups in page order: source documents 002, 000, 003, 001. Sections 4.25 to 4.27 (GR9 to GRB) and 4.33 to 4.37 (CSL to TLUT_LOAD), and 6.10 to 6.12 (V-Port Mode to
+-- Test Output) are in none: the file stores nothing of them
 unfoldable pub groups : List Group
-unfolding coreGeneral coreSequencer coreCRTC coreGraphics coreAttribute extendedPCI extendedSequencer extendedCRTC videoPipeline
+unfolding coreGeneral coreSequencer coreCRTC coreGraphics coreAttribute extendedPCI extendedSequencer extendedCRTC videoPipeline vPortGroup
 groups =
-    coreGeneral ∷ coreSequencer ∷ coreCRTC ∷ coreGraphics ∷ coreAttribute ∷ extendedPCI ∷ extendedSequencer ∷ extendedCRTC ∷ videoPipeline ∷ []
+    coreGeneral ∷ coreSequencer ∷ coreCRTC ∷ coreGraphics ∷ coreAttribute ∷ extendedPCI ∷ extendedSequencer ∷ extendedCRTC ∷ videoPipeline ∷ vPortGroup ∷ []
 
 -- every row of these groups, one group behind the other
 unfoldable pub rowsOf : List Group → List Row
 rowsOf [] = []
 rowsOf (group ∷ more) = group .rows ++ rowsOf more
 
--- the one lookup: the bits of the row of this name; none of a name that no row has
-unfoldable pub storedIn : List Row → String → ℕ
-storedIn [] name = 0
-storedIn (row ∷ rows) name = cond (eqt (row .name) name) (row .stored) (storedIn rows name)
+-- the one lookup: the bits of the row of this name on this chip; none of a name that no row has
+unfoldable pub storedIn : Chip → List Row → String → ℕ
+storedIn chip [] name = 0
+storedIn chip (row ∷ rows) name = cond (eqt (row .name) name && row .isOn chip) (row .stored) (storedIn chip rows name)

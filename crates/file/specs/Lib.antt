@@ -1,4 +1,5 @@
 pub mod Answers
+pub mod Chips
 pub mod Groups
 pub mod Registers
 pub mod Names

@@ -1,4 +1,4 @@
--- The registers that 01's rules name, by their numbers in its table (`Registers`).
+-- The registers that the rules of 01 and 02 name, by their numbers in the table (`Registers`).
 -- Assumes nothing.
 use Prim.Native.Nat.{ℕ}
 
@@ -139,3 +139,20 @@ E6 = 98
 
 abbrev pub E8 : ℕ
 E8 = 99
+
+-- 02, 6/13: the V-Port's first register, 100h, and its capture registers, 108h to 10Eh. 10Ch is Capture Y Start on the 5464 and V-Port Control on the
+-- 5462
+abbrev pub buffer0X : ℕ
+buffer0X = 100
+
+abbrev pub captureXStart : ℕ
+captureXStart = 104
+
+abbrev pub captureXStop : ℕ
+captureXStop = 105
+
+abbrev pub captureYStart : ℕ
+captureYStart = 106
+
+abbrev pub captureYStop : ℕ
+captureYStop = 107

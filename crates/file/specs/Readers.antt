@@ -27,7 +27,7 @@ unfoldable pub ascii : String → List ℕ
 ascii empty = []
 ascii (c then s) = code c ∷ ascii s
 
--- 01, 'Stored bits': the names of the registers, by their numbers
+-- 01, 'Stored bits', and 02, 6/13: the names of the registers, by their numbers
 unfoldable pub nameTable : List (List ℕ)
 unfolding registers ascii
 nameTable = map (λ (r : Register). ascii (r .name)) registers
@@ -46,7 +46,7 @@ position name (row ∷ rows) = cond (same row name) 0 (suc (position name rows))
 unfoldable pub numberOf : List ℕ → ℕ
 numberOf name = position name nameTable
 
--- 01, 'Stored bits': a register by its number; code 1 as of an index that names no held register
+-- 01, 'Stored bits', and 02, 6/13: a register by its number; code 1 as of an index that names no held register
 unfoldable pub readRegister : File → ℕ → Answer
 readRegister f number = cond (sound f) (cond (ltb number registerCount) (Done (register f number)) NoRegister) NotSound
 
@@ -54,7 +54,7 @@ readRegister f number = cond (sound f) (cond (ltb number registerCount) (Done (r
 unfoldable pub readNamed : File → List ℕ → Answer
 readNamed f name = readRegister f (numberOf name)
 
--- 01, 'Stored bits': a register's number by its name. No file is asked, so no 12
+-- 01, 'Stored bits', and 02, 6/13: a register's number by its name. No file is asked, so no 12
 unfoldable pub readNumber : List ℕ → NumberRead
 readNumber name =
     cond (ltb (numberOf name) registerCount) (record { answer = Done 0; number = numberOf name }) (record { answer = NoRegister; number = 0 })
@@ -77,7 +77,7 @@ readBank f n = entryTold (sound f) (ltb n bankCount) (getD (f .bank) n black)
 -- 01, 'The palette pointer': 'An address, a mode, a next colour .. and two held bytes'
 unfoldable pub readPointer : File → PointerRead
 readPointer f =
-    cond (sound f) (record { answer = Done 0; pointer = f .state .pointer }) (record { answer = NotSound; pointer = initial .pointer })
+    cond (sound f) (record { answer = Done 0; pointer = f .state .pointer }) (record { answer = NotSound; pointer = initial (f .state .chip) .pointer })
 
 -- 02, 1/13, 'the last 3C9h access, direction and colour'; of an unsound file write, red (01, 'Accesses and replies': 'all numbers 0')
 unfoldable pub readMarks : File → MarksRead
@@ -87,4 +87,4 @@ readMarks f =
 
 -- 01, 'Places': the toggle says whether the next 3C0h write is data
 unfoldable pub readToggle : File → ToggleRead
-readToggle f = cond (sound f) (record { answer = Done 0; toggle = f .state .toggle }) (record { answer = NotSound; toggle = initial .toggle })
+readToggle f = cond (sound f) (record { answer = Done 0; toggle = f .state .toggle }) (record { answer = NotSound; toggle = initial (f .state .chip) .toggle })

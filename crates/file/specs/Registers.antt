@@ -1,9 +1,10 @@
--- 01, 'Places', 'Stored bits': the 100 registers that the file stores, as one table. A register's number is its place in it.
+-- 01, 'Places', 'Stored bits', and 02, 6/13: the 108 registers that the file stores, as one table, on both chips. A register's number is its place in it.
 -- Assumes nothing.
 use Prim.Native.Nat.{ℕ}
 use Prim.Native.String.{String}
 use mathlib.Core.List.{List, [], _∷_, _++_, map}
 use lib.ListN.{getD}
+use Rattle.file.specs.declared.chip.Chip.{Chip}
 use Rattle.file.specs.Groups.{groups, rowsOf, storedIn}
 
 -- a register: its name, its index or offset, and its width in bytes
@@ -148,21 +149,34 @@ pipeline =
     ∷ sixteen "E8" 0xE8
     ∷ []
 
+-- 02, 6/13: the registers of source document 001 that it lists, by their MMIO offsets, which are their names here: the manual has two names for 10Ch
+unfoldable pub vPort : List Register
+vPort =
+    sixteen "100" 0x100
+    ∷ sixteen "102" 0x102
+    ∷ sixteen "104" 0x104
+    ∷ sixteen "106" 0x106
+    ∷ sixteen "108" 0x108
+    ∷ sixteen "10A" 0x10A
+    ∷ sixteen "10C" 0x10C
+    ∷ sixteen "10E" 0x10E
+    ∷ []
+
 -- how many there are; that the table has so many is a law (`registers-counted`)
 abbrev pub registerCount : ℕ
-registerCount = 100
+registerCount = 108
 
 -- every register, by its number
 unfoldable pub registers : List Register
-unfolding singles sequencer crtc graphics attribute pipeline
-registers = singles ++ sequencer ++ crtc ++ graphics ++ attribute ++ pipeline
+unfolding singles sequencer crtc graphics attribute pipeline vPort
+registers = singles ++ sequencer ++ crtc ++ graphics ++ attribute ++ pipeline ++ vPort
 
--- the stored bits of each register, by its number: those that `groups` has under its name
-unfoldable pub storedTable : List ℕ
+-- the stored bits of each register on a chip, by its number: those that `groups` has under its name
+unfoldable pub storedTable : Chip → List ℕ
 unfolding registers groups rowsOf storedIn
-storedTable = map (λ (r : Register). storedIn (rowsOf groups) (r .name)) registers
+storedTable chip = map (λ (r : Register). storedIn chip (rowsOf groups) (r .name)) registers
 
 -- the stored bits of a register; none of a number that no register has
-unfoldable pub storedBits : ℕ → ℕ
+unfoldable pub storedBits : Chip → ℕ → ℕ
 unfolding storedTable
-storedBits number = getD storedTable number 0
+storedBits chip number = getD (storedTable chip) number 0

@@ -1,9 +1,10 @@
--- 01, end of 'The palette pointer', and 02, 1/13: soundness.
+-- 01, end of 'The palette pointer', and 02, 1/13 and 6/13: soundness.
 -- Assumes nothing.
 use Prim.Native.Nat.{ℕ}
 use mathlib.Core.Bool.{Bool, true, false, _&&_}
 use mathlib.Core.List.{List, [], _∷_}
 use Rattle.bits.specs.Store.{within}
+use Rattle.file.specs.declared.chip.Chip.{Chip}
 use Rattle.file.specs.declared.effect.Effect.{Effect}
 use Rattle.file.specs.declared.effect.Effect.the-variants.{Nothing, Store, Toggle, Move, Step, Paint}
 use Rattle.file.specs.declared.registers.File.{File}
@@ -19,15 +20,15 @@ allWithin (stored ∷ table) [] = false
 allWithin (stored ∷ table) (value ∷ values) = within stored value && allWithin table values
 
 -- 'A file is sound if no bit outside the table is set, the next colour is 0 to 2, held green is 0 before blue is due, and held red is 0 at red.'
--- 02, 1/13: 'The marks are sound for direction 0 or 1 and colour 0 to 2.'
+-- 02, 1/13: 'The marks are sound for direction 0 or 1 and colour 0 to 2.' 02, 6/13: the table is that of the file's chip
 unfoldable pub sound : File → Bool
-sound f = allWithin storedTable (f .registers) && stateSound (f .state)
+sound f = allWithin (storedTable (f .state .chip)) (f .registers) && stateSound (f .state)
 
--- an effect that stores within the stored bits, and moves to a sound pointer and sound marks
-unfoldable pub keeps : Effect → Bool
-keeps Nothing = true
-keeps (Store flips number reach value) = within (storedBits number) reach
-keeps (Toggle toggle) = true
-keeps (Move pointer) = pointerSound pointer
-keeps (Step pointer marks) = marksSound marks && pointerSound pointer
-keeps (Paint bank entry pointer colour marks) = marksSound marks && pointerSound pointer
+-- an effect that stores within a chip's stored bits, and moves to a sound pointer and sound marks
+unfoldable pub keeps : Chip → Effect → Bool
+keeps chip Nothing = true
+keeps chip (Store flips number reach value) = within (storedBits chip number) reach
+keeps chip (Toggle toggle) = true
+keeps chip (Move pointer) = pointerSound pointer
+keeps chip (Step pointer marks) = marksSound marks && pointerSound pointer
+keeps chip (Paint bank entry pointer colour marks) = marksSound marks && pointerSound pointer

@@ -1,29 +1,35 @@
--- The small parts of a file beside its registers and colours: the palette pointer, the marks of the last pixel data access, and the toggle, which says
--- whether the next 3C0h write is data.
+-- The small parts of a file beside its registers and colours: the palette pointer, the marks of the last pixel data access, the toggle, which says
+-- whether the next 3C0h write is data, and the chip.
 -- Assumes nothing.
 use Prim.Native.Nat.{ℕ}
 use mathlib.Core.Bool.{Bool, false, cond, not, _&&_}
+use Rattle.file.specs.declared.chip.Chip.{Chip}
+use Rattle.file.specs.declared.chip.Chip.the-variants.{Gd5464}
 use Rattle.file.specs.declared.palette.Pointer.{Pointer}
 use Rattle.file.specs.declared.state.State.{State}
 use Rattle.file.specs.Palette.{addressed, marksOf, marksSound, pointerSound}
 
 -- 01, end of 'Places': at power-on 'the toggle is index, and the pointer is at address 0, write mode, red, nothing held'; 02, 1/13, 'power-on is
--- write, blue'
-unfoldable pub initial : State
+-- write, blue'; 02, 6/13, 'Make the chip a choice when a file is created'
+unfoldable pub initial : Chip → State
 unfolding addressed
-initial = record { pointer = addressed false 0; marks = marksOf false 2; toggle = false }
+initial chip = record { pointer = addressed false 0; marks = marksOf false 2; toggle = false; chip = chip }
 
--- the state with another pointer
+-- a state that is not looked at
+abbrev pub unasked : State
+unasked = initial Gd5464
+
+-- the state with another pointer; here and below the chip stays
 unfoldable pub pointing : Pointer → State → State
-pointing new s = record { pointer = new; marks = s .marks; toggle = s .toggle }
+pointing new s = record { pointer = new; marks = s .marks; toggle = s .toggle; chip = s .chip }
 
 -- 02, 1/13: after a 3C9h access, another pointer and other marks
 unfoldable pub stepping : Pointer → ℕ → State → State
-stepping new marks s = record { pointer = new; marks = marks; toggle = s .toggle }
+stepping new marks s = record { pointer = new; marks = marks; toggle = s .toggle; chip = s .chip }
 
 -- with another toggle
 unfoldable pub toggling : Bool → State → State
-toggling new s = record { pointer = s .pointer; marks = s .marks; toggle = new }
+toggling new s = record { pointer = s .pointer; marks = s .marks; toggle = new; chip = s .chip }
 
 -- the toggle flipped, where it flips
 unfoldable pub flipped : Bool → State → State

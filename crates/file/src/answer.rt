@@ -33,6 +33,8 @@ pub enum Answer {
     NotBeforeRed,
     // 14: a plan's own record, during a restore
     PlanRefused,
+    // 15: a restore between different chips
+    OtherChip,
     // 16: the address is held in the other direction only
     OtherDirection,
     // 17: the address falls inside a wider register
@@ -60,6 +62,7 @@ impl Answer {
             Answer::NotSound => 12,
             Answer::NotBeforeRed => 13,
             Answer::PlanRefused => 14,
+            Answer::OtherChip => 15,
             Answer::OtherDirection => 16,
             Answer::InsideWider => 17,
         }

@@ -227,3 +227,24 @@ pub mod video_pipeline {
 
     pub const E8: u16 = 0x7FFC; // 5-25
 }
+
+// 001, chapter 6, 'Enhanced V-Port registers', 100h to 10Eh. Sections 6.1 to 6.9, pages 6-3 to 6-13. 10Ch is Capture Y Start on the 5464 and V-Port Control on the 5462.
+pub mod v_port {
+    pub const BUFFER_0_X: u16 = 0x1F00; // 6-3
+
+    pub const BUFFER_1_X: u16 = 0x1F00; // 6-4
+
+    pub const BUFFER_0_Y: u16 = 0x3FFF; // 6-5
+
+    pub const BUFFER_1_Y: u16 = 0x3FFF; // 6-6
+
+    pub const CAPTURE_X_START: u16 = 0x03FF; // 6-7
+
+    pub const CAPTURE_X_STOP: u16 = 0x03FF; // 6-8
+
+    pub const CAPTURE_Y_START: u16 = 0x01FF; // 6-9
+
+    pub const CAPTURE_Y_STOP: u16 = 0x01FF; // 6-10
+
+    pub const V_PORT_CONTROL: u16 = 0xF3DF; // 6-11
+}

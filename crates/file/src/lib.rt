@@ -1,5 +1,6 @@
-// The register file of the CL-GD546X as a value: registers, palette, bank, and a state with pointer, marks and toggle; what an access may do to it.
+// The register file of the CL-GD546X as a value: registers, palette, bank, and a state with pointer, marks, toggle and chip; what an access may do to it.
 mod answer;
+mod chip;
 mod effect;
 mod groups;
 mod numbered;
@@ -11,10 +12,15 @@ mod sound;
 mod state;
 
 pub use answer::Answer;
+pub use chip::Chip;
 pub use effect::Effect;
 pub use effect::Reach;
 pub use numbered::ARX;
 pub use numbered::B0;
+pub use numbered::CAPTURE_X_START;
+pub use numbered::CAPTURE_X_STOP;
+pub use numbered::CAPTURE_Y_START;
+pub use numbered::CAPTURE_Y_STOP;
 pub use numbered::CC;
 pub use numbered::CE;
 pub use numbered::CR0;

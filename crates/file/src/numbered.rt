@@ -48,8 +48,17 @@ pub const E6: usize = 98;
 
 pub const E8: usize = 99;
 
+// The V-Port's capture registers, 108h to 10Eh. 10Ch is Capture Y Start on the 5464 and V-Port Control on the 5462.
+pub const CAPTURE_X_START: usize = 104;
+
+pub const CAPTURE_X_STOP: usize = 105;
+
+pub const CAPTURE_Y_START: usize = 106;
+
+pub const CAPTURE_Y_STOP: usize = 107;
+
 // All of them in the order above: each is the number that its name has in 01's table.
-pub fn named_numbers() -> [usize; 23]
+pub fn named_numbers() -> [usize; 27]
     ensures { λ r. ⌜ r ≡ numbersInCode ⌝ }
 {
     [
@@ -76,5 +85,9 @@ pub fn named_numbers() -> [usize; 23]
         E4,
         E6,
         E8,
+        CAPTURE_X_START,
+        CAPTURE_X_STOP,
+        CAPTURE_Y_START,
+        CAPTURE_Y_STOP,
     ]
 }

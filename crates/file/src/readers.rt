@@ -47,7 +47,7 @@ pub struct NumberRead {
 }
 
 // The registers' names, each between dots, twelve bytes to a row.
-const NAMES: [u8; 1200] = *b"\
+const NAMES: [u8; 1296] = *b"\
     .MISC.......\
     .SRX........\
     .CRX........\
@@ -147,7 +147,15 @@ const NAMES: [u8; 1200] = *b"\
     .E2.........\
     .E4.........\
     .E6.........\
-    .E8.........";
+    .E8.........\
+    .100........\
+    .102........\
+    .104........\
+    .106........\
+    .108........\
+    .10A........\
+    .10C........\
+    .10E........";
 
 // Whether a register's name has this many bytes: the dots begin behind its last.
 fn ends_at(number: usize, count: usize) -> bool

@@ -2,6 +2,7 @@ ghost use mathlib.Core.Path.{_≡_};
 ghost use Prim.Native.Nat.{_<_};
 ghost use Rattle.file.specs.File.{powerOn};
 ghost use Rattle.file.specs.Registers.{storedBits, storedTable};
+use crate::chip::Chip;
 use crate::groups::core_attribute;
 use crate::groups::core_crtc;
 use crate::groups::core_general;
@@ -10,18 +11,20 @@ use crate::groups::core_sequencer;
 use crate::groups::extended_crtc;
 use crate::groups::extended_pci;
 use crate::groups::extended_sequencer;
+use crate::groups::v_port;
 use crate::groups::video_pipeline;
+use crate::numbered::CAPTURE_Y_START;
 use crate::palette::Colour;
 use crate::state::State;
 
 // How many registers a file has, and how many entries its palette and its bank have.
-pub const REGISTERS: usize = 100;
+pub const REGISTERS: usize = 108;
 
 pub const PALETTE: usize = 256;
 
 pub const BANK: usize = 16;
 
-// The register file. The registers are those of 01's list of stored bits, by their numbers there; the state is everything else but the colours.
+// The register file. The registers are those of 01's list of stored bits and then 02's V-Port registers, by their numbers; the state is everything else but the colours.
 pub struct File {
     pub registers: [u16; REGISTERS],
     pub palette: [Colour; PALETTE],
@@ -30,7 +33,7 @@ pub struct File {
 }
 
 impl File {
-    // The bits that each register stores, by its number.
+    // The bits that each register stores on the 5464, by its number; the 5462 differs at 10Ch.
     pub const STORED: [u16; REGISTERS] = [
         core_general::MISC,
         core_sequencer::SRX,
@@ -132,38 +135,51 @@ impl File {
         video_pipeline::E4,
         video_pipeline::E6,
         video_pipeline::E8,
+        v_port::BUFFER_0_X,
+        v_port::BUFFER_1_X,
+        v_port::BUFFER_0_Y,
+        v_port::BUFFER_1_Y,
+        v_port::CAPTURE_X_START,
+        v_port::CAPTURE_X_STOP,
+        v_port::CAPTURE_Y_START,
+        v_port::CAPTURE_Y_STOP,
     ];
 
-    // Every stored bit and entry 0, the toggle at index, the pointer at address 0, write mode, red, nothing held.
-    pub fn power_on() -> File
-        ensures { λ r. ⌜ r ≡ powerOn ⌝ }
+    // Every stored bit and entry 0, but for 10Ch of the 5462; the toggle at index, the pointer at address 0, write mode, red, nothing held.
+    pub fn power_on(chip: Chip) -> File
+        ensures { λ r. ⌜ r ≡ powerOn chip ⌝ }
     {
+        let mut registers = [0; REGISTERS];
+        registers[CAPTURE_Y_START] = chip.v_port_at_power_on();
         let black = Colour {
             red: 0,
             green: 0,
             blue: 0,
         };
         File {
-            registers: [0; REGISTERS],
+            registers,
             palette: [black; PALETTE],
             bank: [black; BANK],
-            state: State::power_on(),
+            state: State::power_on(chip),
         }
     }
 
-    // The stored bits of every register by value, for those who lend them: a constant that is indexed is copied first.
-    pub fn stored() -> [u16; REGISTERS]
-        ensures { λ r. ⌜ r ≡ storedTable ⌝ }
+    // The stored bits of every register on a chip by value, for those who lend them: a constant that is indexed is copied first.
+    pub fn stored(chip: Chip) -> [u16; REGISTERS]
+        ensures { λ r. ⌜ r ≡ storedTable chip ⌝ }
     {
-        File::STORED
+        let mut stored = File::STORED;
+        stored[CAPTURE_Y_START] = chip.v_port_stored();
+        stored
     }
 
-    // The bits that a register stores, by its number; none of a number that no register has.
-    pub fn stored_bits(number: usize) -> u16
-        ensures { λ r. ⌜ r ≡ storedBits number ⌝ }
+    // The bits that a register stores on a chip, by its number; none of a number that no register has.
+    pub fn stored_bits(chip: Chip, number: usize) -> u16
+        ensures { λ r. ⌜ r ≡ storedBits chip number ⌝ }
     {
+        let stored = File::stored(chip);
         if number < REGISTERS {
-            File::STORED[number]
+            stored[number]
         } else {
             0
         }

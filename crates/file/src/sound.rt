@@ -7,11 +7,13 @@ use crate::registers::File;
 use crate::registers::REGISTERS;
 use crate::state::State;
 
-// No bit outside the table is set, and the state is one that accesses can reach.
+// No bit outside the table of the file's chip is set, and the state is one that accesses can reach.
 pub fn is_sound(file: File) -> bool
     ensures { λ r. ⌜ r ≡ sound file ⌝ }
 {
-    let stored = File::STORED;
+    let state = file.state;
+    let chip = state.chip;
+    let stored = File::stored(chip);
     let mut stray: u16 = 0;
     let mut i = 0;
     while i < REGISTERS {
@@ -19,7 +21,7 @@ pub fn is_sound(file: File) -> bool
         i += 1;
     }
     if stray == 0 {
-        state_sound(file.state)
+        state_sound(state)
     } else {
         false
     }

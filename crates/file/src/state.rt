@@ -1,24 +1,27 @@
 ghost use mathlib.Core.Path.{_≡_};
 ghost use Rattle.file.specs.State.{initial, pointing as pointingTo, stepping as steppingTo, toggling as togglingTo, flipped as flippedState};
+use crate::chip::Chip;
 use crate::palette::Pointer;
 
 // The small parts of a file beside its registers and colours. The toggle says whether the next 3C0h write is data; the marks of the last pixel
-// data access are what B0[2:0] reads.
+// data access are what B0[2:0] reads; the chip stays what it was made.
 pub struct State {
     pub pointer: Pointer,
     pub marks: u8,
     pub toggle: bool,
+    pub chip: Chip,
 }
 
 impl State {
     // The pointer at address 0, write mode, red, nothing held; the toggle at index; the marks at write, blue.
-    pub fn power_on() -> State
-        ensures { λ r. ⌜ r ≡ initial ⌝ }
+    pub fn power_on(chip: Chip) -> State
+        ensures { λ r. ⌜ r ≡ initial chip ⌝ }
     {
         State {
             pointer: Pointer::addressed(false, 0),
             marks: 2,
             toggle: false,
+            chip,
         }
     }
 

@@ -13,7 +13,7 @@ use Rattle.file.specs.Names.{E0, E2, E4}
 use Rattle.file.specs.Registers.{storedBits, storedTable}
 use Rattle.file.specs.Sound.{sound}
 use Rattle.geometry.specs.Geometry.{cursorIn, edgeInRange, cursorInRange}
-use Rattle.geometry.proofs.Twelve.{twelve}
+use Rattle.geometry.proofs.StoredBelow.{stored-below}
 
 -- a number of 12 bits less one of 7
 less-ranged : (edge preset : ℕ) → edge < 4096 → preset < 128 → T (edgeInRange (subℕ edge preset))
@@ -27,5 +27,5 @@ pub cursor-ranged : (f : File) → T (sound f) → T (cursorInRange (cursorIn f)
 unfolding cursorInRange cursorIn register bits storedBits storedTable
 cursor-ranged f s =
     both (edgeInRange (cursorIn f .left .0)) (edgeInRange (cursorIn f .top .0))
-    (less-ranged (register f E0) (bits 14 8 (register f E4)) (twelve f E0 tt s) (mod-lt (register f E4 / 2 ^ 8) (lit< tt)))
-    (less-ranged (register f E2) (bits 6 0 (register f E4)) (twelve f E2 tt s) (mod-lt (register f E4 / 2 ^ 0) (lit< tt)))
+    (less-ranged (register f E0) (bits 14 8 (register f E4)) (stored-below f E0 4096 tt s) (mod-lt (register f E4 / 2 ^ 8) (lit< tt)))
+    (less-ranged (register f E2) (bits 6 0 (register f E4)) (stored-below f E2 4096 tt s) (mod-lt (register f E4 / 2 ^ 0) (lit< tt)))

@@ -7,7 +7,8 @@ use Rattle.file.specs.declared.registers.File.{File}
 use Rattle.file.specs.Answers.{codeOf, oneOf}
 use Rattle.file.specs.Sound.{sound}
 use Rattle.geometry.specs.declared.Geometry.{Geometry}
-use Rattle.geometry.specs.Geometry.{edgeInRange, cursorInRange, noCursor, readGeometry}
+use Rattle.geometry.specs.Geometry.{bothBelow, captureInRange, edgeInRange, cursorInRange, noCapture, noCursor, readGeometry}
+use Rattle.geometry.proofs.CaptureRange.{capture-ranged}
 use Rattle.geometry.proofs.CursorRange.{cursor-ranged}
 
 module _ (f : File) (r : Geometry) (met : r ≡ readGeometry f) where
@@ -24,3 +25,10 @@ module _ (f : File) (r : Geometry) (met : r ≡ readGeometry f) where
   cursor-in-range =
       subst (λ (x : Geometry). T (cursorInRange (x .cursor))) (sym met)
       (chosen-by (λ (x : Geometry). cursorInRange (x .cursor)) (sound f) _ _ (λ s. cursor-ranged f (passes (sound f) s)) tt)
+
+  -- and so does the capture window in 02's
+  pub capture-in-range : T (captureInRange (r .capture))
+  unfolding readGeometry noCapture bothBelow captureInRange
+  capture-in-range =
+      subst (λ (x : Geometry). T (captureInRange (x .capture))) (sym met)
+      (chosen-by (λ (x : Geometry). captureInRange (x .capture)) (sound f) _ _ (λ s. capture-ranged f (passes (sound f) s)) tt)

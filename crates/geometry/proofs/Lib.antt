@@ -1,5 +1,6 @@
 pub mod Signed
 pub mod FarFromZero
-pub mod Twelve
+pub mod StoredBelow
 pub mod CursorRange
+pub mod CaptureRange
 pub mod HandsBack

@@ -1,4 +1,4 @@
--- 01, 'Cursor and window 2'.
+-- 01, 'Cursor and window 2', and 02, 6/13, the capture geometry.
 -- Assumes nothing.
 use Prim.Native.Nat.{ℕ, _-_, _*_, min}
 use mathlib.Core.Bool.{Bool, true, false, cond, _&&_, _||_}
@@ -7,16 +7,21 @@ use lib.IntN.{ℤ, pos, negℤ, subℕ}
 use lib.Signed.{leZ}
 use Rattle.bits.specs.Store.{bit, bits}
 use Rattle.file.specs.declared.answer.Answer.the-variants.{Done, NotSound}
+use Rattle.file.specs.declared.chip.Chip.{Chip}
+use Rattle.file.specs.declared.chip.Chip.the-variants.{Gd5462, Gd5464}
 use Rattle.file.specs.declared.registers.File.{File}
 use Rattle.file.specs.File.{register}
-use Rattle.file.specs.Names.{CC, CE, D0, D2, D4, D5, E0, E2, E4, E6, E8}
+use Rattle.file.specs.Names.{CC, CE, D0, D2, D4, D5, E0, E2, E4, E6, E8, captureXStart, captureXStop, captureYStart, captureYStop}
 use Rattle.file.specs.Sound.{sound}
 use Rattle.timing.specs.declared.Scanlines.{Scanlines}
 use Rattle.timing.specs.declared.Timing.{Timing}
 use Rattle.timing.specs.Timing.{timingIn}
+use Rattle.geometry.specs.declared.IncomingScanlines.{IncomingScanlines}
+use Rattle.geometry.specs.declared.PixelClocks.{PixelClocks}
 use Rattle.geometry.specs.declared.Pixels.{Pixels}
 use Rattle.geometry.specs.declared.SignedPixels.{SignedPixels}
 use Rattle.geometry.specs.declared.SignedScanlines.{SignedScanlines}
+use Rattle.geometry.specs.declared.Capture.{Capture}
 use Rattle.geometry.specs.declared.Cursor.{Cursor}
 use Rattle.geometry.specs.declared.Window.{Window}
 use Rattle.geometry.specs.declared.Geometry.{Geometry}
@@ -32,6 +37,13 @@ signedPixels n = record { 0 = n }
 
 abbrev signedScanlines : ℤ → SignedScanlines
 signedScanlines n = record { 0 = n }
+
+-- 02, 6/13, as settled: the capture window counts pixel clocks across and incoming scanlines down, neither of them 01's
+abbrev pixelClocks : ℕ → PixelClocks
+pixelClocks n = record { 0 = n }
+
+abbrev incomingScanlines : ℕ → IncomingScanlines
+incomingScanlines n = record { 0 = n }
 
 -- one bit as a mark
 unfoldable pub mark : ℕ → ℕ → Bool
@@ -78,6 +90,28 @@ windowIn f =
       stop = scanlines (64 * bits 5 0 (register f D5));
     }
 
+-- 02, 6/13: 'the 5462's vertical start is given as 0': there 10Ch is V-Port Control
+unfoldable pub verticalStart : Chip → ℕ → ℕ
+verticalStart Gd5462 stored = 0
+verticalStart Gd5464 stored = stored
+
+-- 02, 6/13: 'Capture geometry is start and stop as stored'
+unfoldable pub captureIn : File → Capture
+captureIn f =
+    record {
+      xstart = pixelClocks (register f captureXStart);
+      xstop = pixelClocks (register f captureXStop);
+      ystart = incomingScanlines (verticalStart (f .state .chip) (register f captureYStart));
+      ystop = incomingScanlines (register f captureYStop);
+    }
+
+unfoldable pub bothBelow : ℕ → ℕ → ℕ → Bool
+bothBelow bound start stop = ltb start bound && ltb stop bound
+
+-- what the stored bits allow, 02, 6/13: '108h and 10Ah 03FFh'; 10Ch, where it is the start, and 10Eh '01FFh'
+unfoldable pub captureInRange : Capture → Bool
+captureInRange c = bothBelow 1024 (c .xstart .0) (c .xstop .0) && bothBelow 512 (c .ystart .0) (c .ystop .0)
+
 -- 'Timing, geometry and all other readers of a file answer 12 with all numbers 0, marks off, window empty.'
 unfoldable pub noCursor : Cursor
 noCursor =
@@ -105,7 +139,10 @@ noWindow =
       stop = scanlines 0;
     }
 
+unfoldable pub noCapture : Capture
+noCapture = record { xstart = pixelClocks 0; xstop = pixelClocks 0; ystart = incomingScanlines 0; ystop = incomingScanlines 0 }
+
 unfoldable pub readGeometry : File → Geometry
 readGeometry f =
-    cond (sound f) (record { answer = Done 0; cursor = cursorIn f; window = windowIn f })
-    (record { answer = NotSound; cursor = noCursor; window = noWindow })
+    cond (sound f) (record { answer = Done 0; cursor = cursorIn f; window = windowIn f; capture = captureIn f })
+    (record { answer = NotSound; cursor = noCursor; window = noWindow; capture = noCapture })

@@ -1,5 +1,5 @@
-// The hardware cursor and window 2 of a register file. Horizontal places are pixels, a third kind beside clocks and scanlines.
-// Where a place may lie before the first pixel or scanline its unit is a signed one.
+// The hardware cursor, window 2 and the capture window of a register file. Horizontal places are pixels, a third kind beside clocks and scanlines.
+// Where a place may lie before the first pixel or scanline its unit is a signed one. What is captured comes with clocks and scanlines of its own.
 mod edge;
 mod reader;
 
@@ -13,6 +13,11 @@ pub struct Pixels(pub u16);
 pub struct SignedPixels(pub i16);
 
 pub struct SignedScanlines(pub i16);
+
+// The pixel clocks that incoming video is counted in, and its scanlines.
+pub struct PixelClocks(pub u16);
+
+pub struct IncomingScanlines(pub u16);
 
 // The cursor: left and top may be negative, as 01 has them.
 pub struct Cursor {
@@ -38,8 +43,17 @@ pub struct Window {
     pub stop: Scanlines,
 }
 
+// The V-Port's capture window: start and stop, across and down.
+pub struct Capture {
+    pub xstart: PixelClocks,
+    pub xstop: PixelClocks,
+    pub ystart: IncomingScanlines,
+    pub ystop: IncomingScanlines,
+}
+
 pub struct Geometry {
     pub answer: Answer,
     pub cursor: Cursor,
     pub window: Window,
+    pub capture: Capture,
 }

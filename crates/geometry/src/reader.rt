@@ -1,11 +1,14 @@
-// The cursor and window 2 of a sound file, and what stands for them where it is not sound.
+// The cursor, window 2 and the capture window of a sound file, and what stands for them where it is not sound.
 ghost use mathlib.Core.Path.{_≡_};
 ghost use lib.Dec.{T};
 ghost use Rattle.file.specs.Sound.{sound};
-ghost use Rattle.geometry.specs.Geometry.{cursorIn, noCursor, noWindow, readGeometry, windowIn};
+ghost use Rattle.geometry.specs.Geometry.{captureIn, cursorIn, noCapture, noCursor, noWindow, readGeometry, verticalStart, windowIn};
 ghost use Rattle.timing.specs.Timing.{timingIn};
+use crate::Capture;
 use crate::Cursor;
 use crate::Geometry;
+use crate::IncomingScanlines;
+use crate::PixelClocks;
 use crate::Pixels;
 use crate::SignedPixels;
 use crate::SignedScanlines;
@@ -15,8 +18,13 @@ use crate::edge::less_preset;
 use crate::edge::shown;
 use crate::edge::smaller;
 use file::Answer;
+use file::CAPTURE_X_START;
+use file::CAPTURE_X_STOP;
+use file::CAPTURE_Y_START;
+use file::CAPTURE_Y_STOP;
 use file::CC;
 use file::CE;
+use file::Chip;
 use file::D0;
 use file::D2;
 use file::D4;
@@ -31,7 +39,7 @@ use file::is_sound;
 use timing::Scanlines;
 use timing::read_timing;
 
-// What a file's registers say of the cursor and of window 2.
+// What a file's registers say of the cursor, of window 2 and of the capture window.
 pub fn read_geometry(file: File) -> Geometry
     ensures { λ r. ⌜ r ≡ readGeometry file ⌝ }
 {
@@ -41,12 +49,14 @@ pub fn read_geometry(file: File) -> Geometry
             answer: Answer::Done(0),
             cursor: cursor_in(file),
             window: window_in(file, timing.v_total.0, timing.v_display.0),
+            capture: capture_in(file),
         }
     } else {
         Geometry {
             answer: Answer::NotSound,
             cursor: no_cursor(),
             window: no_window(),
+            capture: no_capture(),
         }
     }
 }
@@ -121,5 +131,40 @@ fn no_window() -> Window
         fault: false,
         start: Scanlines(0),
         stop: Scanlines(0),
+    }
+}
+
+fn capture_in(file: File) -> Capture
+    ensures { λ r. ⌜ r ≡ captureIn file ⌝ }
+{
+    let state = file.state;
+    let chip = state.chip;
+    Capture {
+        xstart: PixelClocks(file.registers[CAPTURE_X_START]),
+        xstop: PixelClocks(file.registers[CAPTURE_X_STOP]),
+        ystart: IncomingScanlines(vertical_start(chip, file.registers[CAPTURE_Y_START])),
+        ystop: IncomingScanlines(file.registers[CAPTURE_Y_STOP]),
+    }
+}
+
+// Where capture starts, by what 10Ch stores: on the 5462 that is V-Port Control, and the start is 0.
+fn vertical_start(chip: Chip, stored: u16) -> u16
+    ensures { λ r. ⌜ r ≡ verticalStart chip stored ⌝ }
+{
+    match chip {
+        Chip::Gd5462 => 0,
+        Chip::Gd5464 => stored,
+    }
+}
+
+// No capture window: every number 0.
+fn no_capture() -> Capture
+    ensures { λ r. ⌜ r ≡ noCapture ⌝ }
+{
+    Capture {
+        xstart: PixelClocks(0),
+        xstop: PixelClocks(0),
+        ystart: IncomingScanlines(0),
+        ystop: IncomingScanlines(0),
     }
 }

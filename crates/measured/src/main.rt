@@ -1,6 +1,7 @@
 // For bench/run: runs the trace on standard input from power-on and prints nothing of it; then does one thing some hundred times with
 // the file that it ends in. Words: `run`, or `read`, `write` (the timing), `plan` or `restore` (from power-on) and a digit for the
 // hundreds. The number that it prints hangs on all that it did.
+use file::Chip;
 use file::File;
 use libc::STDIN_FILENO;
 use libc::STDOUT_FILENO;
@@ -42,7 +43,7 @@ fn run_input() -> Course {
     let mut trace = [0u8; 8192];
     let mut replies = [0u8; 8192];
     let mut course = Course {
-        file: File::power_on(),
+        file: File::power_on(Chip::Gd5464),
         sum: 0,
         more: true,
     };
@@ -69,7 +70,7 @@ fn look(what: u8, file: File, buffer: &mut [u8; 8192]) -> u64 {
         return counted(plan::plan(file, buffer).count);
     }
     if what == b's' {
-        return counted(restoring::restore(File::power_on(), file, buffer).count);
+        return counted(restoring::restore(File::power_on(Chip::Gd5464), file, buffer).count);
     }
     placed(read_timing(file).timing.screen_start)
 }

@@ -18,9 +18,10 @@ use Rattle.file.specs.Answers.{among, codeOf}
 use Rattle.file.specs.declared.answer.Answer.the-variants.{Done as Answered, Locked as LockedOut, OutOfRange as Outside, NotSound as Unsound}
 use Rattle.file.specs.Effects.{apply, storeIn, reachOf}
 use Rattle.file.specs.File.{register, crtcLocked, withRegisters, withState}
-use Rattle.file.specs.Registers.{storedBits, storedTable, registers, singles, sequencer, crtc, graphics, attribute, pipeline}
+use Rattle.file.specs.Registers.{storedBits, storedTable, registers, singles, sequencer, crtc, graphics, attribute, pipeline, vPort}
 use Rattle.file.specs.Sound.{sound, keeps}
 use Rattle.file.specs.State.{flipped}
+use Rattle.file.specs.declared.chip.Chip.{Chip}
 use Rattle.file.specs.declared.registers.File.{File}
 use Rattle.timing.proofs.Computed.{table-stored}
 use Rattle.timing.proofs.Kept.{written-sound}
@@ -101,15 +102,15 @@ mode-outside m f =
     }
 
 -- and keeps a file sound
-flags-kept : (h v : Bool) → T (keeps (flagStore h v))
-unfolding keeps flagStore flagReach within store storedBits storedTable registers singles sequencer crtc graphics attribute pipeline
-flags-kept h v = tt
+flags-kept : (chip : Chip) (h v : Bool) → T (keeps chip (flagStore h v))
+unfolding keeps flagStore flagReach within store storedBits storedTable registers singles sequencer crtc graphics attribute pipeline vPort
+flags-kept chip h v = tt
 
 mode-sound : (m : Mode) (f : File) → T (sound f) → T (sound (withMode m f))
-unfolding withMode withTiming
+unfolding withMode withTiming withRegisters
 mode-sound m f s =
-    apply-sound (flagStore (m .«h_minus») (m .«v_minus»)) (withTiming (timingSaid (m .numbers)) f) (flags-kept (m .«h_minus») (m .«v_minus»))
-    (written-sound (table (wide f)) (numbersOf (timingSaid (m .numbers))) f (table-stored (wide f)) s)
+    apply-sound (flagStore (m .«h_minus») (m .«v_minus»)) (withTiming (timingSaid (m .numbers)) f) (flags-kept (f .state .chip) (m .«h_minus») (m .«v_minus»))
+    (written-sound (table (wide f)) (numbersOf (timingSaid (m .numbers))) f (table-stored (f .state .chip) (wide f)) s)
 
 -- two answers that the contract allows are equal
 pub read-once : (line : List ℕ) (f : File) (r s : ReadLine) → ReadInto line f r → ReadInto line f s → r ≡ s

@@ -2,6 +2,7 @@
 ghost use Prim.Native.Nat.{_≤_};
 ghost use lib.ListN.{length};
 use file::CR1B;
+use file::Chip;
 use file::Effect;
 use file::File;
 use mode_lines::report_part;
@@ -25,10 +26,10 @@ struct Turn {
     course: Course,
 }
 
-// A file at power-on; a wide one has CR1B[5]=1.
+// A file at power-on; a wide one has CR1B[5]=1. Both chips have the same timing.
 fn start(wide: bool) -> File {
     if !wide {
-        return File::power_on();
+        return File::power_on(Chip::Gd5464);
     }
     let store = Effect::Store {
         flips: false,
@@ -36,7 +37,7 @@ fn start(wide: bool) -> File {
         reach: 0x20,
         value: 0x20,
     };
-    store.apply(File::power_on())
+    store.apply(File::power_on(Chip::Gd5464))
 }
 
 // Nothing more is read.

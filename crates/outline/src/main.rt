@@ -1,4 +1,4 @@
-// Outline: the cursor of P11, left of the screen, and a window 2 that ends beyond the display.
+// Outline: the cursor of P11, left of the screen, a window 2 that ends beyond the display, and a capture window.
 fn main() {
     shell::outline();
 }

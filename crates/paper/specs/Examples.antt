@@ -1,14 +1,16 @@
--- 01, 'Marked examples': P1 to P11 as one table, and behind them rows of our own for 02's requests.
+-- 01, 'Marked examples': P1 to P11 as one table, on each chip (02, 6/13), and behind them rows of our own for 02's requests.
 -- Assumes nothing.
 use Prim.Native.Nat.{ℕ, zero, suc, _+_}
 use Prim.Native.String.{String}
 use mathlib.Core.Bool.{Bool, true, false, _&&_}
-use mathlib.Core.List.{List, [], _∷_}
+use mathlib.Core.List.{List, [], _∷_, _++_}
 use lib.Dec.{eqb}
 use lib.IntN.{ℤ, pos, negsuc}
 use lib.ListN.{getD}
 use Rattle.access.specs.declared.record.Record.{Record}
 use Rattle.access.specs.Access.{access, answer}
+use Rattle.file.specs.declared.chip.Chip.{Chip}
+use Rattle.file.specs.declared.chip.Chip.the-variants.{Gd5462, Gd5464}
 use Rattle.file.specs.declared.palette.Colour.{Colour}
 use Rattle.file.specs.declared.registers.File.{File}
 use Rattle.file.specs.Answers.{codeOf, valueOf}
@@ -21,7 +23,7 @@ use Rattle.timing.specs.Timing.{timingOf, numbersOf, readTiming, writeTiming}
 
 -- a register set to a value by its mask constant, as the examples write CR11=80h
 unfoldable pub setRegister : ℕ → ℕ → File → File
-setRegister number value f = storeIn number (storedBits number) value f
+setRegister number value f = storeIn number (storedBits (f .state .chip) number) value f
 
 pub record Setting : Type 0 where
   pub register : ℕ
@@ -31,10 +33,10 @@ infix 70 _≔_
 abbrev pub _≔_ : ℕ → ℕ → Setting
 r ≔ v = record { register = r; value = v }
 
--- 'From power-on', with some registers set
-unfoldable pub started : List Setting → File
-started [] = powerOn
-started (s ∷ ss) = setRegister (s .register) (s .value) (started ss)
+-- 'From power-on' of a chip, with some registers set
+unfoldable pub started : Chip → List Setting → File
+started chip [] = powerOn chip
+started chip (s ∷ ss) = setRegister (s .register) (s .value) (started chip ss)
 
 -- records as the examples write them
 abbrev asking : ℕ → ℕ → ℕ → ℕ → Record
@@ -57,6 +59,12 @@ mmioRead address = asking 4 1 address 0
 
 abbrev mmioWrite : ℕ → ℕ → Record
 mmioWrite address value = asking 5 1 address value
+
+abbrev mmioReadWord : ℕ → Record
+mmioReadWord address = asking 4 2 address 0
+
+abbrev mmioWriteWord : ℕ → ℕ → Record
+mmioWriteWord address value = asking 5 2 address value
 
 -- a record, and the code and value that it gets
 pub record Step : Type 0 where
@@ -106,8 +114,9 @@ abbrev pub blanked : ℕ → List ℕ
 blanked clocks =
     100 ∷ 80 ∷ 80 ∷ (80 + clocks) ∷ 84 ∷ 96 ∷ 525 ∷ 480 ∷ 487 ∷ 516 ∷ 490 ∷ 492 ∷ 1023 ∷ 40 ∷ 0 ∷ []
 
-unfoldable pub examples : List Example
-examples =
+-- those that hold on either chip
+unfoldable pub common : List Example
+common =
     example "P1" (PCI04 ≔ 0x0000 ∷ []) (portRead 0x3CC gives 3 ∷ asking 9 1 0x3CC 0 gives 2 ∷ []) nothing
     ∷ example "P2" opened (configWrite 0x04 0xFFFF gives 0 ∷ configRead 0x04 reads 0x0027 ∷ []) nothing
     ∷ example "P3" opened (portWrite 0x3C2 0xFF gives 0 ∷ portRead 0x3CC reads 0xEF ∷ mmioRead 0x80 reads 0xEF ∷ []) nothing
@@ -146,7 +155,32 @@ examples =
     ∷ configRead 0x05 gives 17 ∷ asking 1 1 0x05 0 gives 17 ∷ configRead 0x06 gives 4
     ∷ mmioRead 0xC1 gives 17 ∷ asking 5 2 0xC1 0 gives 17 ∷ mmioRead 0xC0 gives 6 ∷ mmioRead 0xC2 gives 4 ∷ mmioRead 0x01 gives 4 ∷ [])
     nothing
+    ∷ example "02, 6/13" opened
+    (mmioReadWord 0x100 reads 0x0000 ∷ mmioWriteWord 0x100 0xFFFF gives 0 ∷ mmioReadWord 0x100 reads 0x1F00 ∷ mmioWriteWord 0x106 0xFFFF gives 0 ∷ mmioReadWord 0x106 reads 0x3FFF
+    ∷ mmioWriteWord 0x10A 0xFFFF gives 0 ∷ mmioReadWord 0x10A reads 0x03FF ∷ mmioWriteWord 0x10E 0xFFFF gives 0 ∷ mmioReadWord 0x10E reads 0x01FF
+    ∷ mmioRead 0x10C gives 6 ∷ mmioRead 0x10D gives 17 ∷ mmioReadWord 0x110 gives 4 ∷ configWrite 0x02 0x0000 gives 7 ∷ mmioWriteWord 0x302 0x0000 gives 7 ∷ [])
+    nothing
     ∷ []
+
+-- 02, 6/13: those that the two chips answer differently: PCI02, and 10Ch at power-on, with every bit written and with none
+unfoldable pub own : Chip → List Example
+own Gd5462 =
+    example "02, 6/13" opened
+    (configRead 0x02 reads 0x00D0 ∷ mmioReadWord 0x302 reads 0x00D0
+    ∷ mmioReadWord 0x10C reads 0x0C90 ∷ mmioWriteWord 0x10C 0xFFFF gives 0 ∷ mmioReadWord 0x10C reads 0xFFDF ∷ mmioWriteWord 0x10C 0x0000 gives 0 ∷ mmioReadWord 0x10C reads 0x0C00 ∷ [])
+    nothing
+    ∷ []
+own Gd5464 =
+    example "02, 6/13" opened
+    (configRead 0x02 reads 0x00D4 ∷ mmioReadWord 0x302 reads 0x00D4
+    ∷ mmioReadWord 0x10C reads 0x0000 ∷ mmioWriteWord 0x10C 0xFFFF gives 0 ∷ mmioReadWord 0x10C reads 0x01FF ∷ [])
+    nothing
+    ∷ []
+
+-- the table, on a chip
+unfoldable pub examples : Chip → List Example
+unfolding common own
+examples chip = common ++ own chip
 
 -- the tests
 unfoldable pub sameNumbers : List ℕ → List ℕ → Bool
@@ -190,9 +224,9 @@ lookHolds f (timingIs numbers) = sameNumbers (numbersOf (readTiming f .timing)) 
 lookHolds f (writing numbers code) = writingHolds f numbers code
 lookHolds f (cursorIs left width) = sameInteger (readGeometry f .cursor .left .0) left && eqb (readGeometry f .cursor .width .0) width
 
-unfoldable pub holds : Example → Bool
-holds e = stepsHold (started (e .start)) (e .steps) && lookHolds (afterSteps (started (e .start)) (e .steps)) (e .look)
+unfoldable pub holds : Chip → Example → Bool
+holds chip e = stepsHold (started chip (e .start)) (e .steps) && lookHolds (afterSteps (started chip (e .start)) (e .steps)) (e .look)
 
-unfoldable pub allHold : List Example → Bool
-allHold [] = true
-allHold (e ∷ es) = holds e && allHold es
+unfoldable pub allHold : Chip → List Example → Bool
+allHold chip [] = true
+allHold chip (e ∷ es) = holds chip e && allHold chip es

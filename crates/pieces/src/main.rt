@@ -6,6 +6,7 @@ mod printing;
 mod same;
 mod stored;
 
+use file::Chip;
 use file::File;
 use file::Pointer;
 use libc::STDOUT_FILENO;
@@ -25,7 +26,7 @@ use trace::reply_bytes;
 
 // One run; how many replies there are, and how many bytes are left unread.
 fn at_once(trace: &[u8], replies: &mut [u8]) -> File {
-    let after = run_from(trace, 0, File::power_on(), replies);
+    let after = run_from(trace, 0, File::power_on(Chip::Gd5464), replies);
     let ran = after.ran;
     print_number(ran.count);
     print_number(unread(trace, ran.count).len());
@@ -48,7 +49,7 @@ fn piece(trace: &[u8], at: usize, file: File, replies: &mut [u8]) -> RanAt {
 
 // Such runs, each from where the one before it ended, and the position after each.
 fn in_pieces(trace: &[u8], replies: &mut [u8]) -> File {
-    let mut file = File::power_on();
+    let mut file = File::power_on(Chip::Gd5464);
     let mut at: usize = 0;
     let mut turns: usize = 26;
     while turns > 0 && at < trace.len() {
@@ -96,7 +97,7 @@ fn put(replies: &mut [u8], at: usize, reply: [u8; 8]) {
 
 // One access after the other.
 fn item_by_item(trace: &[u8], replies: &mut [u8]) -> File {
-    let mut file = File::power_on();
+    let mut file = File::power_on(Chip::Gd5464);
     let mut at: usize = 0;
     let mut turns: usize = 26;
     while turns > 0 && at < trace.len() {
@@ -115,7 +116,7 @@ fn item_by_item(trace: &[u8], replies: &mut [u8]) -> File {
 
 // A run from a file whose next colour is none: its code, its count and the position after it.
 fn from_unsound(trace: &[u8], replies: &mut [u8]) {
-    let mut file = File::power_on();
+    let mut file = File::power_on(Chip::Gd5464);
     let pointer = Pointer {
         address: 0,
         reading: false,

@@ -37,6 +37,20 @@ fn same_at(a: File, b: File, n: usize) -> bool {
         && same_colour(a.bank[within], b.bank[within])
 }
 
+// What PCI02 reads, which tells the chip.
+fn device_id(file: File) -> u16 {
+    let state = file.state;
+    let chip = state.chip;
+    chip.device_id()
+}
+
+fn same_states(a: File, b: File) -> bool {
+    a.state.toggle == b.state.toggle
+        && same_pointer(a.state.pointer, b.state.pointer)
+        && a.state.marks == b.state.marks
+        && device_id(a) == device_id(b)
+}
+
 pub fn same_files(a: File, b: File) -> bool {
     let mut n: usize = 0;
     while n < 256 {
@@ -45,7 +59,5 @@ pub fn same_files(a: File, b: File) -> bool {
         }
         n += 1;
     }
-    a.state.toggle == b.state.toggle
-        && same_pointer(a.state.pointer, b.state.pointer)
-        && a.state.marks == b.state.marks
+    same_states(a, b)
 }

@@ -27,7 +27,7 @@ unfolding plainPlace everyPlace
 plain-in-file cell =
     by-test (ltb cell registerCount)
     (λ e. rw e (both (ltb cell registerCount) (ltb cell registerCount) (passes (ltb cell registerCount) e) (passes (ltb cell registerCount) e)))
-    (λ e. rw e (by-test (ltb cell firstAlone) (λ h. rw h tt) (λ h. rw h (in-list alone (cell - firstAlone) tt))))
+    (λ e. rw e (in-list alone (cell - firstAlone) tt))
 
 attribute-in-file : (toggle : Bool) (cell : ℕ) → T (inFile (attributePlace toggle cell))
 unfolding attributePlace inFile

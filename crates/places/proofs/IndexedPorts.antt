@@ -15,7 +15,7 @@ use Rattle.bits.proofs.Test.{left, right, both, either, by-test, passes, is-tru
 use Rattle.file.specs.declared.registers.File.{File}
 use Rattle.file.specs.declared.state.State.{State}
 use Rattle.file.specs.File.{register, seen}
-use Rattle.file.specs.State.{initial, toggling}
+use Rattle.file.specs.State.{initial, unasked, toggling}
 use Rattle.file.specs.Names.{SRX, CRX, GRX, ARX}
 use Rattle.places.specs.declared.place.Place.{Place}
 use Rattle.places.specs.declared.place.Place.the-variants.{Unnamed, UnnamedAttribute}
@@ -128,7 +128,7 @@ module _ (d : Door) where
   ByKind = every (λ (row : Row). isBy (d .cell - firstIndexed) (row .index)) Rows
 
   abbrev Opens : Bool → Bool
-  Opens toggle = everyBelow (opens (toggling toggle initial) Rows (d .cell - firstIndexed)) (count (d .cell - firstIndexed))
+  Opens toggle = everyBelow (opens (toggling toggle unasked) Rows (d .cell - firstIndexed)) (count (d .cell - firstIndexed))
 
   unfoldable pub opened : Bool
   opened = Within && (ByKind && (Opens true && Opens false))
@@ -171,7 +171,7 @@ module _ (f : File) (bound : Indexed f) (d : Door) (t : T (opened d)) where
   door-place : chosen f (Rows d) ≡ behindOf f C
   unfolding chosen opens seen toggling
   door-place =
-      let state : State = toggling (f .state .toggle) initial in
+      let state : State = toggling (f .state .toggle) unasked in
       let g : File = seen (indicesAt (decider f C)) state in
       let low : C < 5 = omega (arith, within .0, within .1) in
       let same : decider f C ≡ decider g C = same-decides f state C low in

@@ -7,6 +7,7 @@ use native.Mathlib.Omega.{arith}
 use borrow.Author.Tests.{eq-eqb, ne-eqb, eqb-true, eqb-false}
 use lib.Dec.{T, eqb, leb, ltb}
 use Rattle.bits.proofs.Test.{by-test}
+use Rattle.file.specs.declared.chip.Chip.the-variants.{Gd5464}
 use Rattle.file.specs.File.{powerOn}
 use Rattle.places.specs.EngineCells.{otherWayHeld, widerHeld, nothingHeld, heldCell, nothingAt, cellAt, isNothing}
 use Rattle.places.specs.Lookup.{otherWay, someRow, heldIn, isWider, insideIn}
@@ -61,9 +62,9 @@ module _ (kind address : ℕ) (low : kind < 6) (other : otherWay kind < 6) (back
     (same : heldCell kind address ≡ heldCell (otherWay kind) address) where
   alike-held : heldIn places (otherWay kind) address ≡ heldIn places (otherWay (otherWay kind)) address
   alike-held =
-      told-held powerOn (otherWay kind) address other
+      told-held (powerOn Gd5464) (otherWay kind) address other
       ∙ ap (λ (cell : ℕ). not (isNothing cell)) (sym same)
-      ∙ sym (told-held powerOn kind address low)
+      ∙ sym (told-held (powerOn Gd5464) kind address low)
       ∙ ap (λ (k : ℕ). heldIn places k address) (sym back)
 
   pub both-ways : cellAt kind address ≡ cellAt (otherWay kind) address

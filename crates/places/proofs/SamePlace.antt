@@ -7,7 +7,7 @@ use lib.Dec.{T, eqb, eqb→eq}
 use lib.ListN.{getD}
 use Rattle.bits.proofs.Test.{left, right}
 use Rattle.places.specs.declared.place.Place.{Place}
-use Rattle.places.specs.declared.place.Place.the-variants.{Register, Attribute, Fixed, ToggleState, AttributeIndex, PaletteState, ReadAddress, WriteAddress, PixelData, ToggleReset, Unnamed, UnnamedAttribute}
+use Rattle.places.specs.declared.place.Place.the-variants.{Register, Attribute, Fixed, DeviceId, ToggleState, AttributeIndex, PaletteState, VPortState, ReadAddress, WriteAddress, PixelData, ToggleReset, Unnamed, UnnamedAttribute}
 
 unfoldable pub tag : Place → ℕ
 tag (Register n) = 0
@@ -22,6 +22,8 @@ tag PixelData = 8
 tag ToggleReset = 9
 tag Unnamed = 10
 tag UnnamedAttribute = 11
+tag DeviceId = 12
+tag VPortState = 13
 
 unfoldable pub number : Place → ℕ
 number (Register n) = n
@@ -36,10 +38,12 @@ number PixelData = 0
 number ToggleReset = 0
 number Unnamed = 0
 number UnnamedAttribute = 0
+number DeviceId = 0
+number VPortState = 0
 
 tagged : ℕ → ℕ → Place
 tagged t n =
-    getD (Register n ∷ Attribute n ∷ Fixed n ∷ ToggleState ∷ AttributeIndex ∷ PaletteState ∷ ReadAddress ∷ WriteAddress ∷ PixelData ∷ ToggleReset ∷ Unnamed ∷ UnnamedAttribute ∷ []) t Unnamed
+    getD (Register n ∷ Attribute n ∷ Fixed n ∷ ToggleState ∷ AttributeIndex ∷ PaletteState ∷ ReadAddress ∷ WriteAddress ∷ PixelData ∷ ToggleReset ∷ Unnamed ∷ UnnamedAttribute ∷ DeviceId ∷ VPortState ∷ []) t Unnamed
 
 tag-number : (p : Place) → tagged (tag p) (number p) ≡ p
 unfolding tag number tagged
@@ -55,6 +59,8 @@ tag-number PixelData = refl
 tag-number ToggleReset = refl
 tag-number Unnamed = refl
 tag-number UnnamedAttribute = refl
+tag-number DeviceId = refl
+tag-number VPortState = refl
 
 unfoldable pub samePlace : Place → Place → Bool
 unfolding tag number

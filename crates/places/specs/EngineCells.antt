@@ -1,5 +1,5 @@
 -- What the engine goes by, and nobody beside 01 needs: a cell is a number for what a kind and an address name, read off the list of places, or for
--- what an index names behind an indexed port. The engine's functions take whatever table of cells is lent; `cellTable` is 01's.
+-- what an index names behind an indexed port. The engine's functions take whatever table of cells is lent; `cellTable` is that of the list.
 -- Assumes nothing.
 use Prim.Native.Nat.{ℕ, zero, suc, _+_, _-_, _*_, _/_, _%_}
 use mathlib.Core.Bool.{Bool, true, false, cond, _&&_}
@@ -11,17 +11,17 @@ use Rattle.file.specs.declared.state.State.{State}
 use Rattle.file.specs.File.{register, seen}
 use Rattle.file.specs.Names.{SRX, CRX, GRX, ARX}
 use Rattle.file.specs.Registers.{registerCount}
-use Rattle.file.specs.State.{initial}
+use Rattle.file.specs.State.{unasked}
 use Rattle.places.specs.declared.place.Place.{Place}
-use Rattle.places.specs.declared.place.Place.the-variants.{Register, Attribute, Fixed, ToggleState, AttributeIndex, PaletteState, ReadAddress, WriteAddress, PixelData, ToggleReset, Unnamed, UnnamedAttribute}
+use Rattle.places.specs.declared.place.Place.the-variants.{Register, Attribute, Fixed, DeviceId, ToggleState, AttributeIndex, PaletteState, VPortState, ReadAddress, WriteAddress, PixelData, ToggleReset, Unnamed, UnnamedAttribute}
 use Rattle.places.specs.Lookup.{attributeIndex, selects, first, placeOfRow, otherWay, heldIn, insideIn}
-use Rattle.places.specs.Profile.{Reading, givesHeld, givesFixed, givesToggle, givesPaletteState, givesDacState, givesAddress, givesPixel, resetsToggle, namesNothing, Writing, storesTo, readOnly, setsAddress, writesPixel, storesNothing, profile}
-use Rattle.places.specs.Places.{Index, any, sr, cr, gr, ar, indexDue, dataDue, Row, places, sr6, pci00, pci02}
+use Rattle.places.specs.Profile.{Reading, givesHeld, givesFixed, givesDeviceId, givesToggle, givesPaletteState, givesVPortState, givesDacState, givesAddress, givesPixel, resetsToggle, namesNothing, Writing, storesTo, readOnly, setsAddress, writesPixel, storesNothing, profile}
+use Rattle.places.specs.Places.{Index, any, sr, cr, gr, ar, indexDue, dataDue, Row, places, sr6, pci00}
 
 -- ---- the numbers of cells
 
--- a register's cell is its number; the places that stand alone follow from 6Ch on, the indexed ports from 78h on, and from 7Dh on the address is not
--- held
+-- a register's cell is its number; the places that stand alone follow from 6Ch on, where the registers end, the indexed ports from 78h on, and from 7Dh
+-- on the address is not held
 abbrev pub firstAlone : ℕ
 firstAlone = 0x6C
 
@@ -44,18 +44,18 @@ alone =
     ∷ PixelData
     ∷ ToggleReset
     ∷ Fixed pci00
-    ∷ Fixed pci02
+    ∷ DeviceId
     ∷ Fixed sr6
     ∷ ToggleState
     ∷ AttributeIndex
+    ∷ VPortState
     ∷ Unnamed
     ∷ []
 
 -- what a cell names, whatever the file holds
 unfoldable pub plainPlace : ℕ → Place
 unfolding alone
-plainPlace cell =
-    cond (ltb cell registerCount) (Register cell) (cond (ltb cell firstAlone) Unnamed (getD alone (cell - firstAlone) Unnamed))
+plainPlace cell = cond (ltb cell registerCount) (Register cell) (getD alone (cell - firstAlone) Unnamed)
 
 unfoldable pub plainCell : Place → ℕ
 plainCell (Register n) = n
@@ -65,11 +65,13 @@ plainCell ReadAddress = 0x6D
 plainCell WriteAddress = 0x6E
 plainCell PixelData = 0x6F
 plainCell ToggleReset = 0x70
-plainCell (Fixed value) = cond (eqb value pci00) 0x71 (cond (eqb value pci02) 0x72 0x73)
+plainCell (Fixed value) = cond (eqb value pci00) 0x71 0x73
+plainCell DeviceId = 0x72
 plainCell ToggleState = 0x74
 plainCell AttributeIndex = 0x75
-plainCell Unnamed = 0x76
-plainCell UnnamedAttribute = 0x76
+plainCell VPortState = 0x76
+plainCell Unnamed = 0x77
+plainCell UnnamedAttribute = 0x77
 
 -- the cell of an indexed port, by its rows' index
 unfoldable pub indexedCell : Index → ℕ
@@ -130,7 +132,7 @@ indicesAt n = 0 ∷ n ∷ n ∷ n ∷ n ∷ []
 -- so many cells, one for each number from n on that the index registers may hold
 unfoldable pub cellsFrom : List Row → ℕ → ℕ → List ℕ
 cellsFrom rows n zero = []
-cellsFrom rows n (suc count) = plainCell (chosen (seen (indicesAt n) initial) rows) ∷ cellsFrom rows (n + 1) count
+cellsFrom rows n (suc count) = plainCell (chosen (seen (indicesAt n) unasked) rows) ∷ cellsFrom rows (n + 1) count
 
 -- the cells behind an indexed port, by its index
 unfoldable pub behindPort : ℕ → ℕ → List ℕ
@@ -188,7 +190,7 @@ abbrev pub mmioSpace : ℕ
 mmioSpace = configSpace + configCount
 
 abbrev pub mmioCount : ℕ
-mmioCount = 0xF0
+mmioCount = 0x110
 
 abbrev pub cellCount : ℕ
 cellCount = mmioSpace + mmioCount
@@ -269,8 +271,10 @@ cellPlace cells f cell =
 unfoldable pub readsFile : Reading → Bool
 readsFile (givesHeld number) = ltb number registerCount
 readsFile (givesFixed value) = true
+readsFile givesDeviceId = true
 readsFile givesToggle = true
 readsFile givesPaletteState = true
+readsFile givesVPortState = true
 readsFile givesDacState = true
 readsFile givesAddress = true
 readsFile givesPixel = true

@@ -1,4 +1,4 @@
--- The row of 01's places that a kind of record and an address find in a file, and what there is where they find none (02, 2/13).
+-- The row of the list of places that a kind of record and an address find in a file, and what there is where they find none (02, 2/13).
 -- Assumes nothing.
 use Prim.Native.Nat.{ℕ, _+_, _-_, _/_, _%_}
 use mathlib.Core.Bool.{Bool, true, false, cond, not, _&&_, _||_}

@@ -1,13 +1,13 @@
--- 01, 'Places', as one flat list: a row for each kind of record, address and index, with its width and what stands there.
+-- 01, 'Places', and 02, 6/13, as one flat list, on both chips: a row for each kind of record, address and index, with its width and what stands there.
 -- Assumes nothing.
 use Prim.Native.Nat.{ℕ, suc, _+_, _*_}
 use mathlib.Core.Bool.{cond}
 use mathlib.Core.List.{List, [], _∷_, _++_}
 use lib.Dec.{eqb}
 use Rattle.places.specs.declared.place.Place.{Place}
-use Rattle.places.specs.declared.place.Place.the-variants.{Register, Attribute, Fixed, ToggleState, AttributeIndex, PaletteState, ReadAddress, WriteAddress, PixelData, ToggleReset, Unnamed, UnnamedAttribute}
-use Rattle.file.specs.Registers.{Register as Stored, sequencer, crtc, graphics, attribute, pipeline}
-use Rattle.file.specs.Names.{MISC, SRX, CRX, GRX, ARX, pixelMask, PCI04, SR0, SR0E, SR1E, CR0, GR0, AR0, B0}
+use Rattle.places.specs.declared.place.Place.the-variants.{Register, Attribute, Fixed, DeviceId, ToggleState, AttributeIndex, PaletteState, VPortState, ReadAddress, WriteAddress, PixelData, ToggleReset, Unnamed, UnnamedAttribute}
+use Rattle.file.specs.Registers.{Register as Stored, sequencer, crtc, graphics, attribute, pipeline, vPort}
+use Rattle.file.specs.Names.{MISC, SRX, CRX, GRX, ARX, pixelMask, PCI04, SR0, SR0E, SR1E, CR0, GR0, AR0, B0, buffer0X, captureYStart}
 
 -- which index a row is for: whatever there is; one of the index registers' numbers, ARX counting by ARX[4:0]; and at a 3C0h write the toggle's
 -- two states, index due, or data due with ARX[4:0]
@@ -44,15 +44,12 @@ mmio address width place = row 4 address any width place ∷ row 5 address any w
 abbrev config : ℕ → Place → List Row
 config address place = row 0 address any 2 place ∷ row 1 address any 2 place ∷ []
 
--- 'SR6 reads 12', 'PCI00 reads 1013, PCI02 reads 00D4'
+-- 'SR6 reads 12', 'PCI00 reads 1013'; what PCI02 reads goes by the chip (02, 6/13)
 abbrev pub sr6 : ℕ
 sr6 = 0x12
 
 abbrev pub pci00 : ℕ
 pci00 = 0x1013
-
-abbrev pub pci02 : ℕ
-pci02 = 0x00D4
 
 -- rows for each register of a group, whose first has the given number
 unfoldable pub each : (Stored → ℕ → List Row) → ℕ → List Stored → List Row
@@ -117,17 +114,26 @@ mmioPlaces =
     ++ mmio 0xAC 1 PixelData
     ++ each (λ (r : Stored) (n : ℕ). mmio (r .index) (r .width) (pipelinePlace n)) B0 pipeline
 
+-- 02, 6/13: of 10Ch, 'bits 11 and 10 read 1' on the 5462
+unfoldable pub vPortPlace : ℕ → Place
+vPortPlace n = cond (eqb n captureYStart) VPortState (Register n)
+
+-- 02, 6/13: the registers of source document 001 that it lists, at their offsets
+unfoldable pub vPortPlaces : List Row
+unfolding each vPort vPortPlace
+vPortPlaces = each (λ (r : Stored) (n : ℕ). mmio (r .index) (r .width) (vPortPlace n)) buffer0X vPort
+
 -- 'PCI00, PCI02, PCI04 at config 00h, 02h, 04h and MMIO 300h, 302h, 304h, width 2'
 unfoldable pub pciPlaces : List Row
 pciPlaces =
     config 0x00 (Fixed pci00)
-    ++ config 0x02 (Fixed pci02)
+    ++ config 0x02 DeviceId
     ++ config 0x04 (Register PCI04)
     ++ mmio 0x300 2 (Fixed pci00)
-    ++ mmio 0x302 2 (Fixed pci02)
+    ++ mmio 0x302 2 DeviceId
     ++ mmio 0x304 2 (Register PCI04)
 
 -- every place. An access's is the first row that fits
 unfoldable pub places : List Row
-unfolding attributePorts generalPorts crtcPorts mmioPlaces pciPlaces
-places = attributePorts ++ generalPorts ++ crtcPorts 0x3B0 ++ crtcPorts 0x3D0 ++ mmioPlaces ++ pciPlaces
+unfolding attributePorts generalPorts crtcPorts mmioPlaces vPortPlaces pciPlaces
+places = attributePorts ++ generalPorts ++ crtcPorts 0x3B0 ++ crtcPorts 0x3D0 ++ mmioPlaces ++ vPortPlaces ++ pciPlaces

@@ -1,18 +1,19 @@
--- 01, 'Places' and 'The palette pointer', and 02, 1/13: what a place is, said once. What an access answers and does goes by this.
+-- 01, 'Places' and 'The palette pointer', and 02, 1/13 and 6/13: what a place is, said once. What an access answers and does goes by this.
 -- Assumes nothing.
 use Prim.Native.Nat.{ℕ}
 use mathlib.Core.Bool.{Bool, true, false}
-use Rattle.file.specs.Names.{ARX, B0}
+use Rattle.file.specs.Names.{ARX, B0, captureYStart}
 use Rattle.file.specs.Registers.{registerCount}
 use Rattle.places.specs.declared.place.Place.{Place}
-use Rattle.places.specs.declared.place.Place.the-variants.{Register, Attribute, Fixed, ToggleState, AttributeIndex, PaletteState, ReadAddress, WriteAddress, PixelData, ToggleReset, Unnamed, UnnamedAttribute}
+use Rattle.places.specs.declared.place.Place.the-variants.{Register, Attribute, Fixed, DeviceId, ToggleState, AttributeIndex, PaletteState, VPortState, ReadAddress, WriteAddress, PixelData, ToggleReset, Unnamed, UnnamedAttribute}
 
--- what a read gives: what a register holds; a number that never changes; the toggle; B0 with the last pixel data access (02, 1/13); the DAC state;
+-- what a read gives: what a register holds; a number that never changes; PCI02, by the chip (02, 6/13); the toggle; B0 with the last pixel data
+-- access (02, 1/13); 10Ch with the bits that read 1 (02, 6/13); the DAC state;
 -- the address; the pixel's component, and the pointer moves and the marks are set; 0, and the toggle is set to index; no register is named
 pub data Reading : Type 0 where
   givesHeld : ℕ → Reading
   givesFixed : ℕ → Reading
-  givesToggle givesPaletteState givesDacState givesAddress : Reading
+  givesDeviceId givesToggle givesPaletteState givesVPortState givesDacState givesAddress : Reading
   givesPixel : Reading
   resetsToggle : Reading
   namesNothing : Reading
@@ -37,9 +38,11 @@ unfoldable pub profile : Place → Profile
 profile (Register number) = profiled (givesHeld number) (storesTo number false)
 profile (Attribute number) = profiled (givesHeld number) (storesTo number true)
 profile (Fixed value) = profiled (givesFixed value) readOnly
+profile DeviceId = profiled givesDeviceId readOnly
 profile ToggleState = profiled givesToggle readOnly
 profile AttributeIndex = profiled (givesHeld ARX) readOnly
 profile PaletteState = profiled givesPaletteState (storesTo B0 false)
+profile VPortState = profiled givesVPortState (storesTo captureYStart false)
 profile ReadAddress = profiled givesDacState (setsAddress true)
 profile WriteAddress = profiled givesAddress (setsAddress false)
 profile PixelData = profiled givesPixel writesPixel
@@ -67,8 +70,10 @@ flips (storesNothing flip) = flip
 unfoldable pub readsPixel : Reading → Bool
 readsPixel (givesHeld number) = false
 readsPixel (givesFixed value) = false
+readsPixel givesDeviceId = false
 readsPixel givesToggle = false
 readsPixel givesPaletteState = false
+readsPixel givesVPortState = false
 readsPixel givesDacState = false
 readsPixel givesAddress = false
 readsPixel givesPixel = true
@@ -79,8 +84,10 @@ readsPixel namesNothing = false
 unfoldable pub resets : Reading → Bool
 resets (givesHeld number) = false
 resets (givesFixed value) = false
+resets givesDeviceId = false
 resets givesToggle = false
 resets givesPaletteState = false
+resets givesVPortState = false
 resets givesDacState = false
 resets givesAddress = false
 resets givesPixel = false

@@ -4,14 +4,18 @@ pub enum Place {
     Register(usize),
     // a register that a 3C0h write stores, and flips the toggle
     Attribute(usize),
-    // a read-only number: SR6, PCI00, PCI02
+    // a read-only number: SR6, PCI00
     Fixed(u16),
+    // PCI02: a read-only number that goes by the chip
+    DeviceId,
     // CR24
     ToggleState,
     // CR26
     AttributeIndex,
     // B0: a register that also shows the marks of the last pixel data access
     PaletteState,
+    // 10Ch: a register of which some bits read 1 on the 5462
+    VPortState,
     // 3C7h: read the DAC state, write the read address
     ReadAddress,
     // 3C8h: read the address, write the write address

@@ -1,4 +1,5 @@
--- Demand 3 of the functions, from their contracts alone: what `plan` wrote for a wanted file, `run` over these bytes from any sound file.
+-- Demand 3 of the functions, from their contracts alone: what `plan` wrote for a wanted file, `run` over these bytes from any sound file on the wanted
+-- file's chip.
 -- Assumes nothing.
 use Prim.Native.Nat.{ℕ, _*_, _≤_}
 use mathlib.Core.Path.{_≡_, refl, ap, _∙_}
@@ -38,14 +39,15 @@ module _ (w : File) (ws : T (sound w)) (red : w .state .pointer .next ≡ 0) (be
   pub plan-few : p .count ≤ 1024
   plan-few = written-few made
 
-  -- 'from every sound file, that plan is accepted at each access and ends in exactly the wanted file'
-  pub plan-runs : (f : File) → IsFile f → T (sound f) → (places replies : List ℕ) → 8 * p .count ≤ length places → (r : Ran)
+  -- 'from every sound file, that plan is accepted at each access and ends in exactly the wanted file'; 02, 6/13: 'Demand 3 then speaks of starts on the
+  -- wanted file's chip'
+  pub plan-runs : (f : File) → IsFile f → T (sound f) → f .state .chip ≡ w .state .chip → (places replies : List ℕ) → 8 * p .count ≤ length places → (r : Ran)
       → RunKept f (take (8 * p .count) after) places replies r → RunServes w (p .count) replies r
-  plan-runs f ff fs places replies enough r ran =
+  plan-runs f ff fs chips places replies enough r ran =
       let s = is-true (sound f) fs in
       record {
-        answered = ran .answered ∙ run-answers made f ff s places enough;
-        counted = ran .counted ∙ run-counts made f ff s places enough;
-        accepted = λ k low. ap (λ (l : List ℕ). getD l (8 * k) 0) (ran .replied) ∙ run-codes made f ff s places enough k low;
-        ended = ran .ended ∙ run-ends made f ff s places enough;
+        answered = ran .answered ∙ run-answers made f ff s chips places enough;
+        counted = ran .counted ∙ run-counts made f ff s chips places enough;
+        accepted = λ k low. ap (λ (l : List ℕ). getD l (8 * k) 0) (ran .replied) ∙ run-codes made f ff s chips places enough k low;
+        ended = ran .ended ∙ run-ends made f ff s chips places enough;
       }

@@ -111,9 +111,9 @@ module _ {w : File} {before after : List ℕ} {count : ℕ} (p : PlanWritten w b
   unfolding runCount itemCount
   all-read places h = omega (arith, h, ap length alone, trace-count (p .records), p .counted)
 
-  module _ (f : File) (ff : IsFile f) (s : sound f ≡ true) (places : List ℕ) (h : 8 * count ≤ length places) where
+  module _ (f : File) (ff : IsFile f) (s : sound f ≡ true) (chips : f .state .chip ≡ w .state .chip) (places : List ℕ) (h : 8 * count ≤ length places) where
     runs : RunsInto f (p .records) w
-    runs = p .plans .restores f ff (passes (sound f) s)
+    runs = p .plans .restores f ff (passes (sound f) s) chips
 
     run-is : run f (take (8 * count) after) places ≡ ran count f (take (8 * count) after) places
     unfolding run

@@ -13,7 +13,7 @@ use crate::records::put;
 use access::Record;
 
 // How many registers nothing else waits for.
-const PLAIN: usize = 92;
+const PLAIN: usize = 100;
 
 const REGISTER_ROWS: [u64; PLAIN] = [
     0x5_1_0A0_000_00_05, // pixel mask
@@ -60,6 +60,14 @@ const REGISTER_ROWS: [u64; PLAIN] = [
     0x5_2_0E4_000_00_61, // E4
     0x5_2_0E6_000_00_62, // E6
     0x5_2_0E8_000_00_63, // E8
+    0x5_2_100_000_00_64, // 100
+    0x5_2_102_000_00_65, // 102
+    0x5_2_104_000_00_66, // 104
+    0x5_2_106_000_00_67, // 106
+    0x5_2_108_000_00_68, // 108
+    0x5_2_10A_000_00_69, // 10A
+    0x5_2_10C_000_00_6A, // 10C
+    0x5_2_10E_000_00_6B, // 10E
     0x3_1_3C5_3C4_00_07, // SR0
     0x3_1_3C5_3C4_01_08, // SR1
     0x3_1_3C5_3C4_02_09, // SR2

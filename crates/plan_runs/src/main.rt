@@ -1,4 +1,5 @@
 // 01's runs of plan and restore over the compiled code, a line for each: code, count, and what became of file and buffer.
+use file::Chip;
 use file::Colour;
 use file::File;
 use file::Pointer;
@@ -67,12 +68,20 @@ fn same_pointer(a: Pointer, b: Pointer) -> bool {
         && a.green == b.green
 }
 
+// What PCI02 reads, which tells the chip.
+fn device_id(file: File) -> u16 {
+    let state = file.state;
+    let chip = state.chip;
+    chip.device_id()
+}
+
 fn same(a: File, b: File) -> bool {
     same_registers(a, b)
         && same_entries(a, b)
         && same_pointer(a.state.pointer, b.state.pointer)
         && a.state.toggle == b.state.toggle
         && a.state.marks == b.state.marks
+        && device_id(a) == device_id(b)
 }
 
 // A number and a byte that differ from place to place.
@@ -88,16 +97,16 @@ fn colour_at(i: usize) -> Colour {
     }
 }
 
-fn varied_registers() -> [u16; REGISTERS] {
+fn varied_registers(chip: Chip) -> [u16; REGISTERS] {
     let mut registers = [0u16; REGISTERS];
     for i in 0..REGISTERS {
-        registers[i] = bits::store(File::stored_bits(i), 0, word_at(i + 1));
+        registers[i] = bits::store(File::stored_bits(chip, i), 0, word_at(i + 1));
     }
     registers
 }
 
 // A file that has other values nearly everywhere: the pointer in read mode, the toggle at data, the marks at read, green.
-fn varied() -> File {
+fn varied(chip: Chip) -> File {
     let mut palette = [colour_at(0); 256];
     let mut bank = [colour_at(0); 16];
     for i in 0..256 {
@@ -107,13 +116,14 @@ fn varied() -> File {
         bank[i % 16] = colour;
     }
     File {
-        registers: varied_registers(),
+        registers: varied_registers(chip),
         palette,
         bank,
         state: State {
             pointer: Pointer::addressed(true, 0x7B),
             toggle: true,
             marks: 5,
+            chip,
         },
     }
 }
@@ -129,20 +139,21 @@ fn pointer_before(next: u8, red: u8, green: u8) -> Pointer {
 }
 
 // Every stored bit set: locked by CR11, powered down and at the bank by B0; white, the toggle at data, the pointer before blue with two held bytes, the marks at read, red.
-fn everything_set() -> File {
+fn everything_set(chip: Chip) -> File {
     let white = Colour {
         red: 255,
         green: 255,
         blue: 255,
     };
     File {
-        registers: File::STORED,
+        registers: File::stored(chip),
         palette: [white; 256],
         bank: [white; 16],
         state: State {
             pointer: pointer_before(2, 0x5A, 0xC3),
             toggle: true,
             marks: 4,
+            chip,
         },
     }
 }
@@ -213,35 +224,52 @@ fn print_reads(current: File, wanted: File) {
     print(b"\n");
 }
 
-fn plans() {
+fn plans(chip: Chip) {
     let mut short = [FILL; 8191];
-    print_plan(b"plan, 8191 bytes: ", varied(), &mut short);
+    print_plan(b"plan, 8191 bytes: ", varied(chip), &mut short);
     let mut room = [FILL; 8192];
-    print_plan(b"plan, 8192 bytes: ", varied(), &mut room);
+    print_plan(b"plan, 8192 bytes: ", varied(chip), &mut room);
     let mut buffer = [FILL; 8192];
-    let green = with_pointer(varied(), pointer_before(1, 0, 0));
+    let green = with_pointer(varied(chip), pointer_before(1, 0, 0));
     print_plan(b"plan, before green: ", green, &mut buffer);
-    let blue = with_pointer(varied(), pointer_before(2, 0, 0));
+    let blue = with_pointer(varied(chip), pointer_before(2, 0, 0));
     print_plan(b"plan, before blue: ", blue, &mut buffer);
-    let unsound = with_pointer(varied(), pointer_before(1, 0, 7));
+    let unsound = with_pointer(varied(chip), pointer_before(1, 0, 7));
     print_plan(b"plan, held green too early: ", unsound, &mut buffer);
 }
 
-fn restores() {
-    let wanted = varied();
-    let all = everything_set();
-    print_restore(b"restore from power-on: ", File::power_on(), wanted);
+fn restores(chip: Chip) {
+    let wanted = varied(chip);
+    let all = everything_set(chip);
+    print_restore(b"restore from power-on: ", File::power_on(chip), wanted);
     print_restore(b"restore from everything set: ", all, wanted);
     let closed = set_register(all, 6, 0); // PCI04
     print_restore(b"restore from a closed card: ", closed, wanted);
     print_reads(closed, wanted);
-    print_restore(b"restore to power-on: ", all, File::power_on());
+    print_restore(b"restore to power-on: ", all, File::power_on(chip));
     let unsound = with_pointer(all, pointer_before(3, 0, 0));
     print_restore(b"restore of an unsound file: ", unsound, wanted);
     print_restore(b"restore to an unsound file: ", wanted, unsound);
 }
 
+// From a file of the other chip: 15, also where the wanted file's pointer stands inside an entry.
+fn between(chip: Chip, other: Chip) {
+    print_restore(
+        b"restore from the other chip: ",
+        varied(other),
+        varied(chip),
+    );
+    let blue = with_pointer(varied(chip), pointer_before(2, 0, 0));
+    print_restore(b"restore from it, before blue: ", varied(other), blue);
+}
+
 fn main() {
-    plans();
-    restores();
+    print(b"5464\n");
+    plans(Chip::Gd5464);
+    restores(Chip::Gd5464);
+    between(Chip::Gd5464, Chip::Gd5462);
+    print(b"5462\n");
+    plans(Chip::Gd5462);
+    restores(Chip::Gd5462);
+    between(Chip::Gd5462, Chip::Gd5464);
 }

@@ -1,22 +1,23 @@
 -- A part of a trace: the run leaves its file and its replies, and the lines of the replies are those that 01 gives its records. Assumes nothing.
 use Prim.Native.Nat.{ℕ, suc, _+_, _*_, _/_, _≤_, _<_, min}
-use mathlib.Core.Bool.{cond, true, false}
+use mathlib.Core.Bool.{Bool, cond, true, false, _&&_}
 use mathlib.Core.List.{List, [], _∷_, _++_, append-nil}
 use mathlib.Core.Path.{_≡_, refl, sym, ap, ap₂, _∙_}
 use native.Mathlib.Nat.{min-eq-left, zero-add}
 use native.Mathlib.Omega.{arith}
-use borrow.Author.Tests.{le-leb, leb-true}
-use lib.Dec.{leb, leb→le, lit<}
+use borrow.Author.Tests.{eqb-true, le-leb, leb-true}
+use lib.Dec.{T, eqb, leb, leb→le, ltb, ltb→lt}
 use lib.ListN.{length, take, drop, length-append}
 use lib.Seq.{take-at}
 use Rattle.bits.proofs.Test.{by-test, left, right, passes}
 use Rattle.access.specs.declared.record.Item.{Item}
 use Rattle.access.specs.Access.{accessItem}
 use Rattle.file.specs.declared.answer.Answer.{Answer}
-use Rattle.file.specs.declared.answer.Answer.the-variants.{Done, NoRegister, Malformed, SpaceOff, NotHeld, OtherHalf, WrongWidth, ReadOnly, Locked, PaletteDown, OutOfRange, ShortBuffer, NotSound, NotBeforeRed, PlanRefused, OtherDirection, InsideWider}
+use Rattle.file.specs.declared.answer.Answer.the-variants.{Done, OutOfRange, ShortBuffer, NotSound}
 use Rattle.file.specs.declared.registers.File.{File}
-use Rattle.file.specs.Answers.{codeOf, refused, valueOf}
+use Rattle.file.specs.Answers.{codeOf, isListed, listed, oneOf, refused, valueOf}
 use Rattle.file.specs.Sound.{sound}
+use Rattle.file.proofs.Codes.{every-listed}
 use Rattle.trace.specs.Records.{items, itemCount}
 use Rattle.trace.specs.declared.running.Ran.{Ran}
 use Rattle.trace.specs.Run.{replies, run, ran, runCount}
@@ -29,25 +30,22 @@ use Rattle.text.specs.Text.{allLines, linesAnswer, numbersFit, replyLines}
 use Rattle.text.proofs.Lines.{line-most}
 use Rattle.replaying.proofs.Pieces.{lines-of-run}
 
+unfoldable allBytes : List ℕ → Bool
+allBytes [] = true
+allBytes (code ∷ codes) = ltb code 256 && allBytes codes
+
+-- a code of a list of bytes is a byte
+byte-of : (codes : List ℕ) (a : Answer) → T (allBytes codes) → T (oneOf codes a) → codeOf a < 256
+unfolding allBytes oneOf
+byte-of [] a small one = absurd one
+byte-of (code ∷ codes) a small one =
+    by-test (eqb (codeOf a) code)
+    (λ e. omega (arith, eqb-true (codeOf a) code e, ltb→lt code 256 (left (ltb code 256) (allBytes codes) small)))
+    (λ e. byte-of codes a (right (ltb code 256) (allBytes codes) small) (rw e at one))
+
 code-small : (a : Answer) → codeOf a < 256
-unfolding codeOf
-code-small (Done value) = lit< tt
-code-small NoRegister = lit< tt
-code-small Malformed = lit< tt
-code-small SpaceOff = lit< tt
-code-small NotHeld = lit< tt
-code-small OtherHalf = lit< tt
-code-small WrongWidth = lit< tt
-code-small ReadOnly = lit< tt
-code-small Locked = lit< tt
-code-small PaletteDown = lit< tt
-code-small OutOfRange = lit< tt
-code-small ShortBuffer = lit< tt
-code-small NotSound = lit< tt
-code-small NotBeforeRed = lit< tt
-code-small PlanRefused = lit< tt
-code-small OtherDirection = lit< tt
-code-small InsideWider = lit< tt
+unfolding allBytes listed isListed
+code-small a = byte-of listed a tt (every-listed a)
 
 -- a record's line has at most 30 bytes
 records-most : (number : ℕ) (f : File) (is : List Item) → number + length is ≤ 18446744073709551616

@@ -12,6 +12,7 @@ use Rattle.trace.specs.Records.{itemCount, itemOf, items, replyBytes, two}
 use Rattle.trace.specs.Run.{fileAfter, replies}
 use Rattle.trace.proofs.RunInPieces.{file-in-parts}
 use Rattle.trace.proofs.RunMore.{items-length}
+use Rattle.file.specs.declared.chip.Chip.{Chip}
 use Rattle.file.specs.declared.registers.File.{File}
 use Rattle.file.specs.Answers.{codeOf, valueOf}
 use Rattle.file.specs.File.{powerOn}
@@ -73,10 +74,10 @@ module _ (n : ℕ) (a b : List ℕ) (whole : length a ≡ 8 * n) where
       rw (trace-cut, lines-in-parts number f (items n a) (items (itemCount b) b), file-in-parts, items-length, append-assoc)
 
 -- a trace in two pieces from power-on
-pub replayed-cut : (n : ℕ) (a b : List ℕ) → length a ≡ 8 * n
-    → replayed (a ++ b) ≡ recordLines 0 powerOn (items n a) ++ replayedFrom n (fileAfter powerOn (items n a)) b
+pub replayed-cut : (chip : Chip) (n : ℕ) (a b : List ℕ) → length a ≡ 8 * n
+    → replayed chip (a ++ b) ≡ recordLines 0 (powerOn chip) (items n a) ++ replayedFrom n (fileAfter (powerOn chip) (items n a)) b
 unfolding replayed
-replayed-cut n a b whole = replayed-in-pieces n a b whole 0 powerOn ∙ rw zero-add
+replayed-cut chip n a b whole = replayed-in-pieces n a b whole 0 (powerOn chip) ∙ rw zero-add
 
 -- a part of whole records, and what follows it: the count, the file and the lines
 module _ (part rest : List ℕ) (whole : length part % 8 ≡ 0) where

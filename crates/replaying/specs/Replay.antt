@@ -8,6 +8,7 @@ use lib.Dec.{leb}
 use lib.ListN.{length}
 use Rattle.file.specs.declared.answer.Answer.{Answer}
 use Rattle.file.specs.declared.answer.Answer.the-variants.{Done, NotSound, OutOfRange, ShortBuffer}
+use Rattle.file.specs.declared.chip.Chip.{Chip}
 use Rattle.file.specs.declared.registers.File.{File}
 use Rattle.file.specs.Answers.{codeOf, refused, valueOf}
 use Rattle.file.specs.File.{powerOn}
@@ -35,9 +36,9 @@ unfoldable pub replayedFrom : ℕ → File → List ℕ → List ℕ
 replayedFrom number f trace =
     recordLines number f (items (itemCount trace) trace) ++ timingLine (timingIn (fileAfter f (items (itemCount trace) trace)))
 
--- 'It reads a trace on standard input from power-on.'
-unfoldable pub replayed : List ℕ → List ℕ
-replayed trace = replayedFrom 0 powerOn trace
+-- 'It reads a trace on standard input from power-on.' 02, 6/13: of the chip that is chosen
+unfoldable pub replayed : Chip → List ℕ → List ℕ
+replayed chip trace = replayedFrom 0 (powerOn chip) trace
 
 -- the file after a part of a trace
 unfoldable pub afterPart : File → List ℕ → File

@@ -8,6 +8,7 @@ ghost use Rattle.trace.specs.Records.{itemCount};
 ghost use Rattle.text.specs.Lent.{Lined, placedBy};
 ghost use Rattle.replaying.specs.Replay.{PartReplayed, partReplies, recordsFit, replayAnswer, replayed};
 use file::Answer;
+use file::Chip;
 use file::File;
 use file::is_sound;
 use text::Placed;
@@ -100,10 +101,10 @@ pub fn replay_part(
     }
 }
 
-// What the replay program prints of a trace, from the start of a buffer on; code 11 where a buffer is short.
-pub fn replay(trace: &[u8], replies: &mut [u8], lines: &mut [u8]) -> Placed
-    ensures { λ r. ⌜ Lined (replayAnswer (now (trace .entry)) (now (replies .entry)) (now (lines .entry))) 0 (replayed (now (trace .entry))) (now (lines .entry)) (now (lines .exit)) r ⌝ }
-    ensures { λ r. ⌜ now (replies .exit) ≡ placedBy (r .answer) (now (replies .entry)) 0 (partReplies powerOn (now (trace .entry))) ⌝ }
+// What the replay program prints of a trace on a chip, from the start of a buffer on; code 11 where a buffer is short.
+pub fn replay(chip: Chip, trace: &[u8], replies: &mut [u8], lines: &mut [u8]) -> Placed
+    ensures { λ r. ⌜ Lined (replayAnswer (now (trace .entry)) (now (replies .entry)) (now (lines .entry))) 0 (replayed chip (now (trace .entry))) (now (lines .entry)) (now (lines .exit)) r ⌝ }
+    ensures { λ r. ⌜ now (replies .exit) ≡ placedBy (r .answer) (now (replies .entry)) 0 (partReplies (powerOn chip) (now (trace .entry))) ⌝ }
 {
     let count = item_count(trace);
     if !records_fit(count, TIMING_MOST, replies.len(), lines.len()) {
@@ -112,7 +113,7 @@ pub fn replay(trace: &[u8], replies: &mut [u8], lines: &mut [u8]) -> Placed
             end: 0,
         };
     }
-    let part = replay_part(File::power_on(), 0, trace, replies, lines);
+    let part = replay_part(File::power_on(chip), 0, trace, replies, lines);
     let end = part.end;
     let file = part.file;
     timing_line(lines, end, read_timing(file).timing)

@@ -1,23 +1,24 @@
 -- What a restore promises, from what the code did. Assumes nothing.
 use Prim.Native.Nat.{ℕ, _≤_, _<_}
 use mathlib.Core.Path.{_≡_, refl, sym, ap, _∙_, subst}
-use mathlib.Core.Bool.{true, false, true≢false}
+use mathlib.Core.Bool.{true, false, true≢false, cond}
 use mathlib.Core.List.{List}
 use borrow.Author.Tests.{le-leb, lt-leb}
 use lib.ListN.{length}
 use Rattle.bits.proofs.Test.{by-test, passes}
 use Rattle.file.specs.declared.answer.Answer.{Answer}
-use Rattle.file.specs.declared.answer.Answer.the-variants.{NotSound}
+use Rattle.file.specs.declared.answer.Answer.the-variants.{NotSound, OtherChip}
 use Rattle.file.specs.declared.registers.File.{File}
 use Rattle.file.specs.Answers.{codeOf, refused}
+use Rattle.file.specs.Chips.{sameChip}
 use Rattle.file.specs.Sound.{sound}
 use Rattle.trace.specs.Records.{items}
 use Rattle.trace.specs.Run.{fileAfter}
 use Rattle.plan.specs.declared.planning.Planned.{Planned}
 use Rattle.plan.specs.Promises.{PlanKept}
-use Rattle.roads.specs.Refusals.{restoreAnswer}
+use Rattle.roads.specs.Refusals.{planAnswer, restoreAnswer}
 use Rattle.roads.specs.Restores.{IsFile}
-use Rattle.roads.proofs.PlanServes.{planned-runs, never-fourteen}
+use Rattle.roads.proofs.PlanServes.{same-chip, planned-runs, Between, fifteen-between, fifteen-only-between, never-fourteen}
 use Rattle.restoring.specs.declared.Restored.{Restored}
 use Rattle.restoring.specs.Promises.{RestoreKept}
 
@@ -41,10 +42,17 @@ module _ (f : File) {w : File} {before : List ℕ} where
   unfolding restoreAnswer refused codeOf
   restore-unsound s = restore-refused NotSound (rw s) refl refl
 
-  module _ (s : sound f ≡ true) {after : List ℕ} (p : Planned) (done : PlanKept w before after p) where
+  -- 02, 6/13: between different chips
+  pub restore-elsewhere : sound f ≡ true → sameChip (f .state .chip) (w .state .chip) ≡ false → (r : Restored)
+      → r ≡ record { answer = cond (sound w) OtherChip NotSound; count = 0; file = f } → RestoreKept f w before before r
+  unfolding restoreAnswer refused codeOf
+  restore-elsewhere s c =
+      restore-refused (cond (sound w) OtherChip NotSound) (rw (s, c)) (by-test (sound w) (λ e. rw e refl) (λ e. rw e refl)) refl
+
+  module _ (s : sound f ≡ true) (c : sameChip (f .state .chip) (w .state .chip) ≡ true) {after : List ℕ} (p : Planned) (done : PlanKept w before after p) where
     as-planned : p .answer ≡ restoreAnswer f w (length before)
-    unfolding restoreAnswer
-    as-planned = done .answered ∙ rw s
+    unfolding restoreAnswer planAnswer
+    as-planned = done .answered ∙ rw (s, c) (by-test (sound w) (λ e. rw e refl) (λ e. rw e refl))
 
     pub restore-unplanned : {code : ℕ} → code ≡ codeOf (p .answer) → 2 ≤ code → (r : Restored) → r ≡ record { answer = p .answer; count = 0; file = f }
         → RestoreKept f w before after r
@@ -61,7 +69,7 @@ module _ (f : File) {w : File} {before : List ℕ} where
         record {
           answered = as-planned;
           made = done .made;
-          ran = e ∙ sym (planned-runs w before after (p .count) (done .made yes) f ff (passes (sound f) s) .1);
+          ran = e ∙ sym (planned-runs w before after (p .count) (done .made yes) f ff (passes (sound f) s) (same-chip _ _ c) .1);
           restored = λ _. e;
           none = λ n. absurd (true≢false (sym n ∙ yes));
           back = λ n. absurd (true≢false (sym n ∙ yes));
@@ -69,6 +77,15 @@ module _ (f : File) {w : File} {before : List ℕ} where
         }
 
 -- ---- what the promise settles
+
+-- 02, 6/13: between two sound files 15 is answered where their chips differ
+pub kept-fifteen : (f w : File) (before after : List ℕ) (r : Restored) → RestoreKept f w before after r → sound f ≡ true → sound w ≡ true
+    → sameChip (f .state .chip) (w .state .chip) ≡ false → codeOf (r .answer) ≡ 15
+kept-fifteen f w before after r p s t c = ap codeOf (p .answered) ∙ fifteen-between f w (length before) s t c
+
+-- and nowhere else
+pub kept-only-fifteen : (f w : File) (before after : List ℕ) (r : Restored) → RestoreKept f w before after r → codeOf (r .answer) ≡ 15 → Between f w
+kept-only-fifteen f w before after r p e = fifteen-only-between f w (length before) (sym (ap codeOf (p .answered)) ∙ e)
 
 -- 14 is never answered
 pub kept-never-fourteen : (f w : File) (before after : List ℕ) (r : Restored) → RestoreKept f w before after r

@@ -1,10 +1,14 @@
 // A restore: the plan of a wanted file, written and run.
 ghost use mathlib.Core.Path.{_≡_};
-ghost use mathlib.Core.Bool.{true, false};
+ghost use mathlib.Core.Bool.{true, false, cond};
 ghost use Prim.Native.Nat.{ℕ, _*_, _≤_, _<_};
 ghost use lib.ListN.{length, getD};
+ghost use Rattle.file.specs.declared.answer.Answer.the-variants.{OtherChip as OtherChipAnswer, NotSound as NotSoundAnswer};
+ghost use Rattle.file.specs.Chips.{sameChip};
+ghost use Rattle.file.specs.Sound.{sound};
 ghost use Rattle.restoring.specs.Promises.{RestoreKept};
 use file::Answer;
+use file::Chip;
 use file::File;
 use file::is_sound;
 use plan::plan;
@@ -33,13 +37,43 @@ fn all_done(replies: &[u8], count: usize) -> bool
     true
 }
 
-// Writes a plan of the wanted file and runs it from the current one: 12 by the current file, then 12, 13, 11 by the
+// The two are one chip.
+fn is_same(one: Chip, other: Chip) -> bool
+    ensures { λ r. ⌜ r ≡ sameChip one other ⌝ }
+{
+    match one {
+        Chip::Gd5462 => match other {
+            Chip::Gd5462 => true,
+            Chip::Gd5464 => false,
+        },
+        Chip::Gd5464 => match other {
+            Chip::Gd5462 => false,
+            Chip::Gd5464 => true,
+        },
+    }
+}
+
+// The two files are of one chip.
+fn on_one_chip(current: File, wanted: File) -> bool
+    ensures { λ r. ⌜ r ≡ sameChip (current .state .chip) (wanted .state .chip) ⌝ }
+{
+    let from = current.state;
+    let one = from.chip;
+    let to = wanted.state;
+    let other = to.chip;
+    is_same(one, other)
+}
+
+// Writes a plan of the wanted file and runs it from the current one: 12 by the current file and by the wanted one, 15 where their chips differ, then 13, 11 by the
 // plan, then 14, which no plan comes to. A refusal gives the current file back.
 pub fn restore(current: File, wanted: File, buffer: &mut [u8]) -> Restored
     ensures { λ r. ⌜ RestoreKept current wanted (now (buffer .entry)) (now (buffer .exit)) r ⌝ }
 {
     if !is_sound(current) {
         return not_restored(Answer::NotSound, current);
+    }
+    if !on_one_chip(current, wanted) {
+        return other_chip(current, wanted);
     }
     let planned = plan(wanted, buffer);
     let answer = planned.answer;
@@ -58,6 +92,17 @@ pub fn restore(current: File, wanted: File, buffer: &mut [u8]) -> Restored
         answer,
         count,
         file,
+    }
+}
+
+// Between different chips: an unsound wanted file is told first.
+fn other_chip(current: File, wanted: File) -> Restored
+    ensures { λ r. ⌜ r ≡ record { answer = cond (sound wanted) OtherChipAnswer NotSoundAnswer; count = 0; file = current } ⌝ }
+{
+    if is_sound(wanted) {
+        not_restored(Answer::OtherChip, current)
+    } else {
+        not_restored(Answer::NotSound, current)
     }
 }
 

@@ -1,7 +1,7 @@
 -- The stage of colours, over any list of stretches of entries: every record is accepted, what the stretches name holds the wanted colours, and all else but
 -- the pointer and the marks is as before. Assumes nothing.
 use Prim.Native.Nat.{ℕ, zero, suc, _+_, _-_, _≤_, _<_}
-use mathlib.Core.Path.{_≡_, refl, sym, ap, _∙_, subst}
+use mathlib.Core.Path.{_≡_, refl, sym, ap, _∙_, subst, subst₂}
 use mathlib.Core.Bool.{Bool, true, false, not, _&&_, _||_}
 use mathlib.Core.List.{List, [], _∷_, _++_, append-nil}
 use native.Mathlib.Omega.{arith}
@@ -9,6 +9,7 @@ use lib.Dec.{T, leb, ltb, leb→le, ltb→lt, le→leb, lt→ltb, T-not}
 use lib.ListN.{getD, set, length, length-set, drop-of-length-le}
 use lib.Seq.{sets, sets-eq, length-sets, getD-set-same, getD-set-other}
 use Rattle.bits.proofs.Test.{left, right, both, by-test, passes}
+use Rattle.file.specs.declared.chip.Chip.{Chip}
 use Rattle.file.specs.declared.palette.Colour.{Colour}
 use Rattle.file.specs.declared.palette.Pointer.{Pointer}
 use Rattle.file.specs.declared.registers.File.{File}
@@ -21,7 +22,7 @@ use Rattle.file.proofs.Soundness.{registers-sound, sound-by, state-sound, marks
 use Rattle.roads.specs.Plan.{entries}
 use Rattle.roads.specs.Restores.{RunsInto}
 use Rattle.roads.specs.ColourStage.{PaletteReady, entryCount, entriesIn, withEntries, painted, Stretch, inRange, withStep, marksAfter, afterStretch, stretchRecords, everyStretch, afterStretches, entriesAfter, inStretch, Agrees, AllAgree, colourEndsWanted}
-use Rattle.roads.proofs.StretchRuns.{up-as, painted-registers, stretch-runs}
+use Rattle.roads.proofs.StretchRuns.{up-as, painted-chip, painted-registers, stretch-runs}
 use Rattle.roads.proofs.RunsCompose.{runs-none, runs-then}
 
 -- the marks after some entries are sound
@@ -34,7 +35,8 @@ after-sound : (bank : Bool) (stretch : Stretch) (f : File) → T (sound f) → T
 unfolding afterStretch withStep
 after-sound bank stretch f s =
     sound-by (afterStretch bank stretch f)
-    (subst (λ (rs : List ℕ). T (allWithin storedTable rs)) (sym (painted-registers bank (stretch .first) (stretch .colours) f)) (registers-sound f s))
+    (subst₂ (λ (c : Chip) (rs : List ℕ). T (allWithin (storedTable c) rs)) (sym (painted-chip bank (stretch .first) (stretch .colours) f))
+    (sym (painted-registers bank (stretch .first) (stretch .colours) f)) (registers-sound f s))
     (stepping-sound (addressed false _) (marksAfter (f .state .marks) (stretch .colours)) (painted bank (stretch .first) (stretch .colours) f .state)
     (both (marksSound (marksAfter (f .state .marks) (stretch .colours))) (pointerSound (addressed false _))
     (marks-after-sound (f .state .marks) (stretch .colours) (marks-sound f s)) (addressed-sound false _)))
@@ -42,6 +44,10 @@ after-sound bank stretch f s =
 after-registers : (bank : Bool) (stretch : Stretch) (f : File) → afterStretch bank stretch f .registers ≡ f .registers
 unfolding afterStretch withStep
 after-registers bank stretch f = painted-registers bank (stretch .first) (stretch .colours) f
+
+after-chip : (bank : Bool) (stretch : Stretch) (f : File) → afterStretch bank stretch f .state .chip ≡ f .state .chip
+unfolding afterStretch withStep
+after-chip bank stretch f = painted-chip bank (stretch .first) (stretch .colours) f
 
 -- every record of any list of stretches is accepted
 pub stretches-run : (stretches : List Stretch) (f : File) (bank : Bool) → T (sound f) → PaletteReady f bank → T (everyStretch (inRange bank) stretches)
@@ -52,7 +58,7 @@ stretches-run (stretch ∷ stretches) f bank s up t =
     runs-then (entries (stretch .first) (stretch .colours)) (stretchRecords stretches) f (afterStretch bank stretch f) (afterStretches bank stretches (afterStretch bank stretch f))
     (stretch-runs stretch f bank s up (left (inRange bank stretch) (everyStretch (inRange bank) stretches) t))
     (stretches-run stretches (afterStretch bank stretch f) bank (after-sound bank stretch f s)
-    (up-as f (afterStretch bank stretch f) bank (after-registers bank stretch f) (state-sound _ (after-sound bank stretch f s)) up) (right (inRange bank stretch) (everyStretch (inRange bank) stretches) t))
+    (up-as f (afterStretch bank stretch f) bank (after-registers bank stretch f) (after-chip bank stretch f) (state-sound _ (after-sound bank stretch f s)) up) (right (inRange bank stretch) (everyStretch (inRange bank) stretches) t))
 
 -- ---- what they leave among the entries
 

@@ -1,7 +1,7 @@
 -- The plan's other stages, each from any file that is ready: colours, marks, registers, indices, closing.
 -- Assumes nothing.
 use Prim.Native.Nat.{ℕ, _+_, _%_, _≤_, _<_}
-use mathlib.Core.Path.{_≡_, refl, sym, ap, ap₂, _∙_, subst}
+use mathlib.Core.Path.{_≡_, refl, sym, ap, ap₂, _∙_, subst, subst₂}
 use mathlib.Core.Bool.{Bool, true, false, cond, not, _&&_}
 use mathlib.Core.List.{List, [], _∷_}
 use native.Mathlib.Omega.{arith}
@@ -10,6 +10,7 @@ use lib.ListN.{getD, length}
 use Rattle.bits.specs.Store.{bit, store, within}
 use Rattle.bits.proofs.Bit.{bit-lt}
 use Rattle.bits.proofs.Test.{left, right, both}
+use Rattle.file.specs.declared.chip.Chip.{Chip}
 use Rattle.file.specs.declared.palette.Colour.{Colour}
 use Rattle.file.specs.declared.palette.Pointer.{Pointer}
 use Rattle.file.specs.declared.registers.File.{File}
@@ -26,7 +27,7 @@ use Rattle.roads.specs.Roads.{toPCI04, toCR11, toB0, toSRX, toGRX, toARX
 use Rattle.roads.specs.Plan.{toggleRead, pointerWrite, openPalette, openBank, entries, colours, marking, indices, closing}
 use Rattle.roads.specs.RoadRecords.{write, selecting, along}
 use Rattle.roads.specs.Restores.{RunsInto, bytes}
-use Rattle.roads.specs.RegisterStage.{withRegister, withFlip, indexFlips, everyRoad, SpacesOn, Ready, loose, selectable, brought, passable, Brings}
+use Rattle.roads.specs.RegisterStage.{withRegister, withFlip, indexFlips, everyRoad, SpacesOn, Ready, loose, selectable, brought, passable, onBoth, stores, Brings}
 use Rattle.roads.specs.ColourStage.{PaletteReady, entryCount, entriesIn, withEntries, painted, inRange, withStep, writeBlue, marksAfter, afterStretch}
 use Rattle.roads.specs.StageEnds.{coloured, markedPointer, marked, indexed, closed}
 use Rattle.roads.proofs.RegisterStageRuns.{AllLead, roads-bring, arx-leads}
@@ -42,13 +43,13 @@ use Rattle.roads.proofs.ToggleReads.{toggle-runs}
 
 -- ---- colours
 
--- a ready file stays ready while its registers stay
-ready-as : (w : List ℕ) (f g : File) → g .registers ≡ f .registers → T (stateSound (g .state)) → Ready w f → Ready w g
+-- a ready file stays ready while its registers and its chip stay
+ready-as : (w : List ℕ) (f g : File) → g .registers ≡ f .registers → g .state .chip ≡ f .state .chip → T (stateSound (g .state)) → Ready w f → Ready w g
 unfolding SpacesOn register
-ready-as w f g e p ready =
+ready-as w f g e chip p ready =
     record {
       isSound =
-          sound-by g (subst (λ (rs : List ℕ). T (allWithin storedTable rs)) (sym e) (registers-sound f (ready .isSound))) p;
+          sound-by g (subst₂ (λ (c : Chip) (rs : List ℕ). T (allWithin (storedTable c) rs)) (sym chip) (sym e) (registers-sound f (ready .isSound))) p;
       on = ap (λ (rs : List ℕ). getD rs PCI04 0) e ∙ ready .on;
       unlocked = ap (λ (rs : List ℕ). getD rs CR11 0) e ∙ ready .unlocked;
       misc = ap (λ (rs : List ℕ). getD rs MISC 0) e ∙ ready .misc;
@@ -99,11 +100,11 @@ module _ (w : List ℕ) (palette bank : List Colour) (f : File) (all : length pa
 
   half-ready : Ready w half
   unfolding withStep withPalette addressed marksSound pointerSound
-  half-ready = ready-as w f half refl (stepping-sound (addressed false 0) writeBlue (f .state) tt) ready
+  half-ready = ready-as w f half refl refl (stepping-sound (addressed false 0) writeBlue (f .state) tt) ready
 
   switched-ready : Ready w (withRegister B0 openBank half)
-  unfolding loose isOneOf
-  switched-ready = ready-with w half B0 openBank half-ready tt (open-fits .bank)
+  unfolding loose isOneOf withStep withPalette
+  switched-ready = ready-with w half B0 openBank half-ready tt (open-fits (f .state .chip) .bank)
 
   -- the stage
   pub colours-run : RunsInto f (colours palette bank) (coloured palette bank f)
@@ -112,14 +113,14 @@ module _ (w : List ℕ) (palette bank : List Colour) (f : File) (all : length pa
       runs-then (entries 0 palette) (write toB0 openBank ∷ entries 0 bank) f half (coloured palette bank f)
       (all-run w f false palette ready b0 many all allBytes)
       (runs-then (write toB0 openBank ∷ []) (entries 0 bank) half (withRegister B0 openBank half) (coloured palette bank f)
-      (ready-runs w half toB0 openBank half-ready (single-roads-lead (selectorsOf half) .b0) (open-fits .bank))
+      (ready-runs w half toB0 openBank half-ready (single-roads-lead (selectorsOf half) .b0) (open-fits (f .state .chip) .bank))
       (all-run w (withRegister B0 openBank half) true bank switched-ready (at-any half B0 openBank B0 (half-ready .isSound) (lit< tt)) few
       sixteen bankBytes))
 
   pub coloured-ready : Ready w (coloured palette bank f)
   unfolding coloured withRegister withRegisters withStep withPalette addressed marksSound pointerSound withBank
   coloured-ready =
-      ready-as w (withRegister B0 openBank half) (coloured palette bank f) refl (stepping-sound (addressed false 16) writeBlue (f .state) tt) switched-ready
+      ready-as w (withRegister B0 openBank half) (coloured palette bank f) refl refl (stepping-sound (addressed false 16) writeBlue (f .state) tt) switched-ready
 
   coloured-bank : register (coloured palette bank f) B0 ≡ openBank
   unfolding coloured withRegister withRegisters withStep withPalette withBank register
@@ -133,7 +134,7 @@ module _ (w : List ℕ) (palette bank : List Colour) (f : File) (all : length pa
   pub marked-ready : (m : ℕ) → T (marksSound m) → Ready w (marked m (coloured palette bank f))
   unfolding marked withStep
   marked-ready m t =
-      ready-as w (coloured palette bank f) (marked m (coloured palette bank f)) refl
+      ready-as w (coloured palette bank f) (marked m (coloured palette bank f)) refl refl
       (stepping-sound (markedPointer m) m (coloured palette bank f .state) (both (marksSound m) (pointerSound (markedPointer m)) t (marked-pointer-sound m)))
       coloured-ready
 
@@ -141,12 +142,12 @@ module _ (w : List ℕ) (palette bank : List Colour) (f : File) (all : length pa
 
 -- a ready file may go every road, by one computed test
 registers-open : T (everyRoad passable registerRoads)
-unfolding everyRoad passable selectable loose isOneOf registerRoads storedBits storedTable within store
+unfolding everyRoad passable selectable stores onBoth loose isOneOf registerRoads storedBits storedTable within store
 registers-open = tt
 
 -- the stage
-pub registers-bring : (w : List ℕ) (f : File) → T (allWithin storedTable w) → Ready w f → f .state .toggle ≡ false → Brings w f registerRoads
-registers-bring w f s ready t = roads-bring w s registerRoads f ready t registers-open (λ v e. registers-lead v)
+pub registers-bring : (w : List ℕ) (f : File) → T (allWithin (storedTable (f .state .chip)) w) → Ready w f → f .state .toggle ≡ false → Brings w f registerRoads
+registers-bring w f s ready t = roads-bring w registerRoads f s ready t registers-open (λ v e. registers-lead v)
 
 -- ---- indices
 
@@ -161,17 +162,17 @@ indices-lead w v e =
     (both (leads v toGRX) (leads v (toCRX (getD w MISC 0)) && true) (single-roads-lead v .grx)
     (both (leads v (toCRX (getD w MISC 0))) true (crx-leads v (bit 0 (getD w MISC 0)) (bit-lt 0 (getD w MISC 0)) (ap (bit 0) e)) tt))
 
-module _ (w : List ℕ) (toggle : Bool) (f : File) (s : T (allWithin storedTable w)) (ready : Ready w f) (t : f .state .toggle ≡ false) where
+module _ (w : List ℕ) (toggle : Bool) (f : File) (s : T (allWithin (storedTable (f .state .chip)) w)) (ready : Ready w f) (t : f .state .toggle ≡ false) where
   -- SRX, GRX and CRX
   three : Brings w f (indexRoads (getD w MISC 0))
-  three = roads-bring w s (indexRoads (getD w MISC 0)) f ready t (indices-open (getD w MISC 0)) (indices-lead w)
+  three = roads-bring w (indexRoads (getD w MISC 0)) f s ready t (indices-open (getD w MISC 0)) (indices-lead w)
 
   -- ARX too: data is due then
   four-ready : Ready w (withFlip true (withRegister ARX (getD w ARX 0) (brought w (indexRoads (getD w MISC 0)) f)))
-  unfolding loose isOneOf
+  unfolding loose isOneOf brought withRegisters
   four-ready =
       ready-flipped w (withRegister ARX (getD w ARX 0) (brought w (indexRoads (getD w MISC 0)) f)) true
-      (ready-with w (brought w (indexRoads (getD w MISC 0)) f) ARX (getD w ARX 0) (three .ready) tt (wanted-within w ARX s))
+      (ready-with w (brought w (indexRoads (getD w MISC 0)) f) ARX (getD w ARX 0) (three .ready) tt (wanted-within (f .state .chip) w ARX s))
 
   -- the stage
   pub indices-run : RunsInto f (indices w toggle) (indexed w toggle f)
@@ -181,13 +182,13 @@ module _ (w : List ℕ) (toggle : Bool) (f : File) (s : T (allWithin storedTable
       f (brought w (indexRoads (getD w MISC 0)) f) (indexed w toggle f) (three .runs)
       (runs-then (write toARX (getD w ARX 0) ∷ []) (toggleRead (getD w MISC 0) toggle ∷ [])
       (brought w (indexRoads (getD w MISC 0)) f) (withFlip true (withRegister ARX (getD w ARX 0) (brought w (indexRoads (getD w MISC 0)) f))) (indexed w toggle f)
-      (ready-runs w (brought w (indexRoads (getD w MISC 0)) f) toARX (getD w ARX 0) (three .ready) (arx-leads (brought w (indexRoads (getD w MISC 0)) f) t) (wanted-within w ARX s))
+      (ready-runs w (brought w (indexRoads (getD w MISC 0)) f) toARX (getD w ARX 0) (three .ready) (arx-leads (brought w (indexRoads (getD w MISC 0)) f) t) (wanted-within (f .state .chip) w ARX s))
       (toggle-runs w (withFlip true (withRegister ARX (getD w ARX 0) (brought w (indexRoads (getD w MISC 0)) f))) toggle four-ready (ap not t)))
 
   pub indexed-ready : Ready w (indexed w toggle f)
   unfolding indexed withFlip withToggle
   indexed-ready =
-      ready-as w (withFlip true (withRegister ARX (getD w ARX 0) (brought w (indexRoads (getD w MISC 0)) f))) (indexed w toggle f) refl
+      ready-as w (withFlip true (withRegister ARX (getD w ARX 0) (brought w (indexRoads (getD w MISC 0)) f))) (indexed w toggle f) refl refl
       (toggling-sound toggle _ (state-sound _ (four-ready .isSound))) four-ready
 
 -- ---- closing
@@ -201,22 +202,22 @@ before-red p s e =
     let green = eqb→eq (p .green) 0 (left (eqb (p .green) 0) (eqb (p .red) 0) nothing) in
     λ i. record { address = p .address; reading = p .reading; next = sym e i; red = sym red i; green = sym green i }
 
-module _ (w : List ℕ) (p : Pointer) (f : File) (s : T (allWithin storedTable w)) (ps : T (pointerSound p)) (red : p .next ≡ 0) (small : p .address < 256)
+module _ (w : List ℕ) (p : Pointer) (f : File) (s : T (allWithin (storedTable (f .state .chip)) w)) (ps : T (pointerSound p)) (red : p .next ≡ 0) (small : p .address < 256)
     (ready : Ready w f) where
   abbrev pointed : File
   pointed = withPointer p f
 
   pointed-ready : Ready w pointed
   unfolding withPointer
-  pointed-ready = ready-as w f pointed refl (pointing-sound p (f .state) ps (state-sound f (ready .isSound))) ready
+  pointed-ready = ready-as w f pointed refl refl (pointing-sound p (f .state) ps (state-sound f (ready .isSound))) ready
 
   b0-ready : Ready w (withRegister B0 (getD w B0 0) pointed)
-  unfolding loose isOneOf
-  b0-ready = ready-with w pointed B0 (getD w B0 0) pointed-ready tt (wanted-within w B0 s)
+  unfolding loose isOneOf withPointer
+  b0-ready = ready-with w pointed B0 (getD w B0 0) pointed-ready tt (wanted-within (f .state .chip) w B0 s)
 
   -- the stage
   pub closing-runs : RunsInto f (closing w p) (closed w p f)
-  unfolding closing closed closingRoads along selecting indexFlips withFlip
+  unfolding closing closed closingRoads along selecting indexFlips withFlip withPointer withRegister withRegisters
   closing-runs =
       runs-then (pointerWrite p ∷ []) (along w closingRoads)
       f pointed (closed w p f)
@@ -224,11 +225,11 @@ module _ (w : List ℕ) (p : Pointer) (f : File) (s : T (allWithin storedTable w
       (address-runs f (p .reading) (p .address) (ready .isSound) (ready .on) small))
       (runs-then (write toB0 (getD w B0 0) ∷ []) (write toCR11 (getD w CR11 0) ∷ write toPCI04 (getD w PCI04 0) ∷ [])
       pointed (withRegister B0 (getD w B0 0) pointed) (closed w p f)
-      (ready-runs w pointed toB0 (getD w B0 0) pointed-ready (single-roads-lead (selectorsOf pointed) .b0) (wanted-within w B0 s))
+      (ready-runs w pointed toB0 (getD w B0 0) pointed-ready (single-roads-lead (selectorsOf pointed) .b0) (wanted-within (f .state .chip) w B0 s))
       (runs-then (write toCR11 (getD w CR11 0) ∷ []) (write toPCI04 (getD w PCI04 0) ∷ [])
       (withRegister B0 (getD w B0 0) pointed) (withRegister CR11 (getD w CR11 0) (withRegister B0 (getD w B0 0) pointed)) (closed w p f)
       (ready-runs w (withRegister B0 (getD w B0 0) pointed) toCR11 (getD w CR11 0) b0-ready
-      (single-roads-lead (selectorsOf (withRegister B0 (getD w B0 0) pointed)) .cr11) (wanted-within w CR11 s))
+      (single-roads-lead (selectorsOf (withRegister B0 (getD w B0 0) pointed)) .cr11) (wanted-within (f .state .chip) w CR11 s))
       (config-runs (withRegister CR11 (getD w CR11 0) (withRegister B0 (getD w B0 0) pointed)) (getD w PCI04 0)
-      (with-sound (withRegister B0 (getD w B0 0) pointed) CR11 (getD w CR11 0) (b0-ready .isSound) (wanted-within w CR11 s))
-      (wanted-within w PCI04 s))))
+      (with-sound (withRegister B0 (getD w B0 0) pointed) CR11 (getD w CR11 0) (b0-ready .isSound) (wanted-within (f .state .chip) w CR11 s))
+      (wanted-within (f .state .chip) w PCI04 s))))

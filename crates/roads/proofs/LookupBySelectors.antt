@@ -6,7 +6,7 @@ use mathlib.Core.List.{List, [], _∷_}
 use Rattle.file.specs.declared.registers.File.{File}
 use Rattle.file.specs.File.{register, seen}
 use Rattle.file.specs.Names.{MISC, SRX, CRX, GRX, ARX}
-use Rattle.file.specs.State.{initial, toggling}
+use Rattle.file.specs.State.{initial, unasked, toggling}
 use Rattle.access.specs.declared.record.Record.{Record}
 use Rattle.access.specs.Checks.{otherHalf}
 use Rattle.places.specs.Lookup.{attributeIndex, selects, matches, first, rowAt}
@@ -35,7 +35,7 @@ selectorsOf f =
 -- a file that has no more than that
 unfoldable pub bareFile : Selectors → File
 unfolding seen initial toggling
-bareFile v = seen (v .misc ∷ v .srx ∷ v .crx ∷ v .grx ∷ v .arx ∷ []) (toggling (v .toggle) initial)
+bareFile v = seen (v .misc ∷ v .srx ∷ v .crx ∷ v .grx ∷ v .arx ∷ []) (toggling (v .toggle) unasked)
 
 selects-by : (f : File) (i : Index) → selects (bareFile (selectorsOf f)) i ≡ selects f i
 unfolding bareFile selectorsOf selects attributeIndex register

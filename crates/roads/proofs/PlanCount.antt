@@ -1,4 +1,4 @@
--- How many records a plan has: 973 for every wanted file, and up to 3 for its marks, within 01's 1,024.
+-- How many records a plan has: 981 for every wanted file, and up to 3 for its marks, within 01's 1,024.
 -- Assumes nothing.
 use Prim.Native.Nat.{ℕ, zero, suc, _+_, _*_, _≤_}
 use mathlib.Core.Path.{_≡_, refl}
@@ -26,7 +26,7 @@ unfolding colours entries
 colour-records palette bank p b = rw (length-append, pixels-count palette, pixels-count bank, p, b)
 
 -- one or two records for each register
-register-records : (w : List ℕ) → length (along w registerRoads) ≡ 140
+register-records : (w : List ℕ) → length (along w registerRoads) ≡ 148
 unfolding along selecting registerRoads
 register-records w = refl
 
@@ -41,7 +41,7 @@ pub plan-parts : (w : File)
 unfolding planRecords opening indices closing closingRoads along selecting indexRoads
 plan-parts w = simp length-append
 
-pub plan-count : (w : File) → IsFile w → length (planRecords w) ≡ 973 + length (marking (w .state .marks))
+pub plan-count : (w : File) → IsFile w → length (planRecords w) ≡ 981 + length (marking (w .state .marks))
 plan-count w wf =
     omega (arith, plan-parts w, colour-records (w .palette) (w .bank) (wf .palette) (wf .bank), register-records (w .registers))
 

@@ -1,8 +1,8 @@
--- Demand 3: from every sound start, each record of the plan is accepted and the run ends in the wanted file.
+-- Demand 3: from every sound start on the wanted file's chip (02, 6/13), each record of the plan is accepted and the run ends in the wanted file.
 -- Assumes nothing.
 use Prim.Native.Nat.{ℕ, _*_, _<_}
 use mathlib.Core.Path.{_≡_, refl, sym, ap, ap₂, _∙_, subst}
-use mathlib.Core.Bool.{Bool, cond, not}
+use mathlib.Core.Bool.{Bool, true, false, true≢false, cond, not}
 use mathlib.Core.List.{List, _∷_, _++_, map}
 use native.Mathlib.Omega.{arith}
 use lib.Dec.{T, eqb, leb, T-not, eqb→eq}
@@ -10,12 +10,15 @@ use lib.ListN.{getD, length, drop}
 use lib.Seq.{ext-getD}
 use Rattle.bits.proofs.Test.{by-test, passes, is-true, chosen, everyBelow, below}
 use Rattle.file.specs.declared.answer.Answer.{Answer}
-use Rattle.file.specs.declared.answer.Answer.the-variants.{Done, ShortBuffer, NotSound, NotBeforeRed}
+use Rattle.file.specs.declared.answer.Answer.the-variants.{Done, ShortBuffer, NotSound, NotBeforeRed, OtherChip}
+use Rattle.file.specs.declared.chip.Chip.{Chip}
+use Rattle.file.specs.declared.chip.Chip.the-variants.{Gd5462, Gd5464}
 use Rattle.file.specs.declared.registers.File.{File}
 use Rattle.file.specs.File.{register, withRegisters, withPointer, withToggle, withPalette, withBank}
 use Rattle.file.specs.Names.{MISC, B0}
-use Rattle.file.specs.Registers.{registerCount, storedTable, sequencer, crtc, graphics, attribute, pipeline}
+use Rattle.file.specs.Registers.{registerCount, storedTable, sequencer, crtc, graphics, attribute, pipeline, vPort}
 use Rattle.file.specs.Answers.{codeOf, refused}
+use Rattle.file.specs.Chips.{sameChip}
 use Rattle.file.specs.Sound.{allWithin, sound}
 use Rattle.file.proofs.Soundness.{registers-sound, marks-sound, pointer-sound, sound-count}
 use Rattle.places.specs.Lookup.{isOneOf}
@@ -51,13 +54,13 @@ planRoads misc = registerRoads ++ lastRoads misc
 
 -- after them every register holds its wanted value, if MISC did before
 all-end-wanted : (misc : ℕ) → T (everyBelow (λ (n : ℕ). endsWanted (planRoads misc) n (eqb n MISC)) registerCount)
-unfolding everyBelow endsWanted planRoads lastRoads closingRoads moves registerRoads indexRoads eachRoad but isOneOf sequencer crtc graphics attribute pipeline
+unfolding everyBelow endsWanted planRoads lastRoads closingRoads moves registerRoads indexRoads eachRoad but isOneOf sequencer crtc graphics attribute pipeline vPort
 all-end-wanted misc = tt
 
 -- the registers that the stages after the colours leave are the wanted ones
-registers-as-wanted : (w xs : List ℕ) (misc : ℕ) → T (allWithin storedTable w) → length xs ≡ length w → length w ≡ registerCount → getD xs MISC 0 ≡ getD w MISC 0
+registers-as-wanted : (w xs : List ℕ) (misc : ℕ) → length xs ≡ length w → length w ≡ registerCount → getD xs MISC 0 ≡ getD w MISC 0
     → afterRoads w (planRoads misc) xs ≡ w
-registers-as-wanted w xs misc s many all same =
+registers-as-wanted w xs misc many all same =
     ext-getD 0 (afterRoads w (planRoads misc) xs) w (after-length w (planRoads misc) xs ∙ many)
     (λ n h.
     let small : n < registerCount = omega (arith, after-length w (planRoads misc) xs) in
@@ -67,10 +70,10 @@ registers-as-wanted w xs misc s many all same =
 
 -- ---- demand 3
 
-module _ (w f : File) (ws : T (sound w)) (fs : T (sound f)) (wf : IsFile w) (red : w .state .pointer .next ≡ 0)
+module _ (w f : File) (chips : f .state .chip ≡ w .state .chip) (ws : T (sound w)) (fs : T (sound f)) (wf : IsFile w) (red : w .state .pointer .next ≡ 0)
     (many : length (f .palette) ≡ 256) (few : length (f .bank) ≡ 16) where
-  within-bits : T (allWithin storedTable (w .registers))
-  within-bits = registers-sound w ws
+  within-bits : T (allWithin (storedTable (f .state .chip)) (w .registers))
+  within-bits = subst (λ (c : Chip). T (allWithin (storedTable c) (w .registers))) (sym chips) (registers-sound w ws)
 
   -- the file between the stages
   abbrev afterOpening : File
@@ -117,15 +120,26 @@ module _ (w f : File) (ws : T (sound w)) (fs : T (sound f)) (wf : IsFile w) (red
   fourth-brings = registers-bring (w .registers) afterMarks within-bits marks-ready refl
 
   ends-in : closed (w .registers) (w .state .pointer) afterIndices ≡ w
-  unfolding closed indexed brought marked coloured withRegister withRegisters withToggle withPointer withStep planRoads lastRoads closingRoads indexRoads afterRoads afterSelecting register withBank withPalette
+  unfolding closed indexed brought marked coloured opened withRegister withRegisters withToggle withPointer withStep planRoads lastRoads closingRoads indexRoads afterRoads afterSelecting register withBank withPalette
   ends-in =
-      ap (λ (rs : List ℕ). withRegisters rs w)
+      ap₂ ending
       (sym (after-append (w .registers) registerRoads (lastRoads (getD (w .registers) MISC 0)) (afterMarks .registers))
-      ∙ registers-as-wanted (w .registers) (afterMarks .registers) (getD (w .registers) MISC 0) within-bits
+      ∙ registers-as-wanted (w .registers) (afterMarks .registers) (getD (w .registers) MISC 0)
       (sound-count afterMarks (marks-ready .isSound) ∙ sym (sound-count w ws)) (sound-count w ws) (marks-ready .misc))
+      chips
+    where
+      -- the wanted file with these registers, on this chip
+      ending : List ℕ → Chip → File
+      ending registers chip =
+          record {
+            registers = registers;
+            palette = w .palette;
+            bank = w .bank;
+            state = record { pointer = w .state .pointer; marks = w .state .marks; toggle = w .state .toggle; chip = chip };
+          }
 
   pub plan-restores : RunsInto f (planRecords w) w
-  unfolding planRecords brought withRegisters marked coloured opened withToggle withStep withBank withPalette withRegister
+  unfolding planRecords brought withRegisters marked coloured opened indexed withToggle withStep withBank withPalette withRegister
   plan-restores =
       subst (λ (g : File). RunsInto f (planRecords w) g) ends-in
       (runs-then (opening (w .registers) ++ colours (w .palette) (w .bank) ++ marking (w .state .marks) ++ along (w .registers) registerRoads ++ indices (w .registers) (w .state .toggle))
@@ -147,8 +161,8 @@ pub plan-serves : (w : File) → IsFile w → T (sound w) → w .state .pointer 
 plan-serves w wf ws red =
     record {
       room = plan-room w wf;
-      whole = run-fits (planRecords w) w (plan-restores w w ws ws wf red (wf .palette) (wf .bank) .allDone);
-      restores = λ f ff fs. plan-restores w f ws fs wf red (ff .palette) (ff .bank);
+      whole = run-fits (planRecords w) w (plan-restores w w refl ws ws wf red (wf .palette) (wf .bank) .allDone);
+      restores = λ f ff fs chips. plan-restores w f chips ws fs wf red (ff .palette) (ff .bank);
     }
 
 -- a buffer that holds a plan is read as its records
@@ -157,14 +171,22 @@ written-items w before after count p =
     ap₂ items (p .counted) (p .filled) ∙ trace-items (p .records) (drop (8 * count) before)
 
 -- run over: every record is accepted, and the run ends in the wanted file
-pub planned-runs : (w : File) (before after : List ℕ) (count : ℕ) → PlanWritten w before after count → (f : File) → IsFile f → T (sound f)
+pub planned-runs : (w : File) (before after : List ℕ) (count : ℕ) → PlanWritten w before after count → (f : File) → IsFile f → T (sound f) → f .state .chip ≡ w .state .chip
     → T (allAccepted (answers f (items count after))) × (fileAfter f (items count after) ≡ w)
-planned-runs w before after count p f ff fs =
-    let runs = p .plans .restores f ff fs in
+planned-runs w before after count p f ff fs chips =
+    let runs = p .plans .restores f ff fs chips in
     let same = written-items w before after count p in
     (subst (λ (is : List Item). T (allAccepted (answers f is))) (sym same) (runs .allDone), ap (fileAfter f) same ∙ runs .ends)
 
--- ---- code 14
+-- ---- codes 15 and 14
+
+-- the test of two chips says that they are one
+pub same-chip : (a b : Chip) → sameChip a b ≡ true → a ≡ b
+unfolding sameChip
+same-chip Gd5462 Gd5462 e = refl
+same-chip Gd5462 Gd5464 e = absurd (true≢false (sym e))
+same-chip Gd5464 Gd5462 e = absurd (true≢false (sym e))
+same-chip Gd5464 Gd5464 e = refl
 
 -- a plan's own record is never refused: what 01 says of a restore with 14 is what is said without it
 pub restore-answers : (f w : File) (room : ℕ) (records : List Record) → IsFile f → Plans w records
@@ -172,23 +194,63 @@ pub restore-answers : (f w : File) (room : ℕ) (records : List Record) → IsFi
 unfolding answerByRun restoreAnswer planAnswer refused codeOf
 restore-answers f w room records ff plans =
     by-test (sound f)
-    (λ s.
-    let all = is-true (allAccepted (answers f (map Whole records))) (plans .restores f ff (passes (sound f) s) .allDone) in
-    rw (s, all)
+    (λ s. rw s
     (by-test (sound w)
-    (λ t. rw t (by-test (eqb (w .state .pointer .next) 0) (λ e. rw e (by-test (leb 8192 room) (λ l. rw l) (λ l. rw l))) (λ e. rw e)))
+    (λ t. rw t
+    (by-test (sameChip (f .state .chip) (w .state .chip))
+    (λ c.
+    let all = is-true (allAccepted (answers f (map Whole records))) (plans .restores f ff (passes (sound f) s) (same-chip _ _ c) .allDone) in
+    rw (c, all) (by-test (eqb (w .state .pointer .next) 0) (λ e. rw e (by-test (leb 8192 room) (λ l. rw l) (λ l. rw l))) (λ e. rw e)))
+    (λ c. rw c)))
     (λ t. rw t)))
     (λ s. rw s)
 
--- so code 14 is never answered
+-- two sound files on different chips
+pub record Between (f w : File) : Type 0 where
+  pub current : sound f ≡ true
+  pub wanted : sound w ≡ true
+  pub chips : sameChip (f .state .chip) (w .state .chip) ≡ false
+
+-- 02, 6/13: between them 15 is answered
+pub fifteen-between : (f w : File) (room : ℕ) → sound f ≡ true → sound w ≡ true → sameChip (f .state .chip) (w .state .chip) ≡ false
+    → codeOf (restoreAnswer f w room) ≡ 15
+unfolding restoreAnswer codeOf
+fifteen-between f w room s t c = rw (s, t, c)
+
+plan-not-fifteen : (w : File) (room : ℕ) → T (not (eqb (codeOf (planAnswer w room)) 15))
+unfolding planAnswer codeOf
+plan-not-fifteen w room =
+    chosen other (sound w) _ NotSound
+    (chosen other (eqb (w .state .pointer .next) 0) _ NotBeforeRed (chosen other (leb 8192 room) (Done 0) ShortBuffer tt tt) tt) tt
+  where
+    other : Answer → Bool
+    other a = not (eqb (codeOf a) 15)
+
+-- and nowhere else
+pub fifteen-only-between : (f w : File) (room : ℕ) → codeOf (restoreAnswer f w room) ≡ 15 → Between f w
+unfolding restoreAnswer codeOf
+fifteen-only-between f w room e =
+    by-test (sound f)
+    (λ s. by-test (sound w)
+    (λ t. by-test (sameChip (f .state .chip) (w .state .chip))
+    (λ c.
+    let planned : codeOf (planAnswer w room) ≡ 15 = rw (s, t, c) at e in
+    absurd (T-not (eqb (codeOf (planAnswer w room)) 15) (plan-not-fifteen w room) (rw planned tt)))
+    (λ c. record { current = s; wanted = t; chips = c }))
+    (λ t. absurd (omega (arith, rw (s, t) at e))))
+    (λ s. absurd (omega (arith, rw s at e)))
+
+-- code 14 is never answered
 pub never-fourteen : (f w : File) (room : ℕ) → codeOf (restoreAnswer f w room) ≡ 14 → ⊥
 unfolding restoreAnswer planAnswer codeOf
 never-fourteen f w room e =
     T-not (eqb (codeOf (restoreAnswer f w room)) 14)
-    (chosen other (sound f) (planAnswer w room) NotSound
+    (chosen other (sound f) _ NotSound
+    (chosen other (sound w) _ NotSound
+    (chosen other (sameChip (f .state .chip) (w .state .chip)) (planAnswer w room) OtherChip
     (chosen other (sound w) (cond (eqb (w .state .pointer .next) 0) (cond (leb 8192 room) (Done 0) ShortBuffer) NotBeforeRed) NotSound
     (chosen other (eqb (w .state .pointer .next) 0) (cond (leb 8192 room) (Done 0) ShortBuffer) NotBeforeRed
-    (chosen other (leb 8192 room) (Done 0) ShortBuffer tt tt) tt) tt) tt)
+    (chosen other (leb 8192 room) (Done 0) ShortBuffer tt tt) tt) tt) tt) tt) tt)
     (rw e tt)
   where
     other : Answer → Bool

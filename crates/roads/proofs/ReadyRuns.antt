@@ -10,6 +10,7 @@ use lib.ListN.{getD, set}
 use lib.Seq.{getD-set-same, getD-set-other}
 use Rattle.bits.specs.Store.{bit, within}
 use Rattle.bits.proofs.Test.{both, by-test}
+use Rattle.file.specs.declared.chip.Chip.{Chip}
 use Rattle.file.specs.declared.registers.File.{File}
 use Rattle.file.specs.File.{register, crtcLocked, withRegisters, withToggle}
 use Rattle.file.specs.Names.{MISC, SRX, CRX, GRX, ARX, PCI04, CR0, CR6, CR7, CR11}
@@ -62,16 +63,16 @@ unfolding selectorsOf withRegister withRegisters
 selectors-with f number value s h =
     rw (at-any f number value MISC s h, at-any f number value SRX s h, at-any f number value CRX s h, at-any f number value GRX s h, at-any f number value ARX s h)
 
-pub with-sound : (f : File) (number value : ℕ) → T (sound f) → T (within (storedBits number) value) → T (sound (withRegister number value f))
+pub with-sound : (f : File) (number value : ℕ) → T (sound f) → T (within (storedBits (f .state .chip) number) value) → T (sound (withRegister number value f))
 unfolding sound withRegister withRegisters storedBits
 with-sound f number value s w =
-    both (allWithin storedTable (set (f .registers) number value)) (stateSound (f .state))
-    (set-within storedTable (f .registers) number value (registers-sound f s) w) (state-sound f s)
+    both (allWithin (storedTable (f .state .chip)) (set (f .registers) number value)) (stateSound (f .state))
+    (set-within (storedTable (f .state .chip)) (f .registers) number value (registers-sound f s) w) (state-sound f s)
 
 -- registers that are within their stored bits are so one by one
-pub wanted-within : (w : List ℕ) (number : ℕ) → T (allWithin storedTable w) → T (within (storedBits number) (getD w number 0))
+pub wanted-within : (chip : Chip) (w : List ℕ) (number : ℕ) → T (allWithin (storedTable chip) w) → T (within (storedBits chip number) (getD w number 0))
 unfolding storedBits
-wanted-within w number s = at storedTable w number s
+wanted-within chip w number s = at (storedTable chip) w number s
 
 -- ---- in a ready file
 
@@ -98,19 +99,19 @@ beyond-lock f number e h =
 
 -- a record by a road, in a sound file that has both spaces on
 pub on-runs : (f : File) (road : Road) (value : ℕ) → T (sound f) → SpacesOn f → Free f (road .register) → T (leads (selectorsOf f) road)
-    → T (within (storedBits (road .register)) value)
+    → T (within (storedBits (f .state .chip) (road .register)) value)
     → RunsInto f (write road value ∷ []) (withFlip (indexFlips (road .index)) (withRegister (road .register) value f))
 on-runs f road value s on free l w =
     let stores = road-stores f road value l s (spaces-on f (write road value) on) free w in
     runs-one f (write road value) (withFlip (indexFlips (road .index)) (withRegister (road .register) value f)) (stores .done) (stores .file)
 
 -- and in a file that is ready
-pub ready-runs : (w : List ℕ) (f : File) (road : Road) (value : ℕ) → Ready w f → T (leads (selectorsOf f) road) → T (within (storedBits (road .register)) value)
+pub ready-runs : (w : List ℕ) (f : File) (road : Road) (value : ℕ) → Ready w f → T (leads (selectorsOf f) road) → T (within (storedBits (f .state .chip) (road .register)) value)
     → RunsInto f (write road value ∷ []) (withFlip (indexFlips (road .index)) (withRegister (road .register) value f))
 ready-runs w f road value ready = on-runs f road value (ready .isSound) (ready .on) (unlocked-free f (road .register) (ready .unlocked))
 
 -- another register anew leaves it ready
-pub ready-with : (w : List ℕ) (f : File) (number value : ℕ) → Ready w f → T (loose number) → T (within (storedBits number) value)
+pub ready-with : (w : List ℕ) (f : File) (number value : ℕ) → Ready w f → T (loose number) → T (within (storedBits (f .state .chip) number) value)
     → Ready w (withRegister number value f)
 unfolding SpacesOn loose isOneOf
 ready-with w f number value ready l v =

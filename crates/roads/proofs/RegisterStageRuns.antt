@@ -10,6 +10,7 @@ use lib.ListN.{getD, set, length, length-set}
 use lib.Seq.{getD-set-same, getD-set-other}
 use Rattle.bits.specs.Store.{within}
 use Rattle.bits.proofs.Test.{left, right, by-test}
+use Rattle.file.specs.declared.chip.Chip.{Chip}
 use Rattle.file.specs.declared.registers.File.{File}
 use Rattle.file.specs.File.{register, withRegisters, withToggle}
 use Rattle.file.specs.Names.{MISC, SRX, CRX, GRX, ARX}
@@ -21,10 +22,11 @@ use Rattle.places.specs.Places.{Index, any, sr, cr, gr, ar, indexDue, dataDue}
 use Rattle.roads.specs.Roads.{Road, toSRX, toGRX, toARX}
 use Rattle.roads.specs.RoadRecords.{write, selecting, along}
 use Rattle.roads.specs.Restores.{RunsInto}
-use Rattle.roads.specs.RegisterStage.{withRegister, withFlip, indexFlips, everyRoad, Ready, loose, afterSelecting, selectable, selected, afterRoads, brought, passable, moves, endsWanted, leavesAlone, Brings}
+use Rattle.roads.specs.RegisterStage.{withRegister, withFlip, indexFlips, everyRoad, Ready, loose, afterSelecting, stores, selectable, selected, afterRoads, brought, passable, moves, endsWanted, leavesAlone, Brings}
 use Rattle.roads.proofs.LookupBySelectors.{Selectors, selectorsOf}
 use Rattle.roads.proofs.RunsCompose.{runs-none, runs-then}
 use Rattle.roads.proofs.RoadsLead.{withIndex, leads, leading, single-roads-lead}
+use Rattle.roads.proofs.RoadStores.{on-chip}
 use Rattle.roads.proofs.ReadyRuns.{selectors-with, wanted-within, ready-runs, ready-with, ready-flipped}
 
 -- ---- selecting an index
@@ -46,7 +48,7 @@ pub record Selected (w : List ℕ) (f : File) (i : Index) : Type 0 where
 
 -- by the index register's own road
 select-by : (w : List ℕ) (f : File) (to : Road) (n : ℕ) → Ready w f → T (leads (selectorsOf f) to) → T (loose (to .register))
-    → T (within (storedBits (to .register)) n)
+    → T (within (storedBits (f .state .chip) (to .register)) n)
     → RunsInto f (write to n ∷ []) (withFlip (indexFlips (to .index)) (withRegister (to .register) n f))
     × Ready w (withFlip (indexFlips (to .index)) (withRegister (to .register) n f))
 select-by w f to n ready l free fit = (
@@ -54,20 +56,24 @@ select-by w f to n ready l free fit = (
   ready-flipped w (withRegister (to .register) n f) (indexFlips (to .index)) (ready-with w f (to .register) n ready free fit),
 )
 
+stored-on : (f : File) (number n : ℕ) → T (stores number n) → T (within (storedBits (f .state .chip) number) n)
+unfolding stores
+stored-on f number n t = on-chip (λ (chip : Chip). within (storedBits chip number) n) t (f .state .chip)
+
 select : (w : List ℕ) (f : File) (i : Index) → Ready w f → f .state .toggle ≡ false → T (selectable i) → Selected w f i
-unfolding selecting selected afterSelecting selectable indexFlips withFlip loose isOneOf withRegister withRegisters withToggle register withIndex selectorsOf
+unfolding selecting selected afterSelecting selectable stores indexFlips withFlip loose isOneOf withRegister withRegisters withToggle register withIndex selectorsOf
 select w f any ready t s = record { runs = runs-none f; ready = ready; selectors = refl }
 select w f (sr n) ready t s =
-    let by = select-by w f toSRX n ready (single-roads-lead (selectorsOf f) .srx) tt s in
+    let by = select-by w f toSRX n ready (single-roads-lead (selectorsOf f) .srx) tt (stored-on f SRX n s) in
     record { runs = by .0; ready = by .1; selectors = selectors-with f SRX n (ready .isSound) (lit< tt) }
 select w f (cr n) ready t s = absurd s
 select w f (gr n) ready t s =
-    let by = select-by w f toGRX n ready (single-roads-lead (selectorsOf f) .grx) tt s in
+    let by = select-by w f toGRX n ready (single-roads-lead (selectorsOf f) .grx) tt (stored-on f GRX n s) in
     record { runs = by .0; ready = by .1; selectors = selectors-with f GRX n (ready .isSound) (lit< tt) }
 select w f (ar n) ready t s = absurd s
 select w f indexDue ready t s = absurd s
 select w f (dataDue n) ready t s =
-    let by = select-by w f toARX n ready (arx-leads f t) tt s in
+    let by = select-by w f toARX n ready (arx-leads f t) tt (stored-on f ARX n s) in
     record {
       runs = by .0;
       ready = by .1;
@@ -100,12 +106,12 @@ along-behind w road roads = append-assoc (selecting (road .index)) (write road (
 abbrev pub AllLead : List ℕ → List Road → Type 0
 AllLead w roads = (v : Selectors) → v .misc ≡ getD w MISC 0 → T (leading v roads)
 
-module _ (w : List ℕ) (s : T (allWithin storedTable w)) where
+module _ (w : List ℕ) where
   -- one road
-  road-brings : (f : File) (road : Road) → Ready w f → f .state .toggle ≡ false → T (passable road) → T (leads (withIndex (road .index) (selectorsOf f)) road)
+  road-brings : (f : File) → T (allWithin (storedTable (f .state .chip)) w) → (road : Road) → Ready w f → f .state .toggle ≡ false → T (passable road) → T (leads (withIndex (road .index) (selectorsOf f)) road)
       → Brings w f (road ∷ [])
-  unfolding along brought afterRoads passable
-  road-brings f road ready t o l =
+  unfolding along brought afterRoads passable selected withFlip withRegister withRegisters
+  road-brings f s road ready t o l =
       record {
         runs =
             runs-then (selecting (road .index)) (write road (getD w (road .register) 0) ∷ []) f (selected (road .index) f)
@@ -120,8 +126,8 @@ module _ (w : List ℕ) (s : T (allWithin storedTable w)) where
       sel : Selected w f (road .index)
       sel = select w f (road .index) ready t chosen
 
-      fit : T (within (storedBits (road .register)) (getD w (road .register) 0))
-      fit = wanted-within w (road .register) s
+      fit : T (within (storedBits (f .state .chip) (road .register)) (getD w (road .register) 0))
+      fit = wanted-within (f .state .chip) w (road .register) s
 
       ends : withFlip (indexFlips (road .index)) (withRegister (road .register) (getD w (road .register) 0) (selected (road .index) f)) ≡ brought w (road ∷ []) f
       ends = road-ends w f (road .index) (road .register) (getD w (road .register) 0) t chosen
@@ -138,13 +144,13 @@ module _ (w : List ℕ) (s : T (allWithin storedTable w)) where
           (ready-with w (selected (road .index) f) (road .register) (getD w (road .register) 0) (sel .ready) (search (left, right)) fit)
 
   -- any list of roads
-  pub roads-bring : (roads : List Road) (f : File) → Ready w f → f .state .toggle ≡ false → T (everyRoad passable roads) → AllLead w roads → Brings w f roads
+  pub roads-bring : (roads : List Road) (f : File) → T (allWithin (storedTable (f .state .chip)) w) → Ready w f → f .state .toggle ≡ false → T (everyRoad passable roads) → AllLead w roads → Brings w f roads
   unfolding along brought afterRoads everyRoad leading selectorsOf withRegisters
-  roads-bring [] f ready t o lead = record { runs = runs-none f; ready = ready }
-  roads-bring (road ∷ roads) f ready t o lead =
-      let first = road-brings f road ready t (left (passable road) (everyRoad passable roads) o)
+  roads-bring [] f s ready t o lead = record { runs = runs-none f; ready = ready }
+  roads-bring (road ∷ roads) f s ready t o lead =
+      let first = road-brings f s road ready t (left (passable road) (everyRoad passable roads) o)
       (left (leads (withIndex (road .index) (selectorsOf f)) road) _ (lead (selectorsOf f) (ready .misc))) in
-      let rest = roads-bring roads (brought w (road ∷ []) f) (first .ready) t (right (passable road) (everyRoad passable roads) o)
+      let rest = roads-bring roads (brought w (road ∷ []) f) s (first .ready) t (right (passable road) (everyRoad passable roads) o)
       (λ v e. right (leads (withIndex (road .index) v) road) _ (lead v e)) in
       record {
         runs =

@@ -7,12 +7,14 @@ use mathlib.Core.Option.{Option, none, some}
 use native.Mathlib.Nat.{lt-of-le-of-lt}
 use native.Mathlib.Omega.{arith}
 use borrow.Author.Tests.{not-true, le-ltb, lt-leb}
-use lib.Dec.{T, eqb, eqb→eq, leb→le, ltb→lt}
+use lib.Dec.{T, eqb, ltb, eqb→eq, leb→le, ltb→lt}
 use lib.ListN.{set}
 use Rattle.bits.specs.Store.{within}
 use Rattle.bits.proofs.Stored.{store-exact, within-le}
 use Rattle.bits.proofs.Test.{left, right, is-true}
 use Rattle.file.specs.declared.answer.Answer.the-variants.{Done}
+use Rattle.file.specs.declared.chip.Chip.{Chip}
+use Rattle.file.specs.declared.chip.Chip.the-variants.{Gd5462, Gd5464}
 use Rattle.file.specs.declared.registers.File.{File}
 use Rattle.file.specs.Answers.{codeOf}
 use Rattle.file.specs.Effects.{apply, storeIn}
@@ -29,15 +31,21 @@ use Rattle.places.specs.Profile.{Writing, storesTo, readOnly, setsAddress, writ
 use Rattle.roads.specs.Roads.{Road}
 use Rattle.roads.specs.RoadRecords.{write}
 use Rattle.roads.specs.Restores.{accepted}
-use Rattle.roads.specs.RegisterStage.{withRegister, withFlip, indexFlips}
+use Rattle.roads.specs.RegisterStage.{withRegister, withFlip, indexFlips, onBoth}
 use Rattle.roads.proofs.RoadsLead.{same, finds, leads}
 use Rattle.roads.proofs.ChecksPassed.{answered-by-place, does-as-place}
 use Rattle.roads.proofs.LookupBySelectors.{selectorsOf, bareFile, row-by, half-by}
 
+-- what a test says of both chips it says of each
+pub on-chip : (test : Chip → Bool) → T (onBoth test) → (chip : Chip) → T (test chip)
+unfolding onBoth
+on-chip test t Gd5462 = left (test Gd5462) (test Gd5464) t
+on-chip test t Gd5464 = right (test Gd5462) (test Gd5464) t
+
 -- the lock does not bear on a register
 pub record Free (f : File) (number : ℕ) : Type 0 where
   pub unlocked : lockedOut f number ≡ false
-  pub whole : reachIn f number ≡ storedBits number
+  pub whole : reachIn f number ≡ storedBits (f .state .chip) number
 
 -- a writing that stores into a register of the file is a store
 is-store : (writing : Writing) (number : ℕ) → storesInto writing ≡ number → number < registerCount → writing ≡ storesTo number (flips writing)
@@ -56,19 +64,19 @@ place-done f number free place e h = ap (writeAnswer f) (is-store (profile place
 
 -- and stores the register by its stored bits
 place-stores : (f : File) (number value : ℕ) → Free f number → (place : Place) → storesInto (profile place .writing) ≡ number → number < registerCount
-    → apply (effectAt true f place value) f ≡ withFlip (flips (profile place .writing)) (storeIn number (storedBits number) value f)
+    → apply (effectAt true f place value) f ≡ withFlip (flips (profile place .writing)) (storeIn number (storedBits (f .state .chip) number) value f)
 unfolding effectAt apply withFlip
 place-stores f number value free place e h =
     ap (λ (w : Writing). apply (writeEffect (reachIn f) f w value) f) (is-store (profile place .writing) number e h)
     ∙ ap (λ (bits : ℕ). withFlip (flips (profile place .writing)) (storeIn number bits value f)) (free .whole)
 
 -- a value within them is held exactly
-exactly : (f : File) (number value : ℕ) → T (sound f) → T (within (storedBits number) value)
-    → storeIn number (storedBits number) value f ≡ withRegister number value f
+exactly : (f : File) (number value : ℕ) → T (sound f) → T (within (storedBits (f .state .chip) number) value)
+    → storeIn number (storedBits (f .state .chip) number) value f ≡ withRegister number value f
 unfolding storeIn withRegister withRegisters storedBits register
 exactly f number value s w =
     ap (λ (x : ℕ). withRegisters (set (f .registers) number x) f)
-    (store-exact (storedBits number) (register f number) value (at storedTable (f .registers) number (registers-sound f s)) w)
+    (store-exact (storedBits (f .state .chip) number) (register f number) value (at (storedTable (f .state .chip)) (f .registers) number (registers-sound f s)) w)
 
 -- ---- by a road
 
@@ -84,11 +92,19 @@ pub record Stores (f : File) (road : Road) (value : ℕ) : Type 0 where
   pub file : access f (write road value) .file ≡ withFlip (indexFlips (road .index)) (withRegister (road .register) value f)
 
 module _ (f : File) (road : Road) (value : ℕ) (l : T (leads (selectorsOf f) road)) (s : T (sound f)) (on : spaceOff f (write road value) ≡ false)
-    (free : Free f (road .register)) (w : T (within (storedBits (road .register)) value)) where
+    (free : Free f (road .register)) (w : T (within (storedBits (f .state .chip) (road .register)) value)) where
   -- the record is a write in good form
   is-write : isWrite (write road value) ≡ true
   unfolding isWrite leads
   is-write = is-true (eqb (road .kind % 2) 1) (search (left, right) depth 8)
+
+  -- the register's bits fit the road on both chips
+  abbrev Fits : Chip → Bool
+  Fits chip = ltb (storedBits chip (road .register)) (256 ^ road .width)
+
+  fits : T (onBoth Fits)
+  unfolding leads
+  fits = search (left, right) depth 8
 
   well-formed : malformed f (write road value) ≡ false
   unfolding malformed leads
@@ -98,8 +114,8 @@ module _ (f : File) (road : Road) (value : ℕ) (l : T (leads (selectorsOf f) ro
         is-true (eqb (road .width) 1 || eqb (road .width) 2) (search (left, right) depth 8),
         is-write,
         lt-leb (256 ^ road .width) value
-            (lt-of-le-of-lt (within-le (storedBits (road .register)) value w)
-            (ltb→lt (storedBits (road .register)) (256 ^ road .width) (search (left, right) depth 8))),
+            (lt-of-le-of-lt (within-le (storedBits (f .state .chip) (road .register)) value w)
+            (ltb→lt (storedBits (f .state .chip) (road .register)) (256 ^ road .width) (on-chip Fits fits (f .state .chip)))),
       )
 
   -- it finds what the test found

@@ -8,6 +8,7 @@ use mathlib.Core.Option.{Option, none, some}
 use lib.Dec.{T, eqb, leb, ltb}
 use Rattle.bits.specs.Store.{bits, bit}
 use Rattle.bits.proofs.Bit.{by-bit}
+use Rattle.file.specs.declared.chip.Chip.{Chip}
 use Rattle.file.specs.File.{register}
 use Rattle.file.specs.Names.{CRX}
 use Rattle.file.specs.Registers.{registerCount, storedBits, storedTable}
@@ -17,7 +18,7 @@ use Rattle.places.specs.Places.{Index, any, sr, cr, gr, ar, indexDue, dataDue, 
 use Rattle.places.specs.Profile.{profile, storesInto, flips}
 use Rattle.roads.specs.Roads.{Road, portRoad, eachRoad, but, toPCI04, toCR11, toB0, toMISC, toSRX, toGRX, toARX, registerRoads}
 use Rattle.roads.specs.RoadRecords.{write}
-use Rattle.roads.specs.RegisterStage.{indexFlips, everyRoad}
+use Rattle.roads.specs.RegisterStage.{indexFlips, onBoth, everyRoad}
 use Rattle.roads.proofs.LookupBySelectors.{Selectors, bareFile}
 
 -- what a file shows with an index selected
@@ -48,7 +49,7 @@ leads v road =
     eqb (road .kind % 2) 1
     && leb (road .kind) 5
     && (eqb (road .width) 1 || eqb (road .width) 2)
-    && ltb (storedBits (road .register)) (256 ^ road .width)
+    && onBoth (λ (chip : Chip). ltb (storedBits chip (road .register)) (256 ^ road .width))
     && ltb (road .register) registerCount
     && not (otherHalf (bareFile v) (write road 0))
     && finds road (rowAt (bareFile v) (road .kind) (road .address))
@@ -59,7 +60,7 @@ leading v roads = everyRoad (λ (road : Road). leads (withIndex (road .index) v)
 
 -- so does every register's, whatever a file shows
 pub registers-lead : (v : Selectors) → T (leading v registerRoads)
-unfolding leading everyRoad leads withIndex finds same indexFlips flips profile storesInto storedBits storedTable otherHalf isPort isOneOf rowAt first matches selects attributeIndex bits register bareFile places registerRoads
+unfolding leading everyRoad leads withIndex finds same indexFlips flips profile storesInto onBoth storedBits storedTable otherHalf isPort isOneOf rowAt first matches selects attributeIndex bits register bareFile places registerRoads
 registers-lead v = tt
 
 -- and so do the roads that the stages take one by one
@@ -73,11 +74,11 @@ pub record SingleRoads (v : Selectors) : Type 0 where
   pub arx : T (leads (withIndex indexDue v) toARX)
 
 pub single-roads-lead : (v : Selectors) → SingleRoads v
-unfolding everyRoad leads withIndex finds same indexFlips flips profile storesInto storedBits storedTable otherHalf isPort isOneOf rowAt first matches selects attributeIndex bits register bareFile places
+unfolding everyRoad leads withIndex finds same indexFlips flips profile storesInto onBoth storedBits storedTable otherHalf isPort isOneOf rowAt first matches selects attributeIndex bits register bareFile places
 single-roads-lead v = record { pci04 = tt; cr11 = tt; b0 = tt; misc = tt; srx = tt; grx = tt; arx = tt }
 
 -- CRX has its port by MISC[0]
 pub crx-leads : (v : Selectors) (x : ℕ) → x < 2 → bit 0 (v .misc) ≡ x → T (leads v (portRoad CRX (cond (eqb x 1) 0x3D4 0x3B4) any))
-unfolding leads withIndex finds same indexFlips flips profile storesInto storedBits storedTable otherHalf isPort isOneOf rowAt first matches selects attributeIndex bits register bareFile places
+unfolding leads withIndex finds same indexFlips flips profile storesInto onBoth storedBits storedTable otherHalf isPort isOneOf rowAt first matches selects attributeIndex bits register bareFile places
 crx-leads v =
     by-bit (λ (x : ℕ). bit 0 (v .misc) ≡ x → T (leads v (portRoad CRX (cond (eqb x 1) 0x3D4 0x3B4) any))) (λ e. rw e tt) (λ e. rw e tt)

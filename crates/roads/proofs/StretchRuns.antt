@@ -1,7 +1,7 @@
 -- A stretch of entries of the palette or of the bank, from any entry on: every record is accepted, the entries hold the colours, and all else but
 -- the pointer and the marks is as before. Assumes nothing.
 use Prim.Native.Nat.{ℕ, suc, _+_, _%_, _≤_, _<_}
-use mathlib.Core.Path.{_≡_, refl, sym, ap, ap₂, _∙_, subst}
+use mathlib.Core.Path.{_≡_, refl, sym, ap, ap₂, _∙_, subst, subst₂}
 use mathlib.Core.Bool.{Bool, true, false, cond}
 use mathlib.Core.List.{List, [], _∷_}
 use mathlib.Core.Option.{some}
@@ -12,6 +12,7 @@ use lib.Dec.{T, leb, ltb, leb→le, ltb→lt}
 use lib.ListN.{length}
 use Rattle.bits.proofs.Test.{left, right, both}
 use Rattle.file.specs.declared.answer.Answer.the-variants.{Done}
+use Rattle.file.specs.declared.chip.Chip.{Chip}
 use Rattle.file.specs.declared.palette.Colour.{Colour}
 use Rattle.file.specs.declared.palette.Pointer.{Pointer}
 use Rattle.file.specs.declared.registers.File.{File}
@@ -66,12 +67,12 @@ address-runs f false value s on h = byte-runs f 0xA8 value WriteAddress s on h r
 
 -- ---- three bytes of an entry
 
--- that a file lets colours through is said by its registers
-pub up-as : (f g : File) (bank : Bool) → g .registers ≡ f .registers → T (stateSound (g .state)) → PaletteReady f bank → PaletteReady g bank
+-- that a file lets colours through is said by its registers and its chip
+pub up-as : (f g : File) (bank : Bool) → g .registers ≡ f .registers → g .state .chip ≡ f .state .chip → T (stateSound (g .state)) → PaletteReady f bank → PaletteReady g bank
 unfolding SpacesOn paletteUp inBank register withRegisters
-up-as f g bank e t up =
+up-as f g bank e chip t up =
     record {
-      isSound = sound-by g (subst (λ (rs : List ℕ). T (allWithin storedTable rs)) (sym e) (registers-sound f (up .isSound))) t;
+      isSound = sound-by g (subst₂ (λ (c : Chip) (rs : List ℕ). T (allWithin (storedTable c) rs)) (sym chip) (sym e) (registers-sound f (up .isSound))) t;
       on = subst (λ (rs : List ℕ). SpacesOn (withRegisters rs f)) (sym e) (up .on);
       up = subst (λ (rs : List ℕ). paletteUp (withRegisters rs f) ≡ true) (sym e) (up .up);
       chosen = subst (λ (rs : List ℕ). inBank (withRegisters rs f) ≡ bank) (sym e) (up .chosen);
@@ -81,7 +82,7 @@ up-as f g bank e t up =
 pub step-up : (f : File) (bank : Bool) (p : Pointer) (m : ℕ) → PaletteReady f bank → T (marksSound m) → T (pointerSound p)
     → PaletteReady (withStep p m f) bank
 unfolding withStep
-step-up f bank p m up t h = up-as f (withStep p m f) bank refl (stepping-sound p m (f .state) (both (marksSound m) (pointerSound p) t h)) up
+step-up f bank p m up t h = up-as f (withStep p m f) bank refl refl (stepping-sound p m (f .state) (both (marksSound m) (pointerSound p) t h)) up
 
 pub pixel-runs : (f : File) (bank : Bool) (p : Pointer) (m : ℕ) (value : ℕ) → PaletteReady f bank → T (marksSound m) → T (pointerSound p) → value < 256
     → RunsInto (withStep p m f) (mmioWrite 0xAC value ∷ []) (apply (pixelWrite (withStep p m f) value) (withStep p m f))
@@ -146,6 +147,11 @@ unfolding painted paintIn withBank withPalette
 painted-next true first c cs f = refl
 painted-next false first c cs f = refl
 
+pub painted-chip : (bank : Bool) (first : ℕ) (cs : List Colour) (f : File) → painted bank first cs f .state .chip ≡ f .state .chip
+unfolding painted withBank withPalette
+painted-chip true first cs f = refl
+painted-chip false first cs f = refl
+
 pub painted-registers : (bank : Bool) (first : ℕ) (cs : List Colour) (f : File) → painted bank first cs f .registers ≡ f .registers
 unfolding painted withBank withPalette
 painted-registers true first cs f = refl
@@ -176,7 +182,7 @@ pixels-run (c ∷ cs) f bank first m up s h t =
     (blue-stays cs)
     (subst (λ (g : File). RunsInto (withStep (addressed false (suc first % 256)) writeBlue (paintIn bank first c f)) (pixels cs) g)
     (ap₂ (λ (n : ℕ) (g : File). withStep (addressed false (n % 256)) (marksAfter writeBlue cs) g) onward (painted-next bank first c cs f))
-    (pixels-run cs (paintIn bank first c f) bank (suc first) writeBlue (up-as f (paintIn bank first c f) bank (paint-keeps f bank first c)
+    (pixels-run cs (paintIn bank first c f) bank (suc first) writeBlue (up-as f (paintIn bank first c f) bank (paint-keeps f bank first c) (ap (λ (q : State). q .chip) (paint-keeps-state f bank first c))
     (subst (λ (q : State). T (stateSound q)) (sym (paint-keeps-state f bank first c)) (state-sound f (up .isSound))) up) tt
     (omega arith) (search (left, right)))))
   where

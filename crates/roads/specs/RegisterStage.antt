@@ -8,6 +8,8 @@ use lib.Dec.{T, eqb}
 use lib.ListN.{getD, set}
 use Rattle.bits.specs.Store.{within}
 use Rattle.places.specs.Lookup.{isOneOf}
+use Rattle.file.specs.declared.chip.Chip.{Chip}
+use Rattle.file.specs.declared.chip.Chip.the-variants.{Gd5462, Gd5464}
 use Rattle.file.specs.declared.registers.File.{File}
 use Rattle.file.specs.File.{register, withRegisters, withState}
 use Rattle.file.specs.State.{flipped}
@@ -37,15 +39,24 @@ pub record Ready (w : List ℕ) (f : File) : Type 0 where
 unfoldable pub loose : ℕ → Bool
 loose number = not (isOneOf (PCI04 ∷ CR11 ∷ MISC ∷ []) number)
 
+-- a test that passes on both chips
+unfoldable pub onBoth : (Chip → Bool) → Bool
+onBoth test = test Gd5462 && test Gd5464
+
+-- a number that a register stores on both chips
+unfoldable pub stores : ℕ → ℕ → Bool
+unfolding onBoth
+stores number n = onBoth (λ (chip : Chip). within (storedBits chip number) n)
+
 -- an index that a plan selects, or none
 unfoldable pub selectable : Index → Bool
 selectable any = true
-selectable (sr n) = within (storedBits SRX) n
+selectable (sr n) = stores SRX n
 selectable (cr n) = false
-selectable (gr n) = within (storedBits GRX) n
+selectable (gr n) = stores GRX n
 selectable (ar n) = false
 selectable indexDue = false
-selectable (dataDue n) = within (storedBits ARX) n
+selectable (dataDue n) = stores ARX n
 
 -- a road that a ready file may go
 unfoldable pub passable : Road → Bool

@@ -55,11 +55,12 @@ pub record IsFile (f : File) : Type 0 where
   pub bankBytes : T (bytes (f .bank))
   pub address : f .state .pointer .address < 256
 
--- demand 3: records that are a plan of a wanted file, of which all is restored, the marks too (02, 1/13). Several are; `planRecords` is one
+-- demand 3: records that are a plan of a wanted file, of which all is restored, the marks too (02, 1/13). 02, 6/13: it 'speaks of starts on the wanted
+-- file's chip'. Several are; `planRecords` is one
 pub record Plans (w : File) (records : List Record) : Type 0 where
   pub room : length records ≤ 1024
   pub whole : T (allInBytes records)
-  pub restores : (f : File) → IsFile f → T (sound f) → RunsInto f records w
+  pub restores : (f : File) → IsFile f → T (sound f) → f .state .chip ≡ w .state .chip → RunsInto f records w
 
 -- 'the plan fills the buffer's first 8 bytes times the count, and the rest stays': what a buffer holds before and after
 pub record PlanWritten (w : File) (before after : List ℕ) (count : ℕ) : Type 0 where

@@ -1,4 +1,4 @@
--- 01, 'Places': the roads by which a plan writes each register.
+-- 01, 'Places', and 02, 6/13: the roads by which a plan writes each register.
 -- Assumes nothing.
 use Prim.Native.Nat.{ℕ, suc, _*_}
 use mathlib.Core.Bool.{cond}
@@ -6,8 +6,8 @@ use mathlib.Core.List.{List, [], _∷_, _++_}
 use lib.Dec.{eqb}
 use Rattle.bits.specs.Store.{bit}
 use Rattle.places.specs.Lookup.{isOneOf}
-use Rattle.file.specs.Names.{MISC, SRX, CRX, GRX, ARX, pixelMask, PCI04, SR0, CR0, CR11, GR0, AR0, B0}
-use Rattle.file.specs.Registers.{Register as Stored, sequencer, crtc, graphics, attribute, pipeline}
+use Rattle.file.specs.Names.{MISC, SRX, CRX, GRX, ARX, pixelMask, PCI04, SR0, CR0, CR11, GR0, AR0, B0, buffer0X}
+use Rattle.file.specs.Registers.{Register as Stored, sequencer, crtc, graphics, attribute, pipeline, vPort}
 use Rattle.places.specs.Places.{Index, any, sr, gr, indexDue, dataDue}
 
 -- a road: the register's number; the kind, width and address of the record that writes it; the index that has to be selected first
@@ -61,14 +61,16 @@ toMISC = mmioRoad MISC 1 0x80
 unfoldable pub closingRoads : List Road
 closingRoads = toB0 ∷ toCR11 ∷ toPCI04 ∷ []
 
--- 'pixel mask A0h', 'CRn at 4n', 'the 15 pipeline registers stored below, at their offsets'; '3C4h/3C5h', '3CEh/3CFh', '3C0h .. index or data by the toggle'
+-- 'pixel mask A0h', 'CRn at 4n', 'the 15 pipeline registers stored below, at their offsets', and 02, 6/13, 'a plan sets these registers
+-- too', the V-Port's at theirs; '3C4h/3C5h', '3CEh/3CFh', '3C0h .. index or data by the toggle'
 unfoldable pub registerRoads : List Road
-unfolding eachRoad but isOneOf crtc pipeline sequencer graphics attribute
+unfolding eachRoad but isOneOf crtc pipeline vPort sequencer graphics attribute
 registerRoads =
     but (CR11 ∷ B0 ∷ [])
     (mmioRoad pixelMask 1 0xA0
     ∷ eachRoad (λ (r : Stored) (n : ℕ). mmioRoad n 1 (4 * r .index)) CR0 crtc
     ++ eachRoad (λ (r : Stored) (n : ℕ). mmioRoad n (r .width) (r .index)) B0 pipeline
+    ++ eachRoad (λ (r : Stored) (n : ℕ). mmioRoad n (r .width) (r .index)) buffer0X vPort
     ++ eachRoad (λ (r : Stored) (n : ℕ). portRoad n 0x3C5 (sr (r .index))) SR0 sequencer
     ++ eachRoad (λ (r : Stored) (n : ℕ). portRoad n 0x3CF (gr (r .index))) GR0 graphics
     ++ eachRoad (λ (r : Stored) (n : ℕ). portRoad n 0x3C0 (dataDue (r .index))) AR0 attribute)

@@ -11,10 +11,12 @@ use lib.ListN.{length, take, drop, length-append}
 use lib.Seq.{take-at}
 use Rattle.bits.proofs.Test.{by-test, is-true, or-left, or-right}
 use Rattle.file.specs.declared.answer.Answer.the-variants.{Done}
+use Rattle.file.specs.declared.chip.Chip.{Chip}
 use Rattle.file.specs.declared.registers.File.{File}
 use Rattle.file.specs.Answers.{codeOf, refused}
 use Rattle.file.specs.File.{powerOn}
 use Rattle.file.specs.Sound.{sound}
+use Rattle.file.specs.State.{initial}
 use Rattle.file.proofs.Soundness.{powerOn-sound}
 use Rattle.timing.specs.Timing.{timingIn}
 use Rattle.trace.specs.Records.{items, itemCount}
@@ -83,9 +85,9 @@ unfolding asked partLines itemCount items recordLines
 none-asked true number f = refl
 none-asked false number f = refl
 
-none-after : powerOn ≡ afterPart powerOn []
+none-after : (f : File) → f ≡ afterPart f []
 unfolding afterPart itemCount items fileAfter
-none-after = refl
+none-after f = refl
 
 -- what a turn's buffer holds up to where its lines end is its lines
 pub made : {prints : Bool} {before : Course} {part replies₀ replies lines₀ lines : List ℕ} {r : Turn}
@@ -117,7 +119,7 @@ turn-done before prints part replies₀ replies lines₀ lines p more parted ful
     }
 
 -- a course with more to read has not failed
-pub more-unfailed : {prints : Bool} {trace text : List ℕ} {r : Course} → Turns prints trace text r → r .more ≡ true → r .failed ≡ false
+pub more-unfailed : {chip : Chip} {prints : Bool} {trace text : List ℕ} {r : Course} → Turns chip prints trace text r → r .more ≡ true → r .failed ≡ false
 unfolding beginning courseAfter failedAfter
 more-unfailed none more = refl
 more-unfailed (then part read handed turns brought on) more = refl
@@ -125,36 +127,36 @@ more-unfailed (unread part read turns brought) more = absurd (true≢false (sym 
 more-unfailed (unwritten part read handed turns brought on) more = absurd (true≢false (sym more))
 
 -- what a course without a failure has come to, by the trace that was read
-pub record Stands (prints : Bool) (trace text : List ℕ) (r : Course) : Type 0 where
-  pub file : r .file ≡ afterPart powerOn trace
+pub record Stands (chip : Chip) (prints : Bool) (trace text : List ℕ) (r : Course) : Type 0 where
+  pub file : r .file ≡ afterPart (powerOn chip) trace
   pub number : r .number ≡ itemCount trace
-  pub printed : text ≡ asked prints 0 powerOn trace
+  pub printed : text ≡ asked prints 0 (powerOn chip) trace
   pub whole : r .more ≡ true → length trace % 8192 ≡ 0
   pub last : r .more ≡ false → r .read .count ≡ length trace % 8192
 
-asked-parts : (prints : Bool) (trace part : List ℕ) → length trace % 8 ≡ 0
-    → asked prints 0 powerOn trace ++ asked prints (itemCount trace) (afterPart powerOn trace) part ≡ asked prints 0 powerOn (trace ++ part)
+asked-parts : (prints : Bool) (f : File) (trace part : List ℕ) → length trace % 8 ≡ 0
+    → asked prints 0 f trace ++ asked prints (itemCount trace) (afterPart f trace) part ≡ asked prints 0 f (trace ++ part)
 unfolding asked
-asked-parts true trace part whole = sym (lines-parts trace part whole 0 powerOn ∙ rw zero-add refl)
-asked-parts false trace part whole = refl
+asked-parts true f trace part whole = sym (lines-parts trace part whole 0 f ∙ rw zero-add refl)
+asked-parts false f trace part whole = refl
 
-pub turns-stand : {prints : Bool} {trace text : List ℕ} {r : Course} → Turns prints trace text r → r .failed ≡ false → Stands prints trace text r
+pub turns-stand : {chip : Chip} {prints : Bool} {trace text : List ℕ} {r : Course} → Turns chip prints trace text r → r .failed ≡ false → Stands chip prints trace text r
 unfolding beginning courseAfter failedAfter turnLines itemCount
 turns-stand (unread part read turns brought) e = absurd (true≢false e)
 turns-stand (unwritten part read handed turns brought on) e = absurd (true≢false e)
-turns-stand {prints} none e =
-    record { file = none-after; number = refl; printed = sym (none-asked prints 0 powerOn); whole = λ _. refl; last = λ e. absurd (true≢false e) }
-turns-stand {prints} (then {trace} {text} {before} part read handed turns brought on) e =
+turns-stand {chip} {prints} none e =
+    record { file = none-after (powerOn chip); number = refl; printed = sym (none-asked prints 0 (powerOn chip)); whole = λ _. refl; last = λ e. absurd (true≢false e) }
+turns-stand {chip} {prints} (then {trace} {text} {before} part read handed turns brought on) e =
     let held = turns-stand turns (more-unfailed turns (brought .goes)) in
     let parts : length trace % 8192 ≡ 0 = held .whole (brought .goes) in
     let whole : length trace % 8 ≡ 0 = omega (arith, parts) in
     record {
-      file = ap (λ (f : File). afterPart f part) (held .file) ∙ sym (file-parts trace part whole powerOn);
+      file = ap (λ (f : File). afterPart f part) (held .file) ∙ sym (file-parts trace part whole (powerOn chip));
       number = ap (λ (k : ℕ). k + itemCount part) (held .number) ∙ sym (parts-count trace part whole);
       printed =
           ap₂ (λ (a b : List ℕ). a ++ b) (held .printed)
           (ap₂ (λ (k : ℕ) (f : File). asked prints k f part) (held .number) (held .file))
-          ∙ asked-parts prints trace part whole;
+          ∙ asked-parts prints (powerOn chip) trace part whole;
       whole =
           λ more. let full : length part ≡ 8192 = eqb-true _ _ more in
           rw length-append (omega (arith, parts, full));
@@ -167,23 +169,23 @@ counted-on : (before all : ℕ) (xs ys : List ℕ) → before ≡ length xs % 2 
 counted-on before all xs ys e counts = rw length-append (omega (arith, e, counts))
 
 -- what a course says was read and handed to be written, in all: as many bytes as its trace and its text have
-pub turns-counted : {prints : Bool} {trace text : List ℕ} {r : Course} → Turns prints trace text r
+pub turns-counted : {chip : Chip} {prints : Bool} {trace text : List ℕ} {r : Course} → Turns chip prints trace text r
     → (r .read .all ≡ length trace % 2 ^ 64) × (r .handed .all ≡ length text % 2 ^ 64)
 unfolding beginning courseAfter failedAfter
 turns-counted none = (refl, refl)
 turns-counted (unread {trace} part read turns brought) =
     (counted-on _ _ trace part (turns-counted turns .0) (brought .all), turns-counted turns .1)
-turns-counted {prints} (then {trace} {text} {before} part read handed turns brought on) = (
+turns-counted {chip} {prints} (then {trace} {text} {before} part read handed turns brought on) = (
   counted-on _ _ trace part (turns-counted turns .0) (brought .all),
   counted-on _ _ text (turnLines prints before part) (turns-counted turns .1) (on .all),
 )
-turns-counted {prints} (unwritten {trace} {text} {before} part read handed turns brought on) = (
+turns-counted {chip} {prints} (unwritten {trace} {text} {before} part read handed turns brought on) = (
   counted-on _ _ trace part (turns-counted turns .0) (brought .all),
   counted-on _ _ text (turnLines prints before part) (turns-counted turns .1) (on .all),
 )
 
 -- a course has failed if and only if a read or a write of it has
-pub turns-failed : {prints : Bool} {trace text : List ℕ} {r : Course} → Turns prints trace text r
+pub turns-failed : {chip : Chip} {prints : Bool} {trace text : List ℕ} {r : Course} → Turns chip prints trace text r
     → r .failed ≡ r .read .failed || r .handed .failed
 unfolding beginning courseAfter failedAfter
 turns-failed none = refl
@@ -193,17 +195,17 @@ turns-failed (unwritten part read handed turns brought on) = rw (brought .so, on
 
 -- 01, 'It reads a trace on standard input from power-on. For each record .. Last comes one line': what the turns handed to be written, and
 -- then the timing line of the file that they came to, is what is printed of the trace that they read
-pub turns-replayed : {trace text : List ℕ} {r : Course} → Turns true trace text r → r .failed ≡ false
-    → text ++ timingLine (timingIn (r .file)) ≡ replayed trace
+pub turns-replayed : {chip : Chip} {trace text : List ℕ} {r : Course} → Turns chip true trace text r → r .failed ≡ false
+    → text ++ timingLine (timingIn (r .file)) ≡ replayed chip trace
 unfolding asked replayed replayedFrom partLines afterPart
 turns-replayed turns e =
     let held = turns-stand turns e in
     rw (held .printed, held .file) refl
 
 -- a course that came to its end without a failure is a function of the trace that was read
-pub course-of : {prints : Bool} {r : Course} (c : Came prints r) → r .failed ≡ false → r ≡ courseOf prints (c .trace)
+pub course-of : {chip : Chip} {prints : Bool} {r : Course} (c : Came chip prints r) → r .failed ≡ false → r ≡ courseOf chip prints (c .trace)
 unfolding courseOf
-course-of {prints} {r} c e =
+course-of {chip} {prints} {r} c e =
     let held = turns-stand (c .turns) e in
     let all = turns-counted (c .turns) in
     let none : r .read .failed || r .handed .failed ≡ false = sym (turns-failed (c .turns)) ∙ e in
@@ -220,20 +222,20 @@ course-of {prints} {r} c e =
           };
     }
 
-pub more-sound : {prints : Bool} {trace text : List ℕ} {r : Course} → Turns prints trace text r → r .failed ≡ false → T (sound (r .file))
-more-sound {trace = trace} turns e = rw (turns-stand turns e .file) (part-sound powerOn trace powerOn-sound)
+pub more-sound : {chip : Chip} {prints : Bool} {trace text : List ℕ} {r : Course} → Turns chip prints trace text r → r .failed ≡ false → T (sound (r .file))
+more-sound {chip} {trace = trace} turns e = rw (turns-stand turns e .file) (part-sound (powerOn chip) trace (powerOn-sound chip))
 
 -- a course on its way, with so many turns left: each turn that leaves more to read took 1,024 records
-pub record Coming (prints : Bool) (turns : ℕ) (r : Course) : Type 0 where
+pub record Coming (chip : Chip) (prints : Bool) (turns : ℕ) (r : Course) : Type 0 where
   pub trace : List ℕ
   pub text : List ℕ
-  pub led : Turns prints trace text r
+  pub led : Turns chip prints trace text r
   pub low : r .number < 2 ^ 64
   pub left : r .more ≡ true → r .number + 1024 * turns ≡ 1024 * 18446744073709551615
 
-pub coming-none : (prints : Bool) (r : Course) → r ≡ beginning → Coming prints 18446744073709551615 r
-unfolding beginning
-coming-none prints r e =
+pub coming-none : (chip : Chip) (prints : Bool) (r : Course) → r ≡ beginning chip → Coming (r .file .state .chip) prints 18446744073709551615 r
+unfolding beginning powerOn initial
+coming-none chip prints r e =
     rw e (record { trace = []; text = []; led = none; low = omega arith; left = λ _. refl })
 
 -- a part that was asked for, and what the test of its failure said
@@ -254,8 +256,8 @@ abbrev withHanded : Handed → Course → Course
 withHanded handed c = record { file = c .file; number = c .number; more = c .more; failed = c .failed; read = c .read; handed = handed }
 
 -- a turn that was taken: its part was read, and its lines were handed on
-module _ {prints : Bool} {turns : ℕ} {before : Course} (read : Filled) (part replies₀ replies lines₀ lines : List ℕ) (r : Turn) (handed : Handed)
-    (come : Coming prints turns before) (turned : Turned (withRead read before) prints part replies₀ replies lines₀ lines r)
+module _ {chip : Chip} {prints : Bool} {turns : ℕ} {before : Course} (read : Filled) (part replies₀ replies lines₀ lines : List ℕ) (r : Turn) (handed : Handed)
+    (come : Coming chip prints turns before) (turned : Turned (withRead read before) prints part replies₀ replies lines₀ lines r)
     (brought : Brought false before part read)
     (all : handed .all ≡ counted (r .course .handed .all) (length (take (r .end) lines))) where
   after : withHanded handed (r .course) ≡ courseAfter read handed before part
@@ -271,7 +273,7 @@ module _ {prints : Bool} {turns : ℕ} {before : Course} (read : Filled) (part r
         so = so;
       }
 
-  pub coming-on : handed .failed ≡ false → 0 < turns → r .course .number < 2 ^ 64 → Coming prints (turns - 1) (withHanded handed (r .course))
+  pub coming-on : handed .failed ≡ false → 0 < turns → r .course .number < 2 ^ 64 → Coming chip prints (turns - 1) (withHanded handed (r .course))
   unfolding courseAfter itemCount
   coming-on written some low =
       record {
@@ -286,7 +288,7 @@ module _ {prints : Bool} {turns : ℕ} {before : Course} (read : Filled) (part r
       }
 
   -- its lines were not written
-  pub came-unwritten : handed .failed ≡ true → (c : Course) → c ≡ failedAfter (withHanded handed (r .course)) → Came prints c
+  pub came-unwritten : handed .failed ≡ true → (c : Course) → c ≡ failedAfter (withHanded handed (r .course)) → Came chip prints c
   unfolding failedAfter courseAfter
   came-unwritten unwrote c e =
       record {
@@ -297,15 +299,15 @@ module _ {prints : Bool} {turns : ℕ} {before : Course} (read : Filled) (part r
       }
 
 -- no run uses up its turns
-pub coming-ended : {prints : Bool} {r : Course} → Coming prints 0 r → r .more ≡ false
+pub coming-ended : {chip : Chip} {prints : Bool} {r : Course} → Coming chip prints 0 r → r .more ≡ false
 coming-ended {r = r} come = by-test (r .more) (λ e. absurd (omega (arith, come .left e, come .low))) (λ e. e)
 
 -- a read that failed
-pub came-unread : {prints : Bool} {turns : ℕ} {before : Course} (part : List ℕ) (read : Filled) (r : Course) → Coming prints turns before
-    → Brought true before part read → r ≡ failedAfter (withRead read before) → Came prints r
+pub came-unread : {chip : Chip} {prints : Bool} {turns : ℕ} {before : Course} (part : List ℕ) (read : Filled) (r : Course) → Coming chip prints turns before
+    → Brought true before part read → r ≡ failedAfter (withRead read before) → Came chip prints r
 unfolding failedAfter
 came-unread part read r come brought e =
     record { trace = come .trace ++ part; text = come .text; turns = rw e (unread part read (come .led) brought); ended = rw e refl }
 
-pub came : {prints : Bool} {turns : ℕ} {r : Course} → Coming prints turns r → r .more ≡ false → Came prints r
+pub came : {chip : Chip} {prints : Bool} {turns : ℕ} {r : Course} → Coming chip prints turns r → r .more ≡ false → Came chip prints r
 came come e = record { trace = come .trace; text = come .text; turns = come .led; ended = e }

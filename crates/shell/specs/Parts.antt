@@ -7,6 +7,7 @@ use mathlib.Core.Path.{_≡_}
 use lib.Dec.{eqb}
 use lib.ListN.{length, drop}
 use Rattle.file.specs.declared.answer.Answer.the-variants.{Done}
+use Rattle.file.specs.declared.chip.Chip.{Chip}
 use Rattle.file.specs.declared.registers.File.{File}
 use Rattle.file.specs.File.{powerOn}
 use Rattle.trace.specs.Records.{itemCount}
@@ -67,11 +68,11 @@ pub record Turned (before : Course) (prints : Bool) (part replies₀ replies lin
   pub replied : replies ≡ partReplies (before .file) part ++ drop (8 * itemCount part) replies₀
   pub printed : lines ≡ turnLines prints before part ++ drop (r .end) lines₀
 
--- 'It reads a trace on standard input from power-on'
-unfoldable pub beginning : Course
-beginning =
+-- 'It reads a trace on standard input from power-on'; 02, 6/13: of a chip
+unfoldable pub beginning : Chip → Course
+beginning chip =
     record {
-      file = powerOn;
+      file = powerOn chip;
       number = 0;
       more = true;
       failed = false;
@@ -92,34 +93,34 @@ pub record HandedOn (failed prints : Bool) (before : Course) (part : List ℕ) (
   pub all : handed .all ≡ counted (before .handed .all) (length (turnLines prints before part))
   pub so : handed .failed ≡ failed
 
--- a course that turns led to, each from the one before, with the trace that they read and the text that they handed to be written. What
+-- a course that turns led to from power-on, each from the one before, with the trace that they read and the text that they handed to be written. What
 -- came back of reading and of writing stands in it. A read or a write that fails is its last
-pub data Turns (prints : Bool) : List ℕ → List ℕ → Course → Type 0 where
-  none : Turns prints [] [] beginning
-  then : {trace text : List ℕ} {before : Course} (part : List ℕ) (read : Filled) (handed : Handed) → Turns prints trace text before
+pub data Turns (chip : Chip) (prints : Bool) : List ℕ → List ℕ → Course → Type 0 where
+  none : Turns chip prints [] [] (beginning chip)
+  then : {trace text : List ℕ} {before : Course} (part : List ℕ) (read : Filled) (handed : Handed) → Turns chip prints trace text before
       → Brought false before part read → HandedOn false prints before part handed
-      → Turns prints (trace ++ part) (text ++ turnLines prints before part) (courseAfter read handed before part)
-  unread : {trace text : List ℕ} {before : Course} (part : List ℕ) (read : Filled) → Turns prints trace text before
-      → Brought true before part read → Turns prints (trace ++ part) text (failedAfter (withRead read before))
-  unwritten : {trace text : List ℕ} {before : Course} (part : List ℕ) (read : Filled) (handed : Handed) → Turns prints trace text before
+      → Turns chip prints (trace ++ part) (text ++ turnLines prints before part) (courseAfter read handed before part)
+  unread : {trace text : List ℕ} {before : Course} (part : List ℕ) (read : Filled) → Turns chip prints trace text before
+      → Brought true before part read → Turns chip prints (trace ++ part) text (failedAfter (withRead read before))
+  unwritten : {trace text : List ℕ} {before : Course} (part : List ℕ) (read : Filled) (handed : Handed) → Turns chip prints trace text before
       → Brought false before part read → HandedOn true prints before part handed
-      → Turns prints (trace ++ part) (text ++ turnLines prints before part) (failedAfter (courseAfter read handed before part))
+      → Turns chip prints (trace ++ part) (text ++ turnLines prints before part) (failedAfter (courseAfter read handed before part))
 
 -- the course that a whole trace leads to if nothing fails
-unfoldable pub courseOf : Bool → List ℕ → Course
-courseOf prints trace =
+unfoldable pub courseOf : Chip → Bool → List ℕ → Course
+courseOf chip prints trace =
     record {
-      file = afterPart powerOn trace;
+      file = afterPart (powerOn chip) trace;
       number = itemCount trace;
       more = false;
       failed = false;
       read = record { count = length trace % 8192; failed = false; all = length trace % 2 ^ 64 };
-      handed = record { all = length (asked prints 0 powerOn trace) % 2 ^ 64; failed = false };
+      handed = record { all = length (asked prints 0 (powerOn chip) trace) % 2 ^ 64; failed = false };
     }
 
 -- the course that a run comes to: by some turns, until there is no more to read. Which bytes the system reads and writes no contract says
-pub record Came (prints : Bool) (r : Course) : Type 0 where
+pub record Came (chip : Chip) (prints : Bool) (r : Course) : Type 0 where
   pub trace : List ℕ
   pub text : List ℕ
-  pub turns : Turns prints trace text r
+  pub turns : Turns chip prints trace text r
   pub ended : r .more ≡ false

@@ -13,6 +13,7 @@ use crate::reading::read_some;
 use crate::telling::Handed;
 use crate::telling::nothing_handed;
 use crate::telling::write_out;
+use file::Chip;
 use file::File;
 use replaying::Part;
 use replaying::replay_part;
@@ -63,9 +64,9 @@ fn run_part(
     }
 }
 
-// The course from power-on, before anything is read.
-fn begin() -> Course
-    ensures { λ r. ⌜ r ≡ beginning ⌝ }
+// The course from a chip's power-on, before anything is read.
+fn begin(chip: Chip) -> Course
+    ensures { λ r. ⌜ r ≡ beginning chip ⌝ }
 {
     Course {
         number: 0,
@@ -73,7 +74,7 @@ fn begin() -> Course
         failed: false,
         read: nothing_read(),
         handed: nothing_handed(),
-        file: File::power_on(),
+        file: File::power_on(chip),
     }
 }
 
@@ -120,14 +121,14 @@ fn run_some(
     }
 }
 
-// The whole of a trace. A proved loop has to end, so this one counts its turns down, from a number that no run uses up.
-pub fn run_input(program: &[u8], prints: bool) -> Course
-    ensures { λ r. ⌜ Came prints r ⌝ }
+// The whole of a trace, on a chip. A proved loop has to end, so this one counts its turns down, from a number that no run uses up.
+pub fn run_input(program: &[u8], chip: Chip, prints: bool) -> Course
+    ensures { λ r. ⌜ Came chip prints r ⌝ }
 {
     let mut trace = [0u8; 8192];
     let mut replies = [0u8; 8192];
     let mut lines = [0u8; 32768];
-    let mut course = begin();
+    let mut course = begin(chip);
     let mut turns = u64::MAX;
     while turns > 0 && course.more {
         let read = read_some(program, course.number, course.read, &mut trace);

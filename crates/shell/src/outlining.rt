@@ -1,12 +1,17 @@
-// Outline: the cursor and window 2 of the file that a trace ends in, a line each.
+// Outline: the cursor, window 2 and the capture window of the file that a trace ends in, a line each.
 ghost use mathlib.Core.Path.{_≡_};
 use crate::course::run_input;
 use crate::telling::Handed;
+use crate::telling::choose_chip;
 use crate::telling::write_out;
+use choosing::Chosen;
+use file::Chip;
+use geometry::Capture;
 use geometry::Cursor;
 use geometry::Window;
 use geometry::magnitude;
 use geometry::read_geometry;
+use text::capture_line;
 use text::cursor_line;
 use text::window2_line;
 
@@ -53,6 +58,17 @@ fn put_window(window: Window, lines: &mut [u8], at: usize) -> usize {
     window2_line(lines, at, numbers).end
 }
 
+// The line of the capture window from a place of a buffer on, and where it ends.
+fn put_capture(capture: Capture, lines: &mut [u8], at: usize) -> usize {
+    let numbers = [
+        widened(capture.xstart.0),
+        widened(capture.xstop.0),
+        widened(capture.ystart.0),
+        widened(capture.ystop.0),
+    ];
+    capture_line(lines, at, numbers).end
+}
+
 // So many bytes from the start of a buffer on, which has them.
 fn write_first(before: Handed, lines: &[u8], end: usize) {
     if end <= lines.len() {
@@ -60,15 +76,25 @@ fn write_first(before: Handed, lines: &[u8], end: usize) {
     }
 }
 
-// Runs the trace on standard input from power-on and prints the cursor and window 2 of the file that it ends in on standard output.
-pub fn outline() {
-    let course = run_input(b"geometry", false);
+// Runs the trace on standard input from a chip's power-on and prints the cursor, window 2 and the capture window of the file that it ends in
+// on standard output.
+fn outline_on(chip: Chip) {
+    let course = run_input(b"geometry", chip, false);
     if course.failed {
         return;
     }
     let read = read_geometry(course.file);
     let mut lines = [0u8; 256];
     let at = put_cursor(read.cursor, &mut lines);
-    let end = put_window(read.window, &mut lines, at);
+    let at = put_window(read.window, &mut lines, at);
+    let end = put_capture(read.capture, &mut lines, at);
     write_first(course.handed, &lines, end);
+}
+
+// The same on the chip that the program's words choose.
+pub fn outline() {
+    let chosen = choose_chip(b"geometry");
+    if let Chosen::On(chip) = chosen {
+        outline_on(chip);
+    }
 }

@@ -10,7 +10,10 @@ ghost use Rattle.timing.specs.Timing.{timingIn};
 ghost use Rattle.replaying.specs.Replay.{timingMost};
 ghost use Rattle.text.specs.Text.{timingLine};
 use crate::course::run_input;
+use crate::telling::choose_chip;
 use crate::telling::write_out;
+use choosing::Chosen;
+use file::Chip;
 use file::File;
 use replaying::TIMING_MOST;
 
@@ -25,13 +28,21 @@ fn timing_end(file: File, line: &mut [u8]) -> usize
     text::timing_line(line, 0, timing::read_timing(file).timing).end
 }
 
-// Runs the trace on standard input from power-on and prints what 01 says on standard output.
-pub fn replay() {
-    let course = run_input(b"replay", true);
+// Runs the trace on standard input from a chip's power-on and prints what 01 says on standard output.
+fn replay_on(chip: Chip) {
+    let course = run_input(b"replay", chip, true);
     if course.failed {
         return;
     }
     let mut line = [0u8; TIMING_MOST];
     let end = timing_end(course.file, &mut line);
     write_out(b"replay", course.handed, &line[..end]);
+}
+
+// The same on the chip that the program's words choose.
+pub fn replay() {
+    let chosen = choose_chip(b"replay");
+    if let Chosen::On(chip) = chosen {
+        replay_on(chip);
+    }
 }

@@ -1,6 +1,9 @@
 // Snapshot: reads a trace and writes the plan of the file after it.
 use crate::course::run_input;
+use crate::telling::choose_chip;
 use crate::telling::write_out;
+use choosing::Chosen;
+use file::Chip;
 use libc::STDERR_FILENO;
 
 // A refusal in words, with its code.
@@ -16,9 +19,9 @@ fn tell_refusal(code: u8) {
     io::write_all(STDERR_FILENO, b"\n");
 }
 
-// Runs the trace on standard input from power-on and writes the plan of the file that it ends in, as bytes, on standard output.
-pub fn snapshot() {
-    let course = run_input(b"snapshot", false);
+// Runs the trace on standard input from a chip's power-on and writes the plan of the file that it ends in, as bytes, on standard output.
+fn snapshot_on(chip: Chip) {
+    let course = run_input(b"snapshot", chip, false);
     if course.failed {
         return;
     }
@@ -32,4 +35,12 @@ pub fn snapshot() {
     }
     let size = 8 * planned.count;
     write_out(b"snapshot", course.handed, &buffer[..size]);
+}
+
+// The same on the chip that the program's words choose.
+pub fn snapshot() {
+    let chosen = choose_chip(b"snapshot");
+    if let Chosen::On(chip) = chosen {
+        snapshot_on(chip);
+    }
 }

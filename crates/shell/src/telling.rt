@@ -3,6 +3,8 @@ ghost use mathlib.Core.Bool.{false};
 ghost use mathlib.Core.Path.{_≡_};
 ghost use lib.ListN.{length};
 ghost use Rattle.shell.specs.Parts.{counted};
+use choosing::Chosen;
+use choosing::choose;
 use libc::STDERR_FILENO;
 use libc::STDOUT_FILENO;
 use std::num::wrapping_add_u64;
@@ -58,4 +60,16 @@ impl Handed {
     {
         self.failed
     }
+}
+
+// The chip that a program is started for; where its words name none, that is told.
+pub fn choose_chip(program: &[u8]) -> Chosen {
+    let chosen = choose();
+    if let Chosen::Unknown = chosen {
+        tell(
+            program,
+            b": unknown chip or option: it is --chip 5462 or --chip 5464",
+        );
+    }
+    chosen
 }

@@ -81,3 +81,7 @@ cursorLine leftMinus topMinus numbers = numbersLine (ascii "cursor") (false ∷ 
 -- and enabled, video format, left, top, right, bottom, empty, the fault mark and the two BLT scanlines
 unfoldable pub window2Line : List ℕ → List ℕ
 window2Line numbers = numbersLine (ascii "window2") [] numbers
+
+-- 02, 6/13: the capture geometry, start and stop across, and start and stop down
+unfoldable pub captureLine : List ℕ → List ℕ
+captureLine numbers = numbersLine (ascii "capture") [] numbers

@@ -7,6 +7,7 @@ mod placed;
 pub use line::numbers_fit;
 pub use line::record_line;
 pub use line::reply_lines;
+pub use numbers::capture_line;
 pub use numbers::cursor_line;
 pub use numbers::plain_text;
 pub use numbers::spaced_numbers;

@@ -1,4 +1,4 @@
-// A line of a word and numbers: the timing line, and those of the cursor and of window 2; and the parts of such a line by themselves.
+// A line of a word and numbers: the timing line, and those of the cursor, of window 2 and of the capture window; and the parts of such a line by themselves.
 ghost use mathlib.Core.Path.{_≡_};
 ghost use mathlib.Core.Bool.{false};
 ghost use mathlib.Core.List.{_++_};
@@ -6,7 +6,7 @@ ghost use Prim.Native.Nat.{_+_, _≤_};
 ghost use lib.Dec.{leb};
 ghost use lib.ListN.{length, getD};
 ghost use Rattle.text.specs.Lent.{Lined, Wrote, roomAnswer};
-ghost use Rattle.text.specs.Text.{cursorLine, numbersLine, signed, space, spaced, timingLine, window2Line};
+ghost use Rattle.text.specs.Text.{captureLine, cursorLine, numbersLine, signed, space, spaced, timingLine, window2Line};
 use crate::number::byte;
 use crate::number::places;
 use crate::number::spell;
@@ -44,6 +44,14 @@ pub fn window2_line(buffer: &mut [u8], at: usize, numbers: [u32; 10]) -> Placed
 {
     let minus: [bool; 0] = [];
     numbers_line(buffer, at, b"window2", &minus, &numbers)
+}
+
+// The word capture, and start and stop across, in pixel clocks, and down, in incoming scanlines.
+pub fn capture_line(buffer: &mut [u8], at: usize, numbers: [u32; 4]) -> Placed
+    ensures { λ r. ⌜ Lined (roomAnswer (now (buffer .entry)) at (captureLine numbers)) at (captureLine numbers) (now (buffer .entry)) (now (buffer .exit)) r ⌝ }
+{
+    let minus: [bool; 0] = [];
+    numbers_line(buffer, at, b"capture", &minus, &numbers)
 }
 
 // A text, from a place of the buffer on; code 11 where it has no room.

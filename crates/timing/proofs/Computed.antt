@@ -14,6 +14,7 @@ use Rattle.bits.specs.Reach.{piecesReach, disjoint, present, piecesOf, tableRea
 use Rattle.bits.specs.Store.{store, within}
 use Rattle.bits.specs.Words.{most, bounded, readWords}
 use Rattle.bits.proofs.Bounded.{words-numbers, read-below, read-first}
+use Rattle.file.specs.declared.chip.Chip.{Chip}
 use Rattle.file.specs.Names.{CR1A, CR1B}
 use Rattle.file.specs.Registers.{registerCount, storedBits, storedTable, registers, singles, sequencer, crtc, graphics, attribute, pipeline}
 use Rattle.timing.specs.Promises.{storable, free, unused}
@@ -60,11 +61,11 @@ numbers-below w registers k h =
     (ap (λ (l : List ℕ). getD l k 0) (read-first 0 (table w) registers 14) ∙ getD-take 14 (readFrom 0 (table w) registers) k 0 h)
     (read-below (2 ^ 16) 0 (take 14 (table w)) registers (first-bounded w) k (omega (arith, first-count w)))
 
--- its pieces lie in stored bits
-pub table-stored : (w : Bool) → T (storable (piecesOf (table w)))
+-- its pieces lie in stored bits, which both chips share
+pub table-stored : (chip : Chip) (w : Bool) → T (storable chip (piecesOf (table w)))
 unfolding storable piecesOf pieceReach table within store storedBits storedTable registers singles sequencer crtc graphics attribute pipeline
-table-stored true = tt
-table-stored false = tt
+table-stored chip true = tt
+table-stored chip false = tt
 
 -- and no number has a bit of the list `free`
 pub table-unused : (w : Bool) → T (unused (table w) free)

@@ -112,7 +112,7 @@ wide-kept f t =
 pub timing-sound : (f : File) (t : Timing) → T (sound f) → T (sound (writeTiming f t .file))
 unfolding withTiming
 timing-sound f t s =
-    after-writer (λ (g : File). T (sound g)) f t s (written-sound (table (wide f)) (numbersOf t) f (table-stored (wide f)) s)
+    after-writer (λ (g : File). T (sound g)) f t s (written-sound (table (wide f)) (numbersOf t) f (table-stored (f .state .chip) (wide f)) s)
 
 fits : (f : File) → T (sound f) → T (fitting (length (f .registers)) (table (wide f)))
 fits f s =

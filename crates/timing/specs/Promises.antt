@@ -10,6 +10,7 @@ use Rattle.bits.specs.Numbers.{Number, allInRange}
 use Rattle.bits.specs.Pieces.{Piece, pieceReach}
 use Rattle.bits.specs.Reach.{tableReach}
 use Rattle.bits.specs.Store.{bit, within}
+use Rattle.file.specs.declared.chip.Chip.{Chip}
 use Rattle.file.specs.declared.registers.File.{File}
 use Rattle.file.specs.File.{register, crtcLocked}
 use Rattle.file.specs.Names.{CR3, CR5, CR9, CR11, CR1A, CR1B}
@@ -25,10 +26,10 @@ pub record Passes (f : File) (t : Timing) : Type 0 where
   pub unlocked : crtcLocked f ≡ false
   pub ranged : T (allInRange (table (wide f)) (numbersOf t))
 
--- each piece lies in stored bits
-unfoldable pub storable : List Piece → Bool
-storable [] = true
-storable (p ∷ ps) = within (storedBits (p .register)) (pieceReach p) && storable ps
+-- each piece lies in a chip's stored bits
+unfoldable pub storable : Chip → List Piece → Bool
+storable chip [] = true
+storable chip (p ∷ ps) = within (storedBits chip (p .register)) (pieceReach p) && storable chip ps
 
 -- bits of the table's registers that belong to no number
 pub record Free : Type 0 where

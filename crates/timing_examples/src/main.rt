@@ -1,8 +1,9 @@
-// 01's examples P9 to P11, run over the compiled code and printed.
+// 01's examples P9 to P11, run over the compiled code and printed, on each chip.
 ghost use mathlib.Core.Path.{_≡_};
 ghost use Prim.Native.Nat.{_+_, _^_, _<_};
 ghost use Rattle.paper.specs.Examples.{blanked as blankedNumbers, mode12, started};
 ghost use Rattle.timing.specs.Timing.{timingOf};
+use file::Chip;
 use file::File;
 use libc::STDOUT_FILENO;
 use paper::opened;
@@ -14,10 +15,10 @@ use timing::read_timing;
 use timing::write_timing;
 
 // P9: 'IBM mode 12h'.
-fn mode_12h() -> File
-    ensures { λ r. ⌜ r ≡ started mode12 ⌝ }
+fn mode_12h(chip: Chip) -> File
+    ensures { λ r. ⌜ r ≡ started chip mode12 ⌝ }
 {
-    let file = opened();
+    let file = opened(chip);
     let file = set_register(file, 49, 0xFF); // CR18
     let file = set_register(file, 47, 0x04); // CR16
     let file = set_register(file, 46, 0xE7); // CR15
@@ -91,16 +92,23 @@ fn print_cursor(file: File) {
     io::write_all(STDOUT_FILENO, b"\n");
 }
 
-fn main() {
+fn print_examples(chip: Chip) {
     io::write_all(STDOUT_FILENO, b"P9\n");
-    print_timing(mode_12h());
+    print_timing(mode_12h(chip));
     io::write_all(STDOUT_FILENO, b"P10\n");
-    print_written(opened(), blanked(64));
-    print_written(opened(), blanked(65));
-    let wide = set_register(opened(), 52, 0x20); // CR1B
+    print_written(opened(chip), blanked(64));
+    print_written(opened(chip), blanked(65));
+    let wide = set_register(opened(chip), 52, 0x20); // CR1B
     print_written(wide, blanked(256));
     print_written(wide, blanked(257));
     io::write_all(STDOUT_FILENO, b"P11\n");
-    let preset = set_register(opened(), 97, 0x0A00); // E4
+    let preset = set_register(opened(chip), 97, 0x0A00); // E4
     print_cursor(set_register(preset, 95, 0x0005)); // E0
+}
+
+fn main() {
+    io::write_all(STDOUT_FILENO, b"5464\n");
+    print_examples(Chip::Gd5464);
+    io::write_all(STDOUT_FILENO, b"5462\n");
+    print_examples(Chip::Gd5462);
 }

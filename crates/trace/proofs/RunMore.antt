@@ -13,7 +13,7 @@ use Rattle.access.specs.declared.record.Item.the-variants.{Whole, Fragment}
 use Rattle.access.specs.Access.{accessItem, recordIn, replyTo}
 use Rattle.trace.specs.Records.{itemOf, items, replyBytes}
 use Rattle.trace.specs.Run.{fileAfter, replies}
-use Rattle.access.proofs.Soundness.{access-sound}
+use Rattle.access.proofs.Soundness.{access-sound, access-chip}
 
 eight : (n : ℕ) → 8 + 8 * n ≡ 8 * suc n
 eight n = omega arith
@@ -64,3 +64,14 @@ pub run-sound : (f : File) (is : List Item) → T (sound f) → T (sound (fileAf
 unfolding fileAfter
 run-sound f [] s = s
 run-sound f (i ∷ is) s = run-sound (accessItem f i .file) is (item-sound f i s)
+
+-- 02, 6/13: no item changes the chip
+pub item-chip : (f : File) (i : Item) → accessItem f i .file .state .chip ≡ f .state .chip
+unfolding accessItem
+item-chip f (Whole r) = access-chip f r
+item-chip f (Fragment r) = refl
+
+pub run-chip : (f : File) (is : List Item) → fileAfter f is .state .chip ≡ f .state .chip
+unfolding fileAfter
+run-chip f [] = refl
+run-chip f (i ∷ is) = run-chip (accessItem f i .file) is ∙ item-chip f i

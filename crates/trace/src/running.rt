@@ -153,7 +153,7 @@ fn serve(
     state: State,
     asked: Record,
 ) -> Served
-    requires { ⌜ (now cells ≡ cellTable) × (now stored ≡ storedTable) × T (sound (seen (now registers) state)) ⌝ }
+    requires { ⌜ (now cells ≡ cellTable) × (now stored ≡ storedTable (state .chip)) × T (sound (seen (now registers) state)) ⌝ }
     ensures { λ r. ⌜ Serves (seen (now (registers .entry)) state) asked (now (registers .exit)) r ⌝ }
 {
     let decision = decide(cells, stored, registers, state, asked);
@@ -174,7 +174,8 @@ fn run_whole(whole: File, trace: &[u8], replies: &mut [u8], count: usize) -> Fil
     let mut bank = whole.bank;
     let mut state = whole.state;
     let cells = places::cells();
-    let stored = File::stored();
+    let chip = state.chip;
+    let stored = File::stored(chip);
     for n in 0..count {
         let asked = record_at(trace, 8 * n);
         let served = serve(&cells, &stored, &mut registers, state, asked);

@@ -18,8 +18,8 @@ returns c = cc (c .store .ensures, c .before .stored-bits .ensures)
 returns-2 : tie.Need-returns-2
 unfolding setRegister storeIn withRegisters register
 returns-2 c =
-    let beyond : length (c .before .args .file .registers) ≤ c .before .args .number =
-    omega (arith, registers-count (c .before .args .file) _ (c .before .good .0)) in
+    let beyond : length (c .before .before .args .file .registers) ≤ c .before .before .args .number =
+    omega (arith, registers-count (c .before .before .args .file) _ (c .before .before .good .0)) in
     rw set-out
 
 pub set-register-spec : {M : Type 1} → statement M

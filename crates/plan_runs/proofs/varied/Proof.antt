@@ -7,10 +7,10 @@ use Rattle.plan_runs.proofs.varied.Statement.{statement}
 use Rattle.plan_runs.proofs.varied.Tie as tie
 
 abbrev Inv-loop : tie.InvT-loop
-Inv-loop palette₀ bank₀ i₀ palette bank i = (i ≤ 256) × (length palette ≡ 256) × (length bank ≡ 16)
+Inv-loop chip palette₀ bank₀ i₀ palette bank i = (i ≤ 256) × (length palette ≡ 256) × (length bank ≡ 16)
 
 abbrev μ-loop : tie.MeasureT-loop
-μ-loop palette₀ bank₀ i₀ palette bank i = 256 - i
+μ-loop chip palette₀ bank₀ i₀ palette bank i = 256 - i
 
 pub varied-spec : {M : Type 1} → statement M
 varied-spec =

@@ -8,10 +8,10 @@ use Rattle.plan_runs.proofs.varied_registers.Statement.{statement}
 use Rattle.plan_runs.proofs.varied_registers.Tie as tie
 
 abbrev Inv-loop : tie.InvT-loop
-Inv-loop registers₀ i₀ registers i = (i ≤ registerCount) × (length registers ≡ registerCount)
+Inv-loop chip registers₀ i₀ registers i = (i ≤ registerCount) × (length registers ≡ registerCount)
 
 abbrev μ-loop : tie.MeasureT-loop
-μ-loop registers₀ i₀ registers i = registerCount - i
+μ-loop chip registers₀ i₀ registers i = registerCount - i
 
 pub varied-registers-spec : {M : Type 1} → statement M
 varied-registers-spec =

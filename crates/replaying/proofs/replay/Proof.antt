@@ -18,7 +18,7 @@ returns c =
     let args = c .before .before .before .before .before .before .args in
     let short =
     ap (λ (k : ℕ). recordsFit k timingMost (length (now (args .replies))) (length (now (args .lines)))) (sym (c .before .before .item-count .ensures)) ∙ sym (c .before .records-fit .ensures) ∙ not-true _ (c .if1 .taken) in
-    not-replayed (now (args .trace)) (now (args .replies)) (now (args .lines)) short
+    not-replayed (args .chip) (now (args .trace)) (now (args .replies)) (now (args .lines)) short
 
 returns-2 : tie.Need-returns-2
 unfolding timingMost itemCount
@@ -28,7 +28,7 @@ returns-2 c =
     let room =
     ap (λ (k : ℕ). recordsFit k timingMost (length (now (args .replies))) (length (now (args .lines)))) (sym (c .before .before .before .before .before .before .before .before .before .before .before .before .before .before .before .before .item-count .ensures)) ∙ sym (c .before .before .before .before .before .before .before .before .before .before .before .before .before .before .before .records-fit .ensures) ∙ not-false _ (c .before .before .before .before .before .before .before .before .before .before .before .before .before .before .if1 .left) in
     let part = c .before .before .before .before .before .before .before .before .before .before .replay-part in
-    whole-replayed (now (args .trace)) (now (args .replies)) (now (args .lines)) room (omega arith) (part .result) _ _ (rw (c .before .before .before .before .before .before .before .before .before .before .before .before .before .power-on .ensures) at (part .ensures)) (c .before .before .before .read-timing .result) (c .before .before .before .read-timing .ensures) _ _ (c .before .before .timing-line .ensures)
+    whole-replayed (args .chip) (now (args .trace)) (now (args .replies)) (now (args .lines)) room (omega arith) (part .result) _ _ (rw (c .before .before .before .before .before .before .before .before .before .before .before .before .before .power-on .ensures) at (part .ensures)) (c .before .before .before .read-timing .result) (c .before .before .before .read-timing .ensures) _ _ (c .before .before .timing-line .ensures)
 
 pub replay-spec : {M : Type 1} → statement M
 replay-spec =

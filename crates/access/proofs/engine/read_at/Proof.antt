@@ -76,6 +76,14 @@ returns-12 : tie.Need-returns-12
 unfolding profile decidedRead readAnswer readEffect readsPixel refused codeOf seen register
 returns-12 c = rw (c .before .enum-told9 .given .1) (c .only10 .ensures)
 
+returns-13 : tie.Need-returns-13
+unfolding profile decidedRead readAnswer readEffect readsPixel refused codeOf seen register
+returns-13 c = rw (c .before .before .enum-told10 .given .1, ← c .before .device-id .ensures) (c .only11 .ensures)
+
+returns-14 : tie.Need-returns-14
+unfolding profile decidedRead readAnswer readEffect readsPixel refused codeOf seen register
+returns-14 c = rw (c .before .before .enum-told11 .given .1, ← c .before .v-port-state .ensures) (c .only12 .ensures)
+
 pub read-at-spec : {M : Type 1} → statement M
 read-at-spec =
     tie.close
@@ -84,5 +92,6 @@ read-at-spec =
     (λ c. search needs) (λ c κs. search needs) (λ c. search needs) (λ c κs. search needs) (λ c κs. search needs) (λ c. search needs)
     (λ c κs. search needs) (λ c κs. search needs) (λ c. search needs) (λ c. search needs) (λ c κs. search needs) (λ c. search needs)
     (λ c κs. search needs) (λ c. search needs) (λ c κs. search needs) (λ c. search needs) (λ c κs. search needs) (λ c. search needs)
+    (λ c κs. search needs) (λ c. search needs) (λ c κs. search needs) (λ c κs. search needs) (λ c. search needs) (λ c κs. search needs)
     (λ c κs. search needs) returns returns-2 returns-3 returns-4 returns-5 returns-6 returns-7 returns-8 returns-9 returns-10 returns-11
-    returns-12)
+    returns-12 returns-13 returns-14)

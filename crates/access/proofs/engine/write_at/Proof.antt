@@ -64,6 +64,14 @@ returns-12 : tie.Need-returns-12
 unfolding profile decidedWrite writeAnswer writeEffect taken lockedOut crtcLocked reachBy refused codeOf seen register
 returns-12 c = rw (c .before .enum-told10 .given .1) (c .only5 .ensures)
 
+returns-13 : tie.Need-returns-13
+unfolding profile decidedWrite writeAnswer writeEffect taken lockedOut crtcLocked reachBy refused codeOf seen register
+returns-13 c = rw (c .before .enum-told11 .given .1) (c .only6 .ensures)
+
+returns-14 : tie.Need-returns-14
+unfolding profile decidedWrite writeAnswer writeEffect taken lockedOut crtcLocked reachBy refused codeOf seen register
+returns-14 c = rw (c .before .enum-told12 .given .1) (c .write-register4 .ensures)
+
 pub write-at-spec : {M : Type 1} → statement M
 write-at-spec =
     tie.close
@@ -71,5 +79,5 @@ write-at-spec =
     (λ c κs. search needs) (λ c. search needs) (λ c κs. search needs) (λ c κs. search needs) (λ c κs. search needs) (λ c. search needs)
     (λ c κs. search needs) (λ c κs. search needs) (λ c κs. search needs) (λ c. search needs) (λ c κs. search needs) (λ c. search needs)
     (λ c. search needs) (λ c κs. search needs) (λ c. search needs) (λ c κs. search needs) (λ c. search needs) (λ c κs. search needs)
-    (λ c. search needs) (λ c κs. search needs) (λ c. search needs) (λ c κs. search needs) returns returns-2 returns-3 returns-4
-    returns-5 returns-6 returns-7 returns-8 returns-9 returns-10 returns-11 returns-12)
+    (λ c. search needs) (λ c κs. search needs) (λ c. search needs) (λ c κs. search needs) (λ c. search needs) (λ c κs. search needs) (λ c. search needs) (λ c κs. search needs) returns returns-2 returns-3 returns-4
+    returns-5 returns-6 returns-7 returns-8 returns-9 returns-10 returns-11 returns-12 returns-13 returns-14)

@@ -8,7 +8,7 @@ use Rattle.bits.specs.Store.{bit, bits}
 use Rattle.file.specs.File.{register}
 use Rattle.file.specs.Registers.{storedBits, storedTable}
 use Rattle.geometry.specs.Geometry.{cursorIn, mark}
-use Rattle.geometry.proofs.Twelve.{twelve}
+use Rattle.geometry.proofs.StoredBelow.{stored-below}
 use Rattle.geometry.proofs.reader.cursor_in.Statement.{statement}
 use Rattle.geometry.proofs.reader.cursor_in.Tie as tie
 
@@ -16,13 +16,13 @@ less-preset-requires : tie.Need-less-preset-requires
 unfolding storedBits storedTable
 less-preset-requires c κs =
     let start = c .before .before .before .before in
-    omega (arith, twelve (start .args .t1) 95 tt (start .pre))
+    omega (arith, stored-below (start .args .t1) 95 4096 tt (start .pre))
 
 less-preset-requires-2 : tie.Need-less-preset-requires-2
 unfolding storedBits storedTable
 less-preset-requires-2 c κs =
     let start = c .before .before .before .before .before .before in
-    omega (arith, twelve (start .args .t1) 96 tt (start .pre))
+    omega (arith, stored-below (start .args .t1) 96 4096 tt (start .pre))
 
 returns : tie.Need-returns
 unfolding cursorIn register mark bit bits

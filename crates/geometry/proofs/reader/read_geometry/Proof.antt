@@ -28,16 +28,18 @@ window-in-requires c κs = rw (timing-read (c .before .before)) (refl, refl)
 returns : tie.Need-returns
 unfolding readGeometry
 returns c =
-    rw (is-sound (c .before .before .before .before), c .before .cursor-in .ensures, c .window-in .ensures)
+    let windowed = c .before in
+    rw (is-sound (windowed .before .before .before .before), windowed .before .cursor-in .ensures, windowed .window-in .ensures, c .capture-in .ensures)
 
 returns-2 : tie.Need-returns-2
 unfolding readGeometry
 returns-2 c =
-    let tested = c .before .before in
-    rw (sym (tested .before .is-sound .ensures) ∙ tested .if1 .left, c .before .no-cursor .ensures, c .no-window .ensures)
+    let windowed = c .before in
+    let tested = windowed .before .before in
+    rw (sym (tested .before .is-sound .ensures) ∙ tested .if1 .left, windowed .before .no-cursor .ensures, windowed .no-window .ensures, c .no-capture .ensures)
 
 pub read-geometry-spec : {M : Type 1} → statement M
 read-geometry-spec =
     tie.close
     (tie.spec (λ c κs. search needs) (λ c κs. search needs) cursor-in-requires window-in-requires (λ c κs. search needs)
-    (λ c κs. search needs) returns returns-2)
+    (λ c κs. search needs) (λ c κs. search needs) (λ c κs. search needs) returns returns-2)

@@ -2,11 +2,9 @@
 use Prim.Native.Nat.{ℕ, zero, suc, _-_, _≤_}
 use mathlib.Core.Path.{_≡_, refl, sym, ap, _∙_}
 use native.Mathlib.Omega.{arith}
-use lib.Dec.{ltb}
 use lib.ListN.{getD}
-use Rattle.bits.proofs.Test.{by-test}
 use Rattle.places.specs.declared.place.Place.the-variants.{Unnamed}
-use borrow.Author.Tests.{le-ltb, lt-ltb, ltb-false}
+use borrow.Author.Tests.{le-ltb, lt-ltb}
 use Rattle.places.specs.EngineCells.{firstAlone, alone, plainPlace}
 use borrow.Author.Needs.{needs}
 use Rattle.places.proofs.decode.plain.Statement.{statement}
@@ -17,10 +15,10 @@ above : (n a : ℕ) → n ≤ a → (a ≡ n → ⊥) → suc n ≤ a
 above n a h other = omega (arith, other)
 
 -- the last of the places that stand alone, and those behind it
-last : (cell : ℕ) → 0x76 ≤ cell → cell - firstAlone ≡ suc (suc (suc (suc (suc (suc (suc (suc (suc (suc (cell - 0x76))))))))))
+last : (cell : ℕ) → 0x77 ≤ cell → cell - firstAlone ≡ suc (suc (suc (suc (suc (suc (suc (suc (suc (suc (suc (cell - 0x77)))))))))))
 last cell h = omega arith
 
-alone-ends : (k : ℕ) → getD alone (suc (suc (suc (suc (suc (suc (suc (suc (suc (suc k)))))))))) Unnamed ≡ Unnamed
+alone-ends : (k : ℕ) → getD alone (suc (suc (suc (suc (suc (suc (suc (suc (suc (suc (suc k))))))))))) Unnamed ≡ Unnamed
 unfolding alone
 alone-ends zero = refl
 alone-ends (suc k) = refl
@@ -71,24 +69,26 @@ returns-11 c = rw (c .match .keys10)
 
 returns-12 : tie.Need-returns-12
 unfolding plainPlace
-returns-12 c =
+returns-12 c = rw (c .match .keys11)
+
+returns-13 : tie.Need-returns-13
+unfolding plainPlace
+returns-13 c =
     let cell = c .before .before .args .cell in
-    rw (le-ltb _ _ (c .before .if1 .left))
-    (by-test (ltb cell firstAlone) (λ e. rw e)
-    (λ e.
-    let h1 = above 0x6C cell (ltb-false cell firstAlone e) (c .match .rest .0 .0 .0 .0 .0 .0 .0 .0 .0 .1) in
-    let h2 = above 0x6D cell h1 (c .match .rest .0 .0 .0 .0 .0 .0 .0 .0 .1) in
-    let h3 = above 0x6E cell h2 (c .match .rest .0 .0 .0 .0 .0 .0 .0 .1) in
-    let h4 = above 0x6F cell h3 (c .match .rest .0 .0 .0 .0 .0 .0 .1) in
-    let h5 = above 0x70 cell h4 (c .match .rest .0 .0 .0 .0 .0 .1) in
-    let h6 = above 0x71 cell h5 (c .match .rest .0 .0 .0 .0 .1) in
-    let h7 = above 0x72 cell h6 (c .match .rest .0 .0 .0 .1) in
-    let h8 = above 0x73 cell h7 (c .match .rest .0 .0 .1) in
-    let h9 = above 0x74 cell h8 (c .match .rest .0 .1) in
-    let h10 = above 0x75 cell h9 (c .match .rest .1) in
-    rw e (sym (ap (λ (n : ℕ). getD alone n Unnamed) (last cell h10) ∙ alone-ends (cell - 0x76)))))
+    let h1 = above 0x6C cell (c .before .if1 .left) (c .match .rest .0 .0 .0 .0 .0 .0 .0 .0 .0 .0 .1) in
+    let h2 = above 0x6D cell h1 (c .match .rest .0 .0 .0 .0 .0 .0 .0 .0 .0 .1) in
+    let h3 = above 0x6E cell h2 (c .match .rest .0 .0 .0 .0 .0 .0 .0 .0 .1) in
+    let h4 = above 0x6F cell h3 (c .match .rest .0 .0 .0 .0 .0 .0 .0 .1) in
+    let h5 = above 0x70 cell h4 (c .match .rest .0 .0 .0 .0 .0 .0 .1) in
+    let h6 = above 0x71 cell h5 (c .match .rest .0 .0 .0 .0 .0 .1) in
+    let h7 = above 0x72 cell h6 (c .match .rest .0 .0 .0 .0 .1) in
+    let h8 = above 0x73 cell h7 (c .match .rest .0 .0 .0 .1) in
+    let h9 = above 0x74 cell h8 (c .match .rest .0 .0 .1) in
+    let h10 = above 0x75 cell h9 (c .match .rest .0 .1) in
+    let h11 = above 0x76 cell h10 (c .match .rest .1) in
+    rw (le-ltb _ _ (c .before .if1 .left)) (sym (ap (λ (n : ℕ). getD alone n Unnamed) (last cell h11) ∙ alone-ends (cell - 0x77)))
 
 pub plain-spec : {M : Type 1} → statement M
 plain-spec =
     tie.close
-    (tie.spec returns returns-2 returns-3 returns-4 returns-5 returns-6 returns-7 returns-8 returns-9 returns-10 returns-11 returns-12)
+    (tie.spec returns returns-2 returns-3 returns-4 returns-5 returns-6 returns-7 returns-8 returns-9 returns-10 returns-11 returns-12 returns-13)

@@ -1,32 +1,41 @@
 -- `run_input` is safe and ends: the measure is the number of turns that are left. Turns lead to its course. Assumes nothing.
 use Prim.Native.Nat.{_^_, _<_}
-use mathlib.Core.Path.{_≡_, sym, _∙_}
+use mathlib.Core.Path.{_≡_, sym, ap, _∙_}
 use native.Mathlib.Omega.{arith}
 use borrow.Author.Needs.{needs}
 use lib.ListN.{take}
 use lib.Seq.{length-take-le}
+use Rattle.file.specs.File.{powerOn}
+use Rattle.file.specs.State.{initial}
+use Rattle.shell.specs.declared.course.Course.{Course}
+use Rattle.shell.specs.Parts.{beginning}
 use Rattle.shell.proofs.Turns.{Coming, brought, came, came-unread, came-unwritten, coming-ended, coming-none, coming-on, lines-within, more-sound, more-unfailed}
 use Rattle.shell.proofs.course.run_input.Statement.{statement}
 use Rattle.shell.proofs.course.run_input.Tie as tie
 
 abbrev Inv-loop : tie.InvT-loop
-Inv-loop program prints trace₀ replies₀ lines₀ course₀ turns₀ trace replies lines course turns = Coming prints turns course
+Inv-loop program prints trace₀ replies₀ lines₀ course₀ turns₀ trace replies lines course turns = Coming (course₀ .file .state .chip) prints turns course
 
 abbrev μ-loop : tie.MeasureT-loop
 μ-loop program prints trace₀ replies₀ lines₀ course₀ turns₀ trace replies lines course turns = turns
 
+-- the loop begins on the chip that is chosen
+begun : (c : tie.After-begin Inv-loop μ-loop) → c .begin .result .file .state .chip ≡ c .before .before .args .chip
+unfolding beginning powerOn initial
+begun c = ap (λ (r : Course). r .file .state .chip) (c .begin .ensures)
+
 loop-holds : tie.Need-loop-holds Inv-loop μ-loop
-loop-holds c = coming-none _ _ (c .begin .ensures)
+loop-holds c = coming-none _ _ _ (c .begin .ensures)
 
 returns : tie.Need-returns Inv-loop μ-loop
 returns c =
     let asked = c .before .before in
     let had = asked .before in
     let on = had .before .before in
-    came-unread (take (had .read-some .result .count) (had .read-some .last .1 .1 .1 .0)) (had .read-some .result) _ (on .before .before .loop .inv)
+    rw (begun (on .before .before .before)) at (came-unread (take (had .read-some .result .count) (had .read-some .last .1 .1 .1 .0)) (had .read-some .result) _ (on .before .before .loop .inv)
     (brought (on .if1 .taken) (omega (arith, had .read-some .ensures .0 .1)) (had .read-some .ensures .1) (asked .has-failed .ensures)
     (c .before .if2 .taken))
-    (c .failed .ensures)
+    (c .failed .ensures))
 
 run-some-requires : tie.Need-run-some-requires Inv-loop μ-loop
 run-some-requires c κs =
@@ -49,10 +58,10 @@ returns-2 c =
     let left = ran .before .before .before .before in
     let had = left .before .before in
     let on = had .before .before in
-    came-unwritten (had .read-some .result) _ _ _ _ _ (ran .run-some .result) (wrote .write-out .result) (on .before .before .loop .inv) (ran .run-some .ensures)
+    rw (begun (on .before .before .before)) at (came-unwritten (had .read-some .result) _ _ _ _ _ (ran .run-some .result) (wrote .write-out .result) (on .before .before .loop .inv) (ran .run-some .ensures)
     (brought (on .if1 .taken) (omega (arith, had .read-some .ensures .0 .1)) (had .read-some .ensures .1) (left .before .has-failed .ensures)
     (left .if2 .left))
-    (omega (arith, wrote .write-out .ensures)) (sym (c .before .before .has-failed2 .ensures) ∙ c .before .if3 .taken) _ (c .failed2 .ensures)
+    (omega (arith, wrote .write-out .ensures)) (sym (c .before .before .has-failed2 .ensures) ∙ c .before .if3 .taken) _ (c .failed2 .ensures))
 
 loop-again : tie.Need-loop-again Inv-loop μ-loop
 loop-again c =
@@ -68,12 +77,12 @@ loop-again c =
     (omega (arith, wrote .write-out .ensures)) (sym (c .before .has-failed2 .ensures) ∙ c .if3 .left) (on .before .loop-test .taken) low
 
 returns-3 : tie.Need-returns-3 Inv-loop μ-loop
-returns-3 c = came (c .before .before .loop .inv) (c .if1 .left)
+returns-3 c = rw (begun (c .before .before .before)) at (came (c .before .before .loop .inv) (c .if1 .left))
 
 returns-4 : tie.Need-returns-4 Inv-loop μ-loop
 returns-4 c =
     let none : c .before .loop .turns ≡ 0 = omega arith in
-    came (c .before .loop .inv) (coming-ended (rw none at (c .before .loop .inv)))
+    rw (begun (c .before .before)) at (came (c .before .loop .inv) (coming-ended (rw none at (c .before .loop .inv))))
 
 pub run-input-spec : {M : Type 1} → statement M
 run-input-spec =

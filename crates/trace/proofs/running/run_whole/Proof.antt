@@ -10,12 +10,13 @@ use lib.ListN.{drop, set}
 use Rattle.file.specs.declared.palette.Colour.{Colour}
 use Rattle.file.specs.declared.registers.File.{File}
 use Rattle.file.specs.File.{register, seen, black}
+use Rattle.file.specs.Registers.{storedTable}
 use Rattle.file.specs.Sound.{sound}
 use Rattle.access.specs.Access.{inBank, shownIn}
 use Rattle.trace.specs.Records.{items}
 use Rattle.trace.specs.Run.{fileAfter, replies}
 use Rattle.trace.proofs.RunLoop.{came-by, together, Held, buffer-long, component-served, held-step}
-use Rattle.trace.proofs.RunMore.{run-sound}
+use Rattle.trace.proofs.RunMore.{run-sound, run-chip}
 use Rattle.trace.proofs.running.run_whole.Statement.{statement}
 use Rattle.trace.proofs.running.run_whole.Tie as tie
 
@@ -33,7 +34,14 @@ loop-holds c = record { reached = omega arith; file = refl; said = refl }
 
 serve-requires : tie.Need-serve-requires Inv-loop μ-loop
 unfolding sound seen
-serve-requires c κs = (c .before .before .before .before .before .before .before .cells .ensures, c .before .before .before .before .before .before .stored .ensures, subst (λ (f : File). T (sound f)) (sym (c .before .before .before .before .before .loop .inv .file)) (run-sound (c .before .before .before .before .before .before .before .before .before .before .before .before .before .before .args .whole) _ (c .before .before .before .before .before .before .before .before .before .before .before .before .before .before .pre .0)))
+serve-requires c κs =
+    let start = c .before .before .before .before .before .before .before .before .before .before .before .before .before .before in
+    let whole : File = start .args .whole in
+    let inv = c .before .before .before .before .before .loop .inv in (
+      c .before .before .before .before .before .before .before .cells .ensures,
+      c .before .before .before .before .before .before .stored .ensures ∙ ap storedTable (sym (ap (λ (f : File). f .state .chip) (inv .file) ∙ run-chip whole _)),
+      subst (λ (f : File). T (sound f)) (sym (inv .file)) (run-sound whole _ (start .pre .0)),
+    )
 
 mul-in-bank : tie.Need-mul-in-bank Inv-loop μ-loop
 mul-in-bank c = record { fits = omega (arith, c .bank-entry .ensures .1) }

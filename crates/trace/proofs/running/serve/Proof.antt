@@ -11,6 +11,7 @@ use Rattle.trace.proofs.running.serve.Statement.{statement}
 use Rattle.trace.proofs.running.serve.Tie as tie
 
 returns : tie.Need-returns
+unfolding seen
 returns c =
     serves (c .before .before .before .before .before .args .registers .now) (c .before .before .before .before .before .args .state) (c .before .before .before .before .before .args .asked) (c .before .before .before .decide .result)
     (c .before .before .before .decide .ensures

@@ -6,7 +6,7 @@ use Rattle.file.proofs.registers.File.power_on.Tie as tie
 
 returns : tie.Need-returns
 unfolding powerOn
-returns c = rw (c .power-on .ensures)
+returns c = rw (c .power-on .ensures, c .before .v-port-at-power-on .ensures)
 
 pub power-on-spec : {M : Type 1} → statement M
-power-on-spec = tie.close (tie.spec (λ c κs. search needs) returns)
+power-on-spec = tie.close (tie.spec (λ c κs. search needs) (λ c. search needs) (λ c κs. search needs) returns)
