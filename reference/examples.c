@@ -91,6 +91,20 @@ static bool p8(void)
     return poke(&f, 0xB0, 0xFF) == 0 && peek(&f, 0xB0) == 0x8A && in(&f, 0x3C9) == -9;
 }
 
+/* 02, 7/13: CR1A[3] and CR1A[2], each by itself; 3C7h and 3C8h work all the same. */
+static bool request7(void)
+{
+    for (int sync = 0x04; sync <= 0x08; sync += 0x04) {
+        struct sc_file f = opened();
+        if (poke(&f, 0x68, sync) != 0 || in(&f, 0x3C9) != -9 || out(&f, 0x3C9, 1) != -9
+            || peek(&f, 0xAC) != -9 || poke(&f, 0xAC, 1) != -9 || out(&f, 0x3C7, 5) != 0
+            || in(&f, 0x3C7) != 3 || out(&f, 0x3C8, 6) != 0 || in(&f, 0x3C8) != 6
+            || poke(&f, 0x68, 0xF3) != 0 || in(&f, 0x3C9) != 0)
+            return false;
+    }
+    return true;
+}
+
 static bool p9(void)
 {
     static const uint8_t mode12[][2] = {
@@ -203,6 +217,7 @@ int main(void)
         { "P11", "the cursor left of the screen", p11 },
         { "02 2/13", "three kinds of nothing held", request2 },
         { "02 6/13", "PCI02 and 10Ch by the chip", request6 },
+        { "02 7/13", "static sync stops the palette", request7 },
         { "replay", "the example", replay_example },
         { "replay", "an empty trace", replay_empty },
         { "replay", "a fragment alone", replay_fragment },

@@ -567,19 +567,42 @@ static bool point23(void)
         && poke(&f, 0xA4, 0x45) == 0 && peek(&f, 0xA8) == 0x45 && peek(&f, 0xA4) == 3;
 }
 
-static bool point24(void)
+/* A register at an MMIO offset that holds a value: is the palette down, and pixel data alone? */
+static bool stops(int offset, int value)
 {
     struct sc_file f = opened();
 
     out(&f, 0x3C8, 7);
     out(&f, 0x3C9, 1);
-    poke(&f, 0xB0, 0x80);
-    if (in(&f, 0x3C9) != -9 || out(&f, 0x3C9, 2) != -9 || peek(&f, 0xAC) != -9
-        || poke(&f, 0xAC, 2) != -9 || !points_at(&f, 7, false, SC_GREEN, 1, 0))
+    if (poke(&f, offset, value) != 0 || in(&f, 0x3C9) != -9 || out(&f, 0x3C9, 2) != -9
+        || peek(&f, 0xAC) != -9 || poke(&f, 0xAC, 2) != -9
+        || !points_at(&f, 7, false, SC_GREEN, 1, 0))
         return false;
-    return in(&f, 0x3C8) == 7 && out(&f, 0x3C7, 8) == 0 && out(&f, 0x3C6, 0x5A) == 0
-        && in(&f, 0x3C6) == 0x5A && peek(&f, 0xA0) == 0x5A && peek(&f, 0xB0) == 0x80
-        && poke(&f, 0xB0, 0) == 0 && in(&f, 0x3C9) == 0;
+    if (in(&f, 0x3C8) != 7 || peek(&f, 0xA8) != 7 || in(&f, 0x3C7) != 0 || peek(&f, 0xA4) != 0
+        || out(&f, 0x3C8, 9) != 0 || poke(&f, 0xA8, 9) != 0 || poke(&f, 0xA4, 8) != 0)
+        return false;
+    return out(&f, 0x3C7, 8) == 0 && out(&f, 0x3C6, 0x5A) == 0
+        && in(&f, 0x3C6) == 0x5A && peek(&f, 0xA0) == 0x5A && points_at(&f, 8, true, SC_RED, 0, 0)
+        && poke(&f, offset, 0) == 0 && in(&f, 0x3C9) == 0;
+}
+
+static bool point24(void)
+{
+    return stops(0xB0, 0x80) && stops(0xB0, 0x88);
+}
+
+/* 02, 7/13: CR1A's bits 3 and 2, each by itself and with all others; no other bit of it. */
+static bool static_sync(void)
+{
+    for (int value = 0; value < 0x100; value++) {
+        struct sc_file f = opened();
+        bool down = (value & 8) || (value & 4);
+        if (down && !stops(0x68, value))
+            return false;
+        if (out_at(&f, 0x3B4, 0x1A, value) != 0 || in(&f, 0x3C9) != (down ? -9 : 0))
+            return false;
+    }
+    return true;
 }
 
 /* Every pointer with held bytes 0 or not; B0's low bits by the last access (02, 1/13). */
@@ -717,6 +740,24 @@ static bool timing_kept(void)
         if (sc_timing_write(&f, &t) != 0 || sc_timing_read(&f, &read) != 0)
             return false;
         if (!same_timing(&t, &read) || !sc_sound(&f) || is_wide(&f) != is_wide(&before))
+            return false;
+    }
+    return true;
+}
+
+/* 02, 7/13: a timing write leaves static sync as it was; the lock doesn't bear on CR1A. */
+static bool sync_kept(void)
+{
+    struct sc_file f = opened();
+
+    if (poke(&f, 0x44, 0x80) != 0 || poke(&f, 0x68, 0x08) != 0 || in(&f, 0x3C9) != -9
+        || poke(&f, 0x68, 0xF3) != 0 || in(&f, 0x3C9) != 0)
+        return false;
+    for (int round = 0; round < 4000; round++) {
+        struct sc_file g = random_file();
+        struct sc_timing t = random_timing(is_wide(&g));
+        int before = g.cr[0x1A];
+        if (sc_timing_write(&g, &t) != 0 || ((g.cr[0x1A] ^ before) & 0x0C))
             return false;
     }
     return true;
@@ -1135,6 +1176,7 @@ int main(void)
         { "point 22", "reads and writes mixed in one colour", point22 },
         { "point 23", "the mode", point23 },
         { "point 24", "power-down", point24 },
+        { "02, 7/13", "static sync stops the palette", static_sync },
         { "point 25", "pointers that are sound", point25 },
         { "point 26", "every number's range", point26 },
         { "point 27", "bits the timing writer leaves", point27 },
@@ -1150,6 +1192,7 @@ int main(void)
         { "02, 6/13", "a restore ends in the wanted file", restored },
         { "timing", "reads as counted up from the table", timing_read },
         { "timing", "written back changes nothing; written is read", timing_kept },
+        { "02, 7/13", "CR1A under no lock; a timing write keeps static sync", sync_kept },
         { "sound", "every bit by the table", sound_bits },
         { "sound", "every PCI04", sound_pci04 },
         { "sound", "kept by every access; a run is its accesses", sound_kept },

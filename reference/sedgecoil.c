@@ -87,6 +87,7 @@ enum {
     ARX_INDEX = 0x1F,       /* ARX[4:0] */
     CR7_UNLOCKED = 0x10,    /* CR7[4], writable while CR11[7]=1 */
     CR11_LOCK = 0x80,
+    CR1A_STATIC_SYNC = 0x0C,    /* CR1A[3], CR1A[2] */
     CR1B_WIDE = 0xA0,       /* CR1B[7], CR1B[5] */
     B0_POWER_DOWN = 0x80,
     B0_BANK = 0x08,
@@ -279,9 +280,15 @@ static void mark(struct sc_file *f, bool reading)
     f->last = (struct sc_last){ .reading = reading, .colour = f->pointer.colour };
 }
 
+/* 02, 7/13: "the palette down if B0[7], CR1A[3] or CR1A[2] is 1". */
+static bool powered_down(const struct sc_file *f)
+{
+    return (f->pipe[SC_B0] & B0_POWER_DOWN) || (f->cr[0x1A] & CR1A_STATIC_SYNC);
+}
+
 static uint8_t read_pixel(struct sc_file *f, uint16_t *value)
 {
-    if (f->pipe[SC_B0] & B0_POWER_DOWN)
+    if (powered_down(f))
         return SC_POWERED_DOWN;
     *value = entry(f)[f->pointer.colour];
     mark(f, true);
@@ -293,7 +300,7 @@ static uint8_t write_pixel(struct sc_file *f, uint8_t value)
 {
     struct sc_pointer *p = &f->pointer;
 
-    if (f->pipe[SC_B0] & B0_POWER_DOWN)
+    if (powered_down(f))
         return SC_POWERED_DOWN;
     if (p->colour == SC_BLUE) {
         uint8_t *e = entry(f);
@@ -796,11 +803,13 @@ static uint8_t *put_status(uint8_t *end, const struct sc_file *w)
     return put(end, SC_PORT_READ, 1, w->misc & MISC_COLOUR ? 0x3DA : 0x3BA, 0);
 }
 
-/* 01 "Mistakes that look right": what the start may shut or turn is set before it is relied on. */
+/* 01 "Mistakes that look right": what the start may shut or turn is set before it is relied on.
+ * 02, 7/13: static sync too, "whatever the start holds". */
 static uint8_t *put_opening(uint8_t *end, const struct sc_file *w)
 {
     end = put(end, SC_CONFIG_WRITE, 2, 0x04, 0x0003);
     end = put_mmio(end, 0x44, 0);
+    end = put_mmio(end, 0x68, 0);
     end = put_mmio(end, 0x80, w->misc);
     return put_status(end, w);
 }
@@ -837,11 +846,11 @@ static uint8_t *put_group(uint8_t *end, uint16_t index, uint16_t data, const uin
     return end;
 }
 
-/* CR11 and B0 wait for the closing. */
+/* CR11, CR1A and B0 wait for the closing. */
 static uint8_t *put_registers(uint8_t *end, const struct sc_file *w)
 {
     for (uint8_t i = 0; i < SC_CRS; i++)
-        if (cr_mask[i] && i != 0x11)
+        if (cr_mask[i] && i != 0x11 && i != 0x1A)
             end = put_mmio(end, 4 * i, w->cr[i]);
     for (uint8_t i = SC_B0 + 1; i < SC_PIPES; i++)
         end = put(end, SC_MMIO_WRITE, pipes[i].width, pipes[i].offset, w->pipe[i]);
@@ -867,6 +876,7 @@ static uint8_t *put_closing(uint8_t *end, const struct sc_file *w)
 {
     end = put_mmio(end, w->pointer.reading ? 0xA4 : 0xA8, w->pointer.address);
     end = put_mmio(end, 0xB0, w->pipe[SC_B0]);
+    end = put_mmio(end, 0x68, w->cr[0x1A]);
     end = put_mmio(end, 0x44, w->cr[0x11]);
     return put(end, SC_CONFIG_WRITE, 2, 0x04, w->pci04);
 }

@@ -214,11 +214,11 @@ MISTAKES = [
      "case WRITE_ADDRESS: point(&f->pointer, value, false); break;",
      "case WRITE_ADDRESS: point(&f->pointer, value, false), f->last.reading = false; break;"),
     ("code 9 records a read",
-     "    if (f->pipe[SC_B0] & B0_POWER_DOWN)\n        return SC_POWERED_DOWN;\n    *value",
-     "    if (f->pipe[SC_B0] & B0_POWER_DOWN)\n        return mark(f, true), SC_POWERED_DOWN;\n    *value"),
+     "    if (powered_down(f))\n        return SC_POWERED_DOWN;\n    *value",
+     "    if (powered_down(f))\n        return mark(f, true), SC_POWERED_DOWN;\n    *value"),
     ("code 9 records a write",
-     "    if (f->pipe[SC_B0] & B0_POWER_DOWN)\n        return SC_POWERED_DOWN;\n    if (p",
-     "    if (f->pipe[SC_B0] & B0_POWER_DOWN)\n        return mark(f, false), SC_POWERED_DOWN;\n    if (p"),
+     "    if (powered_down(f))\n        return SC_POWERED_DOWN;\n    if (p",
+     "    if (powered_down(f))\n        return mark(f, false), SC_POWERED_DOWN;\n    if (p"),
     ("power-on is write, red", ".last = { .colour = SC_BLUE }", ".last = { .colour = SC_RED }"),
     ("a write counts as a read", "    mark(f, false);\n    step(p);\n", "    mark(f, true);\n    step(p);\n"),
     ("the DAC state by the last access",
@@ -227,8 +227,45 @@ MISTAKES = [
     ("the DAC state inverted",
      "f->pointer.reading ? 3 : 0", "f->pointer.reading ? 0 : 3"),
     ("power-down refuses writes alone",
-     "    if (f->pipe[SC_B0] & B0_POWER_DOWN)\n        return SC_POWERED_DOWN;\n    *value",
+     "    if (powered_down(f))\n        return SC_POWERED_DOWN;\n    *value",
      "    *value"),
+
+    # Static sync, 02 7/13
+    ("CR1A[3] not asked", "CR1A_STATIC_SYNC = 0x0C", "CR1A_STATIC_SYNC = 0x04"),
+    ("CR1A[2] not asked", "CR1A_STATIC_SYNC = 0x0C", "CR1A_STATIC_SYNC = 0x08"),
+    ("neither CR1A[3] nor CR1A[2] asked", "CR1A_STATIC_SYNC = 0x0C", "CR1A_STATIC_SYNC = 0x00"),
+    ("CR1A[4] asked too", "CR1A_STATIC_SYNC = 0x0C", "CR1A_STATIC_SYNC = 0x1C"),
+    ("CR1A[1] asked too", "CR1A_STATIC_SYNC = 0x0C", "CR1A_STATIC_SYNC = 0x0E"),
+    ("both of CR1A[3:2] needed",
+     "(f->cr[0x1A] & CR1A_STATIC_SYNC);", "(f->cr[0x1A] & CR1A_STATIC_SYNC) == CR1A_STATIC_SYNC;"),
+    ("B0[7] and static sync needed", "B0_POWER_DOWN) || (f->cr", "B0_POWER_DOWN) && (f->cr"),
+    ("static sync in B0's place", "(f->pipe[SC_B0] & B0_POWER_DOWN) || (f->cr", "(f->cr"),
+    ("static sync by CR1B", "(f->cr[0x1A] & CR1A_STATIC_SYNC);", "(f->cr[0x1B] & CR1A_STATIC_SYNC);"),
+    ("static sync refuses writes alone",
+     "    if (powered_down(f))\n        return SC_POWERED_DOWN;\n    *value",
+     "    if (f->pipe[SC_B0] & B0_POWER_DOWN)\n        return SC_POWERED_DOWN;\n    *value"),
+    ("static sync refuses reads alone",
+     "    if (powered_down(f))\n        return SC_POWERED_DOWN;\n    if (p",
+     "    if (f->pipe[SC_B0] & B0_POWER_DOWN)\n        return SC_POWERED_DOWN;\n    if (p"),
+    ("3C7h refused while the palette is down",
+     "case READ_ADDRESS: point(&f->pointer, value, true); break;",
+     "case READ_ADDRESS: if (powered_down(f)) return SC_POWERED_DOWN;\n"
+     "        point(&f->pointer, value, true); break;"),
+    ("3C8h refused while the palette is down",
+     "case WRITE_ADDRESS: point(&f->pointer, value, false); break;",
+     "case WRITE_ADDRESS: if (powered_down(f)) return SC_POWERED_DOWN;\n"
+     "        point(&f->pointer, value, false); break;"),
+    ("the DAC state refused while the palette is down",
+     "case READ_ADDRESS: *value = f->pointer.reading ? 3 : 0; break;",
+     "case READ_ADDRESS: if (powered_down(f)) return SC_POWERED_DOWN;\n"
+     "        *value = f->pointer.reading ? 3 : 0; break;"),
+    ("the held bytes lost when static sync comes on",
+     "    return is_write(r) ? write_place",
+     "    if (is_write(r) && at.unit == CR && at.number == 0x1A && r->value & CR1A_STATIC_SYNC)\n"
+     "        point(&f->pointer, f->pointer.address, f->pointer.reading);\n"
+     "    return is_write(r) ? write_place"),
+    ("CR1A under the lock",
+     "if (locked && number <= 0x06)", "if (locked && (number <= 0x06 || number == 0x1A))"),
 
     # Timing
     ("CR1A's pieces always counted",
@@ -252,6 +289,11 @@ ROAD_MISTAKES = [
     ("pixel data by MMIO while the palette is down",
      "    return is_write(r) ? write_place",
      "    if (r->kind >= SC_MMIO_READ && at.unit == PIXEL)\n        f->pipe[SC_B0] &= B0_BANK;\n"
+     "    return is_write(r) ? write_place"),
+    ("pixel data by MMIO while static sync is on",
+     "    return is_write(r) ? write_place",
+     "    if (r->kind >= SC_MMIO_READ && at.unit == PIXEL)\n"
+     "        f->cr[0x1A] &= (uint8_t)~CR1A_STATIC_SYNC;\n"
      "    return is_write(r) ? write_place"),
     ("an MMIO access to MISC flips the toggle",
      "    return is_write(r) ? write_place",
@@ -344,7 +386,21 @@ PLAN_MISTAKES = [
      "    end = put_indices(end, wanted);\n    end = put_registers(end, wanted);\n"),
     ("CR11 and B0 left open",
      "    end = put_mmio(end, 0xB0, w->pipe[SC_B0]);\n"
-     "    end = put_mmio(end, 0x44, w->cr[0x11]);\n", ""),
+     "    end = put_mmio(end, 0x68, w->cr[0x1A]);\n"
+     "    end = put_mmio(end, 0x44, w->cr[0x11]);\n",
+     "    end = put_mmio(end, 0x68, w->cr[0x1A]);\n"),
+    # 02 7/13
+    ("the start's CR1A trusted", "    end = put_mmio(end, 0x68, 0);\n", ""),
+    ("static HSYNC left on while the palette is loaded",
+     "    end = put_mmio(end, 0x68, 0);\n", "    end = put_mmio(end, 0x68, 0x08);\n"),
+    ("static VSYNC left on while the palette is loaded",
+     "    end = put_mmio(end, 0x68, 0);\n", "    end = put_mmio(end, 0x68, 0x04);\n"),
+    ("CR1A put back before the palette",
+     "    end = put_mmio(end, 0x68, 0);\n", "    end = put_mmio(end, 0x68, w->cr[0x1A]);\n"),
+    ("CR1A put back before the marks",
+     "    end = put_last(end, &wanted->last);\n",
+     "    end = put_mmio(end, 0x68, wanted->cr[0x1A]);\n    end = put_last(end, &wanted->last);\n"),
+    ("CR1A left open", "    end = put_mmio(end, 0x68, w->cr[0x1A]);\n", ""),
     ("PCI04 left open",
      "return put(end, SC_CONFIG_WRITE, 2, 0x04, w->pci04);", "return end;"),
 ]

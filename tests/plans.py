@@ -24,8 +24,9 @@ class Fault(Exception):
 
 
 def starts(seed):
-    """Traces that leave the card shut, locked, powered down, in mid-colour or before data."""
-    yield b""
+    """Traces that leave the card shut, locked, powered down, in mid-colour or before data; by turns
+    static sync alone is on, 02 7/13."""
+    yield traces.OPEN + traces.write(*traces.CR1A, (0x04, 0x08)[seed // 2 % 2]) if seed % 2 else b""
     for more in range(2):
         chance = traces.Chance(f"start {seed} {more}")
         kind = START_KINDS[(seed + more) % len(START_KINDS)]

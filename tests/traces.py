@@ -18,6 +18,9 @@ READ, WRITE = 0, 1
 PIXEL_PORTS = ((PORT, 0x3C7), (PORT, 0x3C8), (PORT, 0x3C9))
 PIXEL_MMIO = ((MMIO, 0xA4), (MMIO, 0xA8), (MMIO, 0xAC))
 PCI04 = ((CONFIG, 0x04), (MMIO, 0x304))
+CR1A = (MMIO, 0x68)
+# Values of CR1A: static sync off, one of its bits on, both, all others; 02 7/13.
+SYNC_OFF, SYNC = (0x00, 0x00, 0xF3), (0x00, 0x00, 0xF3, 0x04, 0x08, 0x0C)
 SR_LAST, CR_LAST, GR_LAST, AR_LAST = 0x1F, 0x3F, 0x3F, 0x1F
 
 
@@ -84,6 +87,8 @@ def likely_value(chance, space, address, width):
         return value | 0x01
     if (space, address) in ((MMIO, 0x44), (MMIO, 0xB0)) and not chance.one_in(3):
         return value & 0x7F
+    if (space, address) == CR1A and not chance.one_in(3):
+        return value & 0xF3
     if address in (0x3C4, 0x3CE, 0x3C0) and chance.one_in(2):
         return value % 0x1F
     return value
@@ -135,7 +140,7 @@ def noise(chance):
 
 
 def dump(chance):
-    """Reads all that can be read; moves the indices, the pointer, B0[3] and B0[7]."""
+    """Reads all that can be read; moves the indices, the pointer, B0[3] and B0[7], and CR1A."""
     yield OPEN
     for space, address, width in READS:
         if address not in (0x3C9, 0xAC, 0x3BA, 0x3DA):
@@ -153,6 +158,7 @@ def dump(chance):
         yield read(PORT, 0x3DA)
         yield write(PORT, 0x3C0, number)
         yield read(PORT, 0x3C1)
+    yield write(*CR1A, 0)
     for b0, entries in ((0x00, 256), (0x08, 16)):
         yield write(MMIO, 0xB0, b0)
         yield write(PORT, 0x3C7, 0)
@@ -172,11 +178,11 @@ def mixed(chance):
 
 def steady(misc):
     """The state a sweep is made under: spaces open, MISC[0] as given, no lock, no power-down."""
-    return (OPEN, write(MMIO, 0x80, misc), write(MMIO, 0x44, 0), write(MMIO, 0xB0, 0))
+    return (OPEN, write(MMIO, 0x80, misc), write(MMIO, 0x44, 0), write(MMIO, 0xB0, 0), write(*CR1A, 0))
 
 
 UNSTEADY = {*PCI04, (PORT, 0x3C2), (PORT, 0x3B5), (PORT, 0x3D5), (MMIO, 0x80), (MMIO, 0x44),
-            (MMIO, 0xB0)}
+            (MMIO, 0xB0), CR1A}
 
 
 def sweep_over(chance, misc, addresses):
@@ -239,7 +245,7 @@ def index(chance):
 def switch(chance):
     """One change of what decides over other accesses."""
     base = chance.pick((0x3B0, 0x3D0))
-    which = chance.below(8)
+    which = chance.below(10)
     if which == 0:
         return (write(MMIO, 0x44, chance.pick((0x00, 0x80, 0x7F, 0xFF))),)
     if which == 1:
@@ -255,6 +261,10 @@ def switch(chance):
         return (read(PORT, base + 10),)
     if which == 6:
         return (write(PORT, 0x3C0, chance.below(256)),)
+    if which == 7:
+        return (write(*CR1A, chance.pick(SYNC)),)
+    if which == 8:
+        return (write(PORT, base + 4, 0x1A), write(PORT, base + 5, chance.pick(SYNC)))
     return (write(PORT, base + 4, chance.pick((0x24, 0x26))), read(PORT, base + 5))
 
 
@@ -281,7 +291,7 @@ def touched(chance):
 
 
 def toggles(chance):
-    """lock, power-down, MISC[0], PCI04's enables and the attribute toggle among accesses"""
+    """lock, power-down, static sync, MISC[0], PCI04's enables and the attribute toggle among accesses"""
     yield OPEN
     while True:
         yield from switch(chance)
@@ -291,11 +301,12 @@ def toggles(chance):
             yield OPEN
         if chance.one_in(6):
             yield write(MMIO, 0xB0, 0)
+            yield write(*CR1A, 0)
 
 
 def interruption(chance, read_address, write_address, data):
     """What may fall between two bytes of a colour."""
-    which = chance.below(7)
+    which = chance.below(8)
     if which == 0:
         return write(*read_address, chance.fitting(1))
     if which == 1:
@@ -306,11 +317,13 @@ def interruption(chance, read_address, write_address, data):
         return write(*data, chance.fitting(1))
     if which == 4:
         return write(MMIO, 0xB0, chance.pick((0x00, 0x00, 0x08, 0x08, 0x80)))
-    return read(*chance.pick((read_address, write_address, (MMIO, 0xB0))))
+    if which == 5:
+        return write(*CR1A, chance.pick(SYNC))
+    return read(*chance.pick((read_address, write_address, (MMIO, 0xB0), CR1A)))
 
 
 def palette(chance):
-    """palette and bank, loaded and read at length, with changes of mode in mid-colour"""
+    """palette and bank, loaded and read at length, with changes of mode and static sync in mid-colour"""
     def records():
         while True:
             places = PIXEL_PORTS if chance.one_in(2) else PIXEL_MMIO
@@ -319,12 +332,14 @@ def palette(chance):
             restless = chance.one_in(2)
             first = chance.below(256)
             yield write(MMIO, 0xB0, chance.pick((0x00, 0x00, 0x08)))
+            yield write(*CR1A, chance.pick(SYNC_OFF))
             yield write(*chance.pick((write_address, write_address, read_address)), first)
             for _ in range(3 * entries):
                 if restless and chance.one_in(20):
                     yield interruption(chance, *places)
                 yield write(*data, chance.fitting(1))
             yield write(MMIO, 0xB0, chance.pick((0x00, 0x00, 0x08)))
+            yield write(*CR1A, chance.pick(SYNC_OFF))
             yield write(*chance.pick((read_address, read_address, write_address)), first)
             for _ in range(3 * entries):
                 if restless and chance.one_in(20):
@@ -338,15 +353,17 @@ def polls(chance):
     def records():
         while True:
             read_address, write_address, data = PIXEL_PORTS if chance.one_in(2) else PIXEL_MMIO
-            kind = chance.below(12)
+            kind = chance.below(14)
             if kind < 4:
                 yield read(*data)
             elif kind < 8:
                 yield write(*data, chance.fitting(1))
             elif kind < 10:
                 yield write(*chance.pick((read_address, write_address)), chance.below(256))
-            else:
+            elif kind < 12:
                 yield write(MMIO, 0xB0, chance.pick((0x00, 0x00, 0x08, 0x80)))
+            else:
+                yield write(*CR1A, chance.pick(SYNC))
             yield read(MMIO, 0xB0)
             if chance.one_in(4):
                 yield read(PORT, 0x3C7)

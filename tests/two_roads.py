@@ -70,13 +70,15 @@ BY_HALF = tuple(list(pairs(base)) for base in (0x3B0, 0x3D0))
 
 
 def ready(chance, half, old):
-    """Both spaces enabled, MISC[0] fitting, the index selected; locked and powered down by chance."""
+    """Both spaces enabled, MISC[0] fitting, the index selected; locked, powered down or with static sync by chance."""
     yield write(CONFIG, 0x04, chance.below(0x10000) | 0x0003, 2)
     yield write(MMIO, 0x80, chance.below(0x100) & 0xFE | half)
     if chance.one_in(3):
         yield write(MMIO, 0x44, chance.pick((0x00, 0x80)))
     if chance.one_in(3):
         yield write(MMIO, 0xB0, chance.pick((0x00, 0x00, 0x08, 0x80, 0x88)))
+    if chance.one_in(3):
+        yield write(*traces.CR1A, chance.pick(traces.SYNC))
     if old.index:
         yield write(PORT, *old.index)
 

@@ -9,5 +9,6 @@ pub mod Codes
 pub mod Soundness
 pub mod Reach
 pub mod Lock
+pub mod StaticSync
 pub mod IndicesAndToggle
 pub mod HandsBack

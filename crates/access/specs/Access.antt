@@ -16,7 +16,7 @@ use Rattle.file.specs.Answers.{codeOf, valueOf, refused}
 use Rattle.file.specs.Chips.{pci02, vPortShown}
 use Rattle.file.specs.Effects.{apply, reachOf}
 use Rattle.file.specs.File.{register, black, bankCount, crtcLocked}
-use Rattle.file.specs.Names.{CR0, CR6, CR7, B0, captureYStart}
+use Rattle.file.specs.Names.{CR0, CR6, CR7, CR1A, B0, captureYStart}
 use Rattle.file.specs.Palette.{component, addressed, afterWrite, afterRead, stores, mixed, dacState, marksFrom}
 use Rattle.file.specs.Registers.{storedBits}
 use Rattle.file.specs.Sound.{sound}
@@ -47,9 +47,9 @@ lockedReach = 0x10
 unfoldable pub reachIn : File → ℕ → ℕ
 reachIn f number = cond (crtcLocked f && eqb number CR7) lockedReach (storedBits (f .state .chip) number)
 
--- code 9: 'pixel data access while B0[7]=1'
+-- code 9, 'pixel data access while B0[7]=1'; 02, 7/13: it 'now finds the palette down if B0[7], CR1A[3] or CR1A[2] is 1'
 unfoldable pub paletteUp : File → Bool
-paletteUp f = eqb (bit 7 (register f B0)) 0
+paletteUp f = eqb (bit 7 (register f B0)) 0 && eqb (bit 3 (register f CR1A)) 0 && eqb (bit 2 (register f CR1A)) 0
 
 -- 'With B0[3]=1 the entry is number address mod 16 of a bank of 16 cursor and border colours, else one of 256'
 unfoldable pub inBank : File → Bool

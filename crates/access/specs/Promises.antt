@@ -1,10 +1,16 @@
 -- What the theorems about one access speak of.
 -- Assumes nothing.
 use Prim.Native.Nat.{ℕ}
+use mathlib.Core.Path.{_≡_}
 use mathlib.Core.Bool.{Bool}
 use mathlib.Core.List.{[], _∷_}
+use mathlib.Core.Logic.{_⊎_}
+use Rattle.bits.specs.Store.{bit}
 use Rattle.file.specs.declared.answer.Answer.{Answer}
+use Rattle.file.specs.declared.registers.File.{File}
 use Rattle.file.specs.Answers.{codeOf, oneOf}
+use Rattle.file.specs.File.{register}
+use Rattle.file.specs.Names.{CR1A, B0}
 use Rattle.places.specs.Lookup.{otherWay}
 use Rattle.access.specs.declared.record.Record.{Record}
 
@@ -20,3 +26,13 @@ turned r = record { kind = otherWay (r .kind); width = r .width; address = r .ad
 -- a write of CR7 at MMIO 1Ch
 abbrev pub seventh : ℕ → Record
 seventh value = record { kind = 5; width = 1; address = 0x1C; value = value }
+
+-- 02, 7/13: 'B0[7], CR1A[3] or CR1A[2] is 1'
+abbrev pub Stopped : File → Type 0
+Stopped f = (bit 7 (register f B0) ≡ 1) ⊎ ((bit 3 (register f CR1A) ≡ 1) ⊎ (bit 2 (register f CR1A) ≡ 1))
+
+-- every entry and the marks of the last 3C9h access are as before
+pub record SameColours (before after : File) : Type 0 where
+  pub palette : after .palette ≡ before .palette
+  pub bank : after .bank ≡ before .bank
+  pub marks : after .state .marks ≡ before .state .marks

@@ -26,6 +26,7 @@ use file::B0;
 use file::BANK;
 use file::CAPTURE_Y_START;
 use file::CR0;
+use file::CR1A;
 use file::CR6;
 use file::CR7;
 use file::CR11;
@@ -176,10 +177,17 @@ fn reach_in(stored: &[u16; REGISTERS], registers: &[u16; REGISTERS], number: usi
     }
 }
 
+// B0[7] stops the palette, and so does static sync, CR1A[3:2].
 fn is_palette_up(registers: &[u16; REGISTERS]) -> bool
     ensures { λ r. ⌜ r ≡ paletteUp (seen (now (registers .entry)) unasked) ⌝ }
 {
-    registers[B0] / 128 % 2 == 0
+    if registers[B0] / 128 % 2 != 0 {
+        return false;
+    }
+    if registers[CR1A] / 8 % 2 != 0 {
+        return false;
+    }
+    registers[CR1A] / 4 % 2 == 0
 }
 
 // The pointer's entry is one of the bank's.

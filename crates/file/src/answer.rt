@@ -21,7 +21,7 @@ pub enum Answer {
     ReadOnly,
     // 8: CR11[7] locks it
     Locked,
-    // 9: pixel data while B0[7] has the palette down
+    // 9: pixel data while the palette is down
     PaletteDown,
     // 10: a timing number
     OutOfRange,

@@ -24,6 +24,7 @@ pub use numbered::CAPTURE_Y_STOP;
 pub use numbered::CC;
 pub use numbered::CE;
 pub use numbered::CR0;
+pub use numbered::CR1A;
 pub use numbered::CR1B;
 pub use numbered::CR6;
 pub use numbered::CR7;

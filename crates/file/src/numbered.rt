@@ -22,6 +22,8 @@ pub const CR7: usize = 32;
 
 pub const CR11: usize = 42;
 
+pub const CR1A: usize = 51;
+
 pub const CR1B: usize = 52;
 
 pub const B0: usize = 85;
@@ -58,7 +60,7 @@ pub const CAPTURE_Y_START: usize = 106;
 pub const CAPTURE_Y_STOP: usize = 107;
 
 // All of them in the order above: each is the number that its name has in 01's table.
-pub fn named_numbers() -> [usize; 27]
+pub fn named_numbers() -> [usize; 28]
     ensures { λ r. ⌜ r ≡ numbersInCode ⌝ }
 {
     [
@@ -72,6 +74,7 @@ pub fn named_numbers() -> [usize; 27]
         CR6,
         CR7,
         CR11,
+        CR1A,
         CR1B,
         B0,
         CC,

@@ -23,7 +23,11 @@ use Rattle.timing.specs.Timing.{timingOf, numbersOf, timingIn, readTiming, with
 use Rattle.geometry.specs.Geometry.{mark, cursorIn, bottom, windowIn, readGeometry}
 use Rattle.paper.specs.Examples.{setRegister, started, mode12, examples, sameNumbers, sameInteger, stepsHold, afterSteps, colourIs, writingHolds, lookHolds, holds, allHold}
 
-pub examples-hold : (chip : Chip) → T (allHold chip (examples chip))
+-- computed on the one chip and on the other
+both-hold : T (allHold Gd5462 (examples Gd5462)) × T (allHold Gd5464 (examples Gd5464))
 unfolding endAfter meant storedFor inRange readFrom readNumbers rangesFrom allInRange writeNumbers width held gather pieceReach put scatter bits bit store within codeOf valueOf refused storeIn apply register crtcLocked withRegisters pci02 vPortShown vPortAtPowerOn powerOn component addressed moved afterWrite afterRead stores mixed dacState marksFrom marksSound pointerSound storedBits allWithin sound stateSound isOneOf selects matches first rowAt placeOfRow placeAt otherWay someRow heldIn isWider insideIn places placeOf lockedOut lockedReach reachIn paletteUp inBank entryNumber entry shownIn shownState vPortState answerAt pixelWrite answer effectAt effect access isWrite isPort isMmio notSound malformed spaceOff noRow notHeld otherDirection insideWider otherHalf otherWidth wrongWidth checks firstRefusal wide table timingOf numbersOf timingIn readTiming withTiming timingAnswer writtenFile writeTiming mark cursorIn bottom windowIn readGeometry setRegister started mode12 examples sameNumbers sameInteger stepsHold afterSteps colourIs writingHolds lookHolds holds allHold
-examples-hold Gd5462 = tt
-examples-hold Gd5464 = tt
+both-hold = (tt, tt)
+
+pub examples-hold : (chip : Chip) → T (allHold chip (examples chip))
+examples-hold Gd5462 = both-hold .0
+examples-hold Gd5464 = both-hold .1

@@ -114,6 +114,14 @@ abbrev pub blanked : ℕ → List ℕ
 blanked clocks =
     100 ∷ 80 ∷ 80 ∷ (80 + clocks) ∷ 84 ∷ 96 ∷ 525 ∷ 480 ∷ 487 ∷ 516 ∷ 490 ∷ 492 ∷ 1023 ∷ 40 ∷ 0 ∷ []
 
+-- 02, 7/13: CR1A with static sync in it, then pixel data by both roads and ways, the addresses, and pixel data once more with static sync off
+abbrev pub syncSteps : ℕ → List Step
+syncSteps sync =
+    mmioWrite 0x68 sync gives 0
+    ∷ portRead 0x3C9 gives 9 ∷ portWrite 0x3C9 7 gives 9 ∷ mmioRead 0xAC gives 9 ∷ mmioWrite 0xAC 7 gives 9
+    ∷ portWrite 0x3C7 5 gives 0 ∷ portRead 0x3C7 reads 0x03 ∷ portWrite 0x3C8 6 gives 0 ∷ portRead 0x3C8 reads 0x06
+    ∷ mmioWrite 0x68 0xF3 gives 0 ∷ portRead 0x3C9 reads 0x00 ∷ []
+
 -- those that hold on either chip
 unfoldable pub common : List Example
 common =
@@ -160,6 +168,8 @@ common =
     ∷ mmioWriteWord 0x10A 0xFFFF gives 0 ∷ mmioReadWord 0x10A reads 0x03FF ∷ mmioWriteWord 0x10E 0xFFFF gives 0 ∷ mmioReadWord 0x10E reads 0x01FF
     ∷ mmioRead 0x10C gives 6 ∷ mmioRead 0x10D gives 17 ∷ mmioReadWord 0x110 gives 4 ∷ configWrite 0x02 0x0000 gives 7 ∷ mmioWriteWord 0x302 0x0000 gives 7 ∷ [])
     nothing
+    ∷ example "02, 7/13" opened (syncSteps 0x08) nothing
+    ∷ example "02, 7/13" opened (syncSteps 0x04) nothing
     ∷ []
 
 -- 02, 6/13: those that the two chips answer differently: PCI02, and 10Ch at power-on, with every bit written and with none

@@ -13,7 +13,7 @@ use crate::records::put;
 use access::Record;
 
 // How many registers nothing else waits for.
-const PLAIN: usize = 100;
+const PLAIN: usize = 99;
 
 const REGISTER_ROWS: [u64; PLAIN] = [
     0x5_1_0A0_000_00_05, // pixel mask
@@ -42,7 +42,6 @@ const REGISTER_ROWS: [u64; PLAIN] = [
     0x5_1_05C_000_00_30, // CR17
     0x5_1_060_000_00_31, // CR18
     0x5_1_064_000_00_32, // CR19
-    0x5_1_068_000_00_33, // CR1A
     0x5_1_06C_000_00_34, // CR1B
     0x5_1_074_000_00_35, // CR1D
     0x5_1_078_000_00_36, // CR1E
@@ -118,8 +117,9 @@ const REGISTER_ROWS: [u64; PLAIN] = [
     0x3_1_3C0_3C0_14_54, // AR14
 ];
 
-const CLOSING_ROWS: [u64; 3] = [
+const CLOSING_ROWS: [u64; 4] = [
     0x5_1_0B0_000_00_55, // B0
+    0x5_1_068_000_00_33, // CR1A
     0x5_1_044_000_00_2A, // CR11
     0x1_2_004_000_00_06, // PCI04
 ];
@@ -132,7 +132,7 @@ pub fn register_rows() -> [u64; PLAIN]
 }
 
 // What stood open while the plan ran; PCI04 last.
-pub fn closing_rows() -> [u64; 3]
+pub fn closing_rows() -> [u64; 4]
     ensures { λ r. ⌜ map roadOf r ≡ closingRoads ⌝ }
 {
     CLOSING_ROWS

@@ -22,16 +22,17 @@ use file::MISC;
 use file::Pointer;
 use file::SRX;
 
-// Both spaces on, CR0 to CR7 unlocked, the palette up, MISC as wanted, the toggle at index.
+// Both spaces on, CR0 to CR7 unlocked, MISC as wanted, the palette up with static sync off, the toggle at index.
 pub fn put_opening(registers: &[u16], buffer: &mut [u8], at: usize) -> usize
-    requires { ⌜ at + 8 * 5 ≤ length (now buffer) ⌝ }
+    requires { ⌜ at + 8 * 6 ≤ length (now buffer) ⌝ }
     ensures { λ r. ⌜ Appended (now (buffer .entry)) at (opening (now (registers .entry))) (now (buffer .exit)) r ⌝ }
 {
     let misc = held(registers, MISC);
     let at = config_write(0x04, 3, buffer, at);
     let at = mmio_write(0x44, 0, buffer, at);
-    let at = mmio_write(0xB0, 0, buffer, at);
     let at = mmio_write(0x80, misc, buffer, at);
+    let at = mmio_write(0xB0, 0, buffer, at);
+    let at = mmio_write(0x68, 0, buffer, at);
     port_read(by_half(misc, 0x3BA, 0x3DA), buffer, at)
 }
 
@@ -167,9 +168,9 @@ fn put_pointer(pointer: Pointer, buffer: &mut [u8], at: usize) -> usize
     mmio_write(0xA8, wide_byte(pointer.address), buffer, at)
 }
 
-// The pointer; then B0, CR11 and PCI04 as wanted.
+// The pointer; then B0, CR1A, CR11 and PCI04 as wanted.
 pub fn put_closing(registers: &[u16], pointer: Pointer, buffer: &mut [u8], at: usize) -> usize
-    requires { ⌜ at + 8 * 4 ≤ length (now buffer) ⌝ }
+    requires { ⌜ at + 8 * 5 ≤ length (now buffer) ⌝ }
     ensures { λ r. ⌜ Appended (now (buffer .entry)) at (closing (now (registers .entry)) pointer) (now (buffer .exit)) r ⌝ }
 {
     let rows = closing_rows();

@@ -15,7 +15,7 @@ use Rattle.file.specs.declared.palette.Colour.{Colour}
 use Rattle.file.specs.declared.palette.Pointer.{Pointer}
 use Rattle.file.specs.declared.registers.File.{File}
 use Rattle.file.specs.File.{register, withRegisters, withPalette, withBank, withPointer, withToggle}
-use Rattle.file.specs.Names.{MISC, ARX, PCI04, CR11, B0}
+use Rattle.file.specs.Names.{MISC, ARX, PCI04, CR11, CR1A, B0}
 use Rattle.file.specs.Palette.{addressed, marksSound, pointerSound}
 use Rattle.file.specs.Registers.{storedBits, storedTable}
 use Rattle.file.specs.Sound.{allWithin, sound}
@@ -23,12 +23,12 @@ use Rattle.file.proofs.Soundness.{registers-sound, sound-by, state-sound, point
 use Rattle.file.specs.State.{stateSound}
 use Rattle.places.specs.Lookup.{isOneOf}
 use Rattle.access.specs.Access.{paletteUp, inBank}
-use Rattle.roads.specs.Roads.{toPCI04, toCR11, toB0, toSRX, toGRX, toARX, toCRX, registerRoads, indexRoads, closingRoads, eachRoad, but, byHalf}
-use Rattle.roads.specs.Plan.{toggleRead, pointerWrite, openPalette, openBank, entries, colours, marking, indices, closing}
+use Rattle.roads.specs.Roads.{toPCI04, toCR11, toB0, toCR1A, toSRX, toGRX, toARX, toCRX, registerRoads, indexRoads, closingRoads, eachRoad, but, byHalf}
+use Rattle.roads.specs.Plan.{toggleRead, pointerWrite, openPalette, openBank, openSync, entries, colours, marking, indices, closing}
 use Rattle.roads.specs.RoadRecords.{write, selecting, along}
 use Rattle.roads.specs.Restores.{RunsInto, bytes}
 use Rattle.roads.specs.RegisterStage.{withRegister, withFlip, indexFlips, everyRoad, SpacesOn, Ready, loose, selectable, brought, passable, onBoth, stores, Brings}
-use Rattle.roads.specs.ColourStage.{PaletteReady, entryCount, entriesIn, withEntries, painted, inRange, withStep, writeBlue, marksAfter, afterStretch}
+use Rattle.roads.specs.ColourStage.{PaletteReady, PaletteOpen, entryCount, entriesIn, withEntries, painted, inRange, withStep, writeBlue, marksAfter, afterStretch}
 use Rattle.roads.specs.StageEnds.{coloured, markedPointer, marked, indexed, closed}
 use Rattle.roads.proofs.RegisterStageRuns.{AllLead, roads-bring, arx-leads}
 use Rattle.roads.proofs.LookupBySelectors.{selectorsOf}
@@ -55,14 +55,16 @@ ready-as w f g e chip p ready =
       misc = ap (λ (rs : List ℕ). getD rs MISC 0) e ∙ ready .misc;
     }
 
--- B0 with the palette up, and the palette or the bank chosen
-abbrev choosing : Bool → ℕ
-choosing bank = cond bank openBank openPalette
+-- as a plan opens it the palette is up, and the palette or the bank is chosen
+chosen-up : (w : List ℕ) (f : File) (bank : Bool) → Ready w f → PaletteOpen f bank → PaletteReady f bank
+unfolding openPalette openBank openSync paletteUp inBank bit
+chosen-up w f true ready opens = record { isSound = ready .isSound; on = ready .on; up = rw (opens .b0, opens .sync); chosen = rw (opens .b0) }
+chosen-up w f false ready opens = record { isSound = ready .isSound; on = ready .on; up = rw (opens .b0, opens .sync); chosen = rw (opens .b0) }
 
-chosen-up : (w : List ℕ) (f : File) (bank : Bool) → Ready w f → register f B0 ≡ choosing bank → PaletteReady f bank
-unfolding openPalette openBank paletteUp inBank bit
-chosen-up w f true ready b0 = record { isSound = ready .isSound; on = ready .on; up = rw b0; chosen = rw b0 }
-chosen-up w f false ready b0 = record { isSound = ready .isSound; on = ready .on; up = rw b0; chosen = rw b0 }
+-- a file with the bank chosen next
+bank-open : (f : File) → T (sound f) → register f CR1A ≡ openSync → PaletteOpen (withRegister B0 openBank f) true
+bank-open f s sync =
+    record { b0 = at-any f B0 openBank B0 s (lit< tt); sync = at-any f B0 openBank CR1A s (lit< tt) ∙ sync }
 
 -- where there is an entry the marks end at write, blue
 ends-blue : (m : ℕ) (cs : List Colour) → 1 ≤ length cs → marksAfter m cs ≡ writeBlue
@@ -75,24 +77,24 @@ some-entries true = omega arith
 some-entries false = omega arith
 
 -- all entries, from the first on
-all-run : (w : List ℕ) (f : File) (bank : Bool) (new : List Colour) → Ready w f → register f B0 ≡ choosing bank
+all-run : (w : List ℕ) (f : File) (bank : Bool) (new : List Colour) → Ready w f → PaletteOpen f bank
     → length (entriesIn bank f) ≡ entryCount bank → length new ≡ entryCount bank → T (bytes new)
     → RunsInto f (entries 0 new) (withStep (addressed false (entryCount bank % 256)) writeBlue (withEntries bank new f))
 unfolding afterStretch painted inRange
-all-run w f bank new ready b0 old many t =
+all-run w f bank new ready opens old many t =
     subst (λ (g : File). RunsInto f (entries 0 new) g)
     (ap₂ (λ (a : ℕ) (l : List Colour). withStep (addressed false (a % 256)) (marksAfter (f .state .marks) new) (withEntries bank l f)) total
     (sets-all (entriesIn bank f) new (old ∙ sym many))
     ∙ ap (λ (m : ℕ). withStep (addressed false (entryCount bank % 256)) m (withEntries bank new f))
     (ends-blue (f .state .marks) new (omega (arith, many, some-entries bank))))
-    (stretch-runs (record { first = 0; colours = new }) f bank (ready .isSound) (chosen-up w f bank ready b0)
+    (stretch-runs (record { first = 0; colours = new }) f bank (ready .isSound) (chosen-up w f bank ready opens)
     (both (leb (0 + length new) (entryCount bank)) (bytes new) (le→leb (0 + length new) (entryCount bank) (omega (arith, many))) t))
   where
     total : 0 + length new ≡ entryCount bank
     total = omega (arith, many)
 
 module _ (w : List ℕ) (palette bank : List Colour) (f : File) (all : length palette ≡ 256) (allBytes : T (bytes palette))
-    (sixteen : length bank ≡ 16) (bankBytes : T (bytes bank)) (ready : Ready w f) (b0 : register f B0 ≡ openPalette)
+    (sixteen : length bank ≡ 16) (bankBytes : T (bytes bank)) (ready : Ready w f) (opens : PaletteOpen f false)
     (many : length (f .palette) ≡ 256) (few : length (f .bank) ≡ 16) where
   -- between the two
   abbrev half : File
@@ -106,30 +108,33 @@ module _ (w : List ℕ) (palette bank : List Colour) (f : File) (all : length pa
   unfolding loose isOneOf withStep withPalette
   switched-ready = ready-with w half B0 openBank half-ready tt (open-fits (f .state .chip) .bank)
 
+  switched-open : PaletteOpen (withRegister B0 openBank half) true
+  unfolding withStep withPalette register
+  switched-open = bank-open half (half-ready .isSound) (opens .sync)
+
   -- the stage
   pub colours-run : RunsInto f (colours palette bank) (coloured palette bank f)
   unfolding colours coloured indexFlips withFlip withRegister withRegisters withStep withPalette withBank
   colours-run =
       runs-then (entries 0 palette) (write toB0 openBank ∷ entries 0 bank) f half (coloured palette bank f)
-      (all-run w f false palette ready b0 many all allBytes)
+      (all-run w f false palette ready opens many all allBytes)
       (runs-then (write toB0 openBank ∷ []) (entries 0 bank) half (withRegister B0 openBank half) (coloured palette bank f)
       (ready-runs w half toB0 openBank half-ready (single-roads-lead (selectorsOf half) .b0) (open-fits (f .state .chip) .bank))
-      (all-run w (withRegister B0 openBank half) true bank switched-ready (at-any half B0 openBank B0 (half-ready .isSound) (lit< tt)) few
-      sixteen bankBytes))
+      (all-run w (withRegister B0 openBank half) true bank switched-ready switched-open few sixteen bankBytes))
 
   pub coloured-ready : Ready w (coloured palette bank f)
   unfolding coloured withRegister withRegisters withStep withPalette addressed marksSound pointerSound withBank
   coloured-ready =
       ready-as w (withRegister B0 openBank half) (coloured palette bank f) refl refl (stepping-sound (addressed false 16) writeBlue (f .state) tt) switched-ready
 
-  coloured-bank : register (coloured palette bank f) B0 ≡ openBank
+  coloured-open : PaletteOpen (coloured palette bank f) true
   unfolding coloured withRegister withRegisters withStep withPalette withBank register
-  coloured-bank = at-any half B0 openBank B0 (half-ready .isSound) (lit< tt)
+  coloured-open = record { b0 = switched-open .b0; sync = switched-open .sync }
 
   -- the next stage: the marks
   pub marks-run : (m : ℕ) → T (marksSound m) → RunsInto (coloured palette bank f) (marking m) (marked m (coloured palette bank f))
   unfolding coloured withStep marked
-  marks-run m t = steps-run (coloured palette bank f) true m (chosen-up w (coloured palette bank f) true coloured-ready coloured-bank) t
+  marks-run m t = steps-run (coloured palette bank f) true m (chosen-up w (coloured palette bank f) true coloured-ready coloured-open) t
 
   pub marked-ready : (m : ℕ) → T (marksSound m) → Ready w (marked m (coloured palette bank f))
   unfolding marked withStep
@@ -215,6 +220,14 @@ module _ (w : List ℕ) (p : Pointer) (f : File) (s : T (allWithin (storedTable 
   unfolding loose isOneOf withPointer
   b0-ready = ready-with w pointed B0 (getD w B0 0) pointed-ready tt (wanted-within (f .state .chip) w B0 s)
 
+  abbrev synced : File
+  synced = withRegister CR1A (getD w CR1A 0) (withRegister B0 (getD w B0 0) pointed)
+
+  sync-ready : Ready w synced
+  unfolding loose isOneOf withPointer withRegister withRegisters
+  sync-ready =
+      ready-with w (withRegister B0 (getD w B0 0) pointed) CR1A (getD w CR1A 0) b0-ready tt (wanted-within (f .state .chip) w CR1A s)
+
   -- the stage
   pub closing-runs : RunsInto f (closing w p) (closed w p f)
   unfolding closing closed closingRoads along selecting indexFlips withFlip withPointer withRegister withRegisters
@@ -223,13 +236,16 @@ module _ (w : List ℕ) (p : Pointer) (f : File) (s : T (allWithin (storedTable 
       f pointed (closed w p f)
       (subst (λ (q : Pointer). RunsInto f (pointerWrite p ∷ []) (withPointer q f)) (before-red p ps red)
       (address-runs f (p .reading) (p .address) (ready .isSound) (ready .on) small))
-      (runs-then (write toB0 (getD w B0 0) ∷ []) (write toCR11 (getD w CR11 0) ∷ write toPCI04 (getD w PCI04 0) ∷ [])
+      (runs-then (write toB0 (getD w B0 0) ∷ []) (write toCR1A (getD w CR1A 0) ∷ write toCR11 (getD w CR11 0) ∷ write toPCI04 (getD w PCI04 0) ∷ [])
       pointed (withRegister B0 (getD w B0 0) pointed) (closed w p f)
       (ready-runs w pointed toB0 (getD w B0 0) pointed-ready (single-roads-lead (selectorsOf pointed) .b0) (wanted-within (f .state .chip) w B0 s))
+      (runs-then (write toCR1A (getD w CR1A 0) ∷ []) (write toCR11 (getD w CR11 0) ∷ write toPCI04 (getD w PCI04 0) ∷ [])
+      (withRegister B0 (getD w B0 0) pointed) synced (closed w p f)
+      (ready-runs w (withRegister B0 (getD w B0 0) pointed) toCR1A (getD w CR1A 0) b0-ready
+      (single-roads-lead (selectorsOf (withRegister B0 (getD w B0 0) pointed)) .cr1a) (wanted-within (f .state .chip) w CR1A s))
       (runs-then (write toCR11 (getD w CR11 0) ∷ []) (write toPCI04 (getD w PCI04 0) ∷ [])
-      (withRegister B0 (getD w B0 0) pointed) (withRegister CR11 (getD w CR11 0) (withRegister B0 (getD w B0 0) pointed)) (closed w p f)
-      (ready-runs w (withRegister B0 (getD w B0 0) pointed) toCR11 (getD w CR11 0) b0-ready
-      (single-roads-lead (selectorsOf (withRegister B0 (getD w B0 0) pointed)) .cr11) (wanted-within (f .state .chip) w CR11 s))
-      (config-runs (withRegister CR11 (getD w CR11 0) (withRegister B0 (getD w B0 0) pointed)) (getD w PCI04 0)
-      (with-sound (withRegister B0 (getD w B0 0) pointed) CR11 (getD w CR11 0) (b0-ready .isSound) (wanted-within (f .state .chip) w CR11 s))
-      (wanted-within (f .state .chip) w PCI04 s))))
+      synced (withRegister CR11 (getD w CR11 0) synced) (closed w p f)
+      (ready-runs w synced toCR11 (getD w CR11 0) sync-ready (single-roads-lead (selectorsOf synced) .cr11) (wanted-within (f .state .chip) w CR11 s))
+      (config-runs (withRegister CR11 (getD w CR11 0) synced) (getD w PCI04 0)
+      (with-sound synced CR11 (getD w CR11 0) (sync-ready .isSound) (wanted-within (f .state .chip) w CR11 s))
+      (wanted-within (f .state .chip) w PCI04 s)))))

@@ -1,4 +1,4 @@
--- How many records a plan has: 981 for every wanted file, and up to 3 for its marks, within 01's 1,024.
+-- How many records a plan has: 982 for every wanted file, and up to 3 for its marks, within 01's 1,024.
 -- Assumes nothing.
 use Prim.Native.Nat.{ℕ, zero, suc, _+_, _*_, _≤_}
 use mathlib.Core.Path.{_≡_, refl}
@@ -26,7 +26,7 @@ unfolding colours entries
 colour-records palette bank p b = rw (length-append, pixels-count palette, pixels-count bank, p, b)
 
 -- one or two records for each register
-register-records : (w : List ℕ) → length (along w registerRoads) ≡ 148
+register-records : (w : List ℕ) → length (along w registerRoads) ≡ 147
 unfolding along selecting registerRoads
 register-records w = refl
 
@@ -37,11 +37,11 @@ colours-parts palette bank = omega (arith, length-append (entries 0 palette) (wr
 
 pub plan-parts : (w : File)
     → length (planRecords w)
-    ≡ 5 + length (colours (w .palette) (w .bank)) + length (marking (w .state .marks)) + length (along (w .registers) registerRoads) + 5 + 4
+    ≡ 6 + length (colours (w .palette) (w .bank)) + length (marking (w .state .marks)) + length (along (w .registers) registerRoads) + 5 + 5
 unfolding planRecords opening indices closing closingRoads along selecting indexRoads
 plan-parts w = simp length-append
 
-pub plan-count : (w : File) → IsFile w → length (planRecords w) ≡ 981 + length (marking (w .state .marks))
+pub plan-count : (w : File) → IsFile w → length (planRecords w) ≡ 982 + length (marking (w .state .marks))
 plan-count w wf =
     omega (arith, plan-parts w, colour-records (w .palette) (w .bank) (wf .palette) (wf .bank), register-records (w .registers))
 

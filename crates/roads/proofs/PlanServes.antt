@@ -15,7 +15,7 @@ use Rattle.file.specs.declared.chip.Chip.{Chip}
 use Rattle.file.specs.declared.chip.Chip.the-variants.{Gd5462, Gd5464}
 use Rattle.file.specs.declared.registers.File.{File}
 use Rattle.file.specs.File.{register, withRegisters, withPointer, withToggle, withPalette, withBank}
-use Rattle.file.specs.Names.{MISC, B0}
+use Rattle.file.specs.Names.{MISC}
 use Rattle.file.specs.Registers.{registerCount, storedTable, sequencer, crtc, graphics, attribute, pipeline, vPort}
 use Rattle.file.specs.Answers.{codeOf, refused}
 use Rattle.file.specs.Chips.{sameChip}
@@ -28,18 +28,18 @@ use Rattle.access.specs.declared.record.Record.{Record}
 use Rattle.trace.specs.Records.{items}
 use Rattle.trace.specs.Run.{fileAfter, answers}
 use Rattle.roads.specs.Roads.{Road, toARX, eachRoad, but, registerRoads, indexRoads, closingRoads}
-use Rattle.roads.specs.Plan.{openPalette, opening, colours, marking, indices, closing, planRecords}
+use Rattle.roads.specs.Plan.{opening, colours, marking, indices, closing, planRecords}
 use Rattle.roads.specs.RoadRecords.{along}
 use Rattle.roads.specs.Refusals.{planAnswer, restoreAnswer, answerByRun}
 use Rattle.roads.specs.Restores.{allAccepted, RunsInto, IsFile, Plans, PlanWritten}
 use Rattle.roads.specs.RegisterStage.{withRegister, Ready, afterSelecting, afterRoads, brought, moves, endsWanted, Brings}
-use Rattle.roads.specs.ColourStage.{withStep}
+use Rattle.roads.specs.ColourStage.{PaletteOpen, withStep}
 use Rattle.roads.specs.StageEnds.{opened, coloured, marked, indexed, closed}
 use Rattle.roads.proofs.RegisterStageRuns.{ends-wanted, after-length, after-append}
 use Rattle.roads.proofs.RunsCompose.{runs-then}
 use Rattle.roads.proofs.PlanCount.{plan-room}
 use Rattle.roads.proofs.AcceptedFits.{run-fits, trace-items}
-use Rattle.roads.proofs.OpeningRuns.{opening-runs, opened-ready, opened-up}
+use Rattle.roads.proofs.OpeningRuns.{opening-runs, opened-ready, opened-open}
 use Rattle.roads.proofs.LaterStagesRun.{colours-run, marks-run, marked-ready, registers-bring, indices-run, indexed-ready, closing-runs}
 
 -- ---- every register is named
@@ -94,26 +94,26 @@ module _ (w f : File) (chips : f .state .chip ≡ w .state .chip) (ws : T (sound
   opening-ready : Ready (w .registers) afterOpening
   opening-ready = opened-ready (w .registers) f within-bits fs
 
-  opening-up : register afterOpening B0 ≡ openPalette
-  opening-up = opened-up (w .registers) f within-bits fs
+  opening-open : PaletteOpen afterOpening false
+  opening-open = opened-open (w .registers) f within-bits fs
 
   second-runs : RunsInto afterOpening (colours (w .palette) (w .bank)) afterColours
   unfolding opened withToggle withRegister withRegisters
   second-runs =
       colours-run (w .registers) (w .palette) (w .bank) afterOpening (wf .palette) (wf .paletteBytes) (wf .bank) (wf .bankBytes)
-      opening-ready opening-up many few
+      opening-ready opening-open many few
 
   third-runs : RunsInto afterColours (marking (w .state .marks)) afterMarks
   unfolding opened withToggle withRegister withRegisters
   third-runs =
       marks-run (w .registers) (w .palette) (w .bank) afterOpening (wf .palette) (wf .paletteBytes) (wf .bank) (wf .bankBytes)
-      opening-ready opening-up many few (w .state .marks) (marks-sound w ws)
+      opening-ready opening-open many few (w .state .marks) (marks-sound w ws)
 
   marks-ready : Ready (w .registers) afterMarks
   unfolding opened withToggle withRegister withRegisters
   marks-ready =
       marked-ready (w .registers) (w .palette) (w .bank) afterOpening (wf .palette) (wf .paletteBytes) (wf .bank) (wf .bankBytes)
-      opening-ready opening-up many few (w .state .marks) (marks-sound w ws)
+      opening-ready opening-open many few (w .state .marks) (marks-sound w ws)
 
   fourth-brings : Brings (w .registers) afterMarks registerRoads
   unfolding marked coloured opened withToggle withStep withBank withPalette withRegister withRegisters

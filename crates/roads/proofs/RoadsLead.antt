@@ -16,7 +16,7 @@ use Rattle.access.specs.Checks.{isPort, otherHalf}
 use Rattle.places.specs.Lookup.{attributeIndex, selects, matches, first, rowAt, isOneOf}
 use Rattle.places.specs.Places.{Index, any, sr, cr, gr, ar, indexDue, dataDue, Row, places}
 use Rattle.places.specs.Profile.{profile, storesInto, flips}
-use Rattle.roads.specs.Roads.{Road, portRoad, eachRoad, but, toPCI04, toCR11, toB0, toMISC, toSRX, toGRX, toARX, registerRoads}
+use Rattle.roads.specs.Roads.{Road, portRoad, eachRoad, but, toPCI04, toCR11, toB0, toCR1A, toMISC, toSRX, toGRX, toARX, registerRoads}
 use Rattle.roads.specs.RoadRecords.{write}
 use Rattle.roads.specs.RegisterStage.{indexFlips, onBoth, everyRoad}
 use Rattle.roads.proofs.LookupBySelectors.{Selectors, bareFile}
@@ -68,6 +68,7 @@ pub record SingleRoads (v : Selectors) : Type 0 where
   pub pci04 : T (leads v toPCI04)
   pub cr11 : T (leads v toCR11)
   pub b0 : T (leads v toB0)
+  pub cr1a : T (leads v toCR1A)
   pub misc : T (leads v toMISC)
   pub srx : T (leads v toSRX)
   pub grx : T (leads v toGRX)
@@ -75,7 +76,7 @@ pub record SingleRoads (v : Selectors) : Type 0 where
 
 pub single-roads-lead : (v : Selectors) → SingleRoads v
 unfolding everyRoad leads withIndex finds same indexFlips flips profile storesInto onBoth storedBits storedTable otherHalf isPort isOneOf rowAt first matches selects attributeIndex bits register bareFile places
-single-roads-lead v = record { pci04 = tt; cr11 = tt; b0 = tt; misc = tt; srx = tt; grx = tt; arx = tt }
+single-roads-lead v = record { pci04 = tt; cr11 = tt; b0 = tt; cr1a = tt; misc = tt; srx = tt; grx = tt; arx = tt }
 
 -- CRX has its port by MISC[0]
 pub crx-leads : (v : Selectors) (x : ℕ) → x < 2 → bit 0 (v .misc) ≡ x → T (leads v (portRoad CRX (cond (eqb x 1) 0x3D4 0x3B4) any))

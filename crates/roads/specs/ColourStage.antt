@@ -10,13 +10,14 @@ use lib.Seq.{sets}
 use Rattle.file.specs.declared.palette.Colour.{Colour}
 use Rattle.file.specs.declared.palette.Pointer.{Pointer}
 use Rattle.file.specs.declared.registers.File.{File}
-use Rattle.file.specs.File.{withPalette, withBank, withState, black}
+use Rattle.file.specs.File.{register, withPalette, withBank, withState, black}
+use Rattle.file.specs.Names.{CR1A, B0}
 use Rattle.file.specs.Palette.{addressed, marksOf}
 use Rattle.file.specs.Sound.{sound}
 use Rattle.file.specs.State.{stepping}
 use Rattle.access.specs.declared.record.Record.{Record}
 use Rattle.access.specs.Access.{paletteUp, inBank}
-use Rattle.roads.specs.Plan.{entries}
+use Rattle.roads.specs.Plan.{openPalette, openBank, openSync, entries}
 use Rattle.roads.specs.Restores.{bytes}
 use Rattle.roads.specs.RegisterStage.{SpacesOn}
 
@@ -28,6 +29,11 @@ pub record PaletteReady (f : File) (bank : Bool) : Type 0 where
   pub on : SpacesOn f
   pub up : paletteUp f ≡ true
   pub chosen : inBank f ≡ bank
+
+-- B0 and CR1A as a plan opens them for the palette or the bank (02, 7/13)
+pub record PaletteOpen (f : File) (bank : Bool) : Type 0 where
+  pub b0 : register f B0 ≡ cond bank openBank openPalette
+  pub sync : register f CR1A ≡ openSync
 
 -- how many entries there are
 abbrev pub entryCount : Bool → ℕ

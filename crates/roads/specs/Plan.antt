@@ -10,7 +10,7 @@ use Rattle.file.specs.declared.registers.File.{File}
 use Rattle.file.specs.Names.{MISC, ARX}
 use Rattle.file.specs.Palette.{byColour, markedRead, markedColour}
 use Rattle.access.specs.declared.record.Record.{Record}
-use Rattle.roads.specs.Roads.{toPCI04, toCR11, toB0, toMISC, toARX, byHalf, registerRoads, indexRoads, closingRoads}
+use Rattle.roads.specs.Roads.{toPCI04, toCR11, toB0, toCR1A, toMISC, toARX, byHalf, registerRoads, indexRoads, closingRoads}
 use Rattle.roads.specs.RoadRecords.{write, along}
 
 -- a word to config space, a port's byte, a byte to and from MMIO
@@ -41,7 +41,8 @@ toggleRead misc toggle = cond toggle (portRead 0x3C0) (toIndex misc)
 abbrev pub pointerWrite : Pointer → Record
 pointerWrite p = mmioWrite (cond (p .reading) 0xA4 0xA8) (p .address)
 
--- what the opened registers hold while a plan runs: PCI04[1:0]=3; CR11[7]=0; B0[7]=0, and B0[3] chooses the palette or the bank
+-- what the opened registers hold while a plan runs: PCI04[1:0]=3; CR11[7]=0; B0[7]=0, and B0[3] chooses the palette or the bank; 02, 7/13, 'they must
+-- open the palette whatever the start holds': CR1A[3:2]=0
 unfoldable pub openSpaces : ℕ
 openSpaces = 0x0003
 
@@ -54,13 +55,17 @@ openPalette = 0x00
 unfoldable pub openBank : ℕ
 openBank = 0x08
 
--- both spaces on, CR0 to CR7 unlocked, the palette up and its 256 entries chosen, MISC as wanted, the toggle at index
+unfoldable pub openSync : ℕ
+openSync = 0x00
+
+-- both spaces on, CR0 to CR7 unlocked, MISC as wanted, the palette up and its 256 entries chosen, static sync off, the toggle at index
 unfoldable pub opening : List ℕ → List Record
 opening wanted =
     write toPCI04 openSpaces
     ∷ write toCR11 openLock
-    ∷ write toB0 openPalette
     ∷ write toMISC (getD wanted MISC 0)
+    ∷ write toB0 openPalette
+    ∷ write toCR1A openSync
     ∷ toIndex (getD wanted MISC 0)
     ∷ []
 

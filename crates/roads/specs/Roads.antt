@@ -6,7 +6,7 @@ use mathlib.Core.List.{List, [], _∷_, _++_}
 use lib.Dec.{eqb}
 use Rattle.bits.specs.Store.{bit}
 use Rattle.places.specs.Lookup.{isOneOf}
-use Rattle.file.specs.Names.{MISC, SRX, CRX, GRX, ARX, pixelMask, PCI04, SR0, CR0, CR11, GR0, AR0, B0, buffer0X}
+use Rattle.file.specs.Names.{MISC, SRX, CRX, GRX, ARX, pixelMask, PCI04, SR0, CR0, CR11, CR1A, GR0, AR0, B0, buffer0X}
 use Rattle.file.specs.Registers.{Register as Stored, sequencer, crtc, graphics, attribute, pipeline, vPort}
 use Rattle.places.specs.Places.{Index, any, sr, gr, indexDue, dataDue}
 
@@ -54,19 +54,23 @@ toCR11 = mmioRoad CR11 1 0x44
 abbrev pub toB0 : Road
 toB0 = mmioRoad B0 1 0xB0
 
+-- 02, 7/13, static sync: CR1A is under no lock
+abbrev pub toCR1A : Road
+toCR1A = mmioRoad CR1A 1 0x68
+
 abbrev pub toMISC : Road
 toMISC = mmioRoad MISC 1 0x80
 
--- three of them once more at the end, PCI04 last
+-- four of them once more at the end, PCI04 last; 02, 7/13: plans 'put CR1A back at the end'
 unfoldable pub closingRoads : List Road
-closingRoads = toB0 ∷ toCR11 ∷ toPCI04 ∷ []
+closingRoads = toB0 ∷ toCR1A ∷ toCR11 ∷ toPCI04 ∷ []
 
 -- 'pixel mask A0h', 'CRn at 4n', 'the 15 pipeline registers stored below, at their offsets', and 02, 6/13, 'a plan sets these registers
 -- too', the V-Port's at theirs; '3C4h/3C5h', '3CEh/3CFh', '3C0h .. index or data by the toggle'
 unfoldable pub registerRoads : List Road
 unfolding eachRoad but isOneOf crtc pipeline vPort sequencer graphics attribute
 registerRoads =
-    but (CR11 ∷ B0 ∷ [])
+    but (CR11 ∷ CR1A ∷ B0 ∷ [])
     (mmioRoad pixelMask 1 0xA0
     ∷ eachRoad (λ (r : Stored) (n : ℕ). mmioRoad n 1 (4 * r .index)) CR0 crtc
     ++ eachRoad (λ (r : Stored) (n : ℕ). mmioRoad n (r .width) (r .index)) B0 pipeline

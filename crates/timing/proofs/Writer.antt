@@ -91,6 +91,13 @@ pub free-kept : (f : File) (t : Timing) (k i : ℕ) → bit i (getD free k noBit
 free-kept f t k i e =
     same-outside f t .registers (getD free k noBits .register) i (unused-bit (table (wide f)) free k i (table-unused (wide f)) e)
 
+-- 02, 7/13: static sync, CR1A[3] and CR1A[2], which stops the palette, is among them: a timing write never moves it
+pub sync-kept : (f : File) (t : Timing)
+    → (bit 3 (register (writeTiming f t .file) CR1A) ≡ bit 3 (register f CR1A))
+    × (bit 2 (register (writeTiming f t .file) CR1A) ≡ bit 2 (register f CR1A))
+unfolding free bit
+sync-kept f t = (free-kept f t 0 3 refl, free-kept f t 0 2 refl)
+
 -- a narrow file keeps CR1A whole
 pub narrow-kept : (f : File) (t : Timing) → wide f ≡ false → register (writeTiming f t .file) CR1A ≡ register f CR1A
 narrow-kept f t n =

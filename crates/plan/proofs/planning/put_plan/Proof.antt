@@ -75,11 +75,11 @@ put-closing-requires c κs =
     let w = start .args .wanted in
     let before = length (along (w .registers) registerRoads) in
     let marks = length (marking (w .state .marks)) in
-    room-behind 4 (fifth .put-indices .ensures)
-    (room-behind 9 (rw (first .before .before .register-rows .ensures) at (fourth .put-registers .ensures))
-    (room-behind (before + 9) (third .put-marks .ensures)
-    (room-behind (marks + (before + 9)) (second .put-colours .ensures)
-    (room-behind (length (colours (w .palette) (w .bank)) + (marks + (before + 9))) (first .put-opening .ensures) (omega (arith, plan-parts w, start .pre))))))
+    room-behind 5 (fifth .put-indices .ensures)
+    (room-behind 10 (rw (first .before .before .register-rows .ensures) at (fourth .put-registers .ensures))
+    (room-behind (before + 10) (third .put-marks .ensures)
+    (room-behind (marks + (before + 10)) (second .put-colours .ensures)
+    (room-behind (length (colours (w .palette) (w .bank)) + (marks + (before + 10))) (first .put-opening .ensures) (omega (arith, plan-parts w, start .pre))))))
 
 returns : tie.Need-returns
 unfolding planRecords

@@ -9,7 +9,7 @@ use Rattle.plan.proofs.stages.put_closing.Tie as tie
 
 put-registers-requires : tie.Need-put-registers-requires
 unfolding closingRoads along selecting
-put-registers-requires c κs = rw (c .before .before .before .before .before .before .closing-rows .ensures) (room-behind 3 (c .before .before .before .before .put-pointer .ensures) (c .before .before .before .before .before .before .before .before .before .pre))
+put-registers-requires c κs = rw (c .before .before .before .before .before .before .closing-rows .ensures) (room-behind 4 (c .before .before .before .before .put-pointer .ensures) (c .before .before .before .before .before .before .before .before .before .pre))
 
 returns : tie.Need-returns
 unfolding closing
