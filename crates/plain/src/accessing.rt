@@ -16,12 +16,21 @@ use file::Answer;
 use file::File;
 use file::is_sound;
 
-// A write's value, which fits two bytes.
-fn word(value: u32) -> u16
-    requires { ⌜ value < 65536 ⌝ }
-    ensures { λ r. ⌜ r ≡ value ⌝ }
+// What stands next in a trace; a fragment has code 2, and an unsound file 12 before it.
+pub fn access_item(list: &[u8; BYTES], item: Item, whole: File) -> Told
+    requires { ⌜ Listed (now list) ⌝ }
+    ensures { λ r. ⌜ r ≡ itemTold whole item ⌝ }
 {
-    value as u16
+    match item {
+        Item::Whole(asked) => access(list, asked, whole),
+        Item::Fragment(_) => {
+            if is_sound(whole) {
+                leaving(whole, Answer::Malformed)
+            } else {
+                leaving(whole, Answer::NotSound)
+            }
+        }
+    }
 }
 
 // A whole record.
@@ -42,19 +51,10 @@ fn access(list: &[u8; BYTES], asked: Record, whole: File) -> Told
     }
 }
 
-// What stands next in a trace; a fragment has code 2, and an unsound file 12 before it.
-pub fn access_item(list: &[u8; BYTES], item: Item, whole: File) -> Told
-    requires { ⌜ Listed (now list) ⌝ }
-    ensures { λ r. ⌜ r ≡ itemTold whole item ⌝ }
+// A write's value, which fits two bytes.
+fn word(value: u32) -> u16
+    requires { ⌜ value < 65536 ⌝ }
+    ensures { λ r. ⌜ r ≡ value ⌝ }
 {
-    match item {
-        Item::Whole(asked) => access(list, asked, whole),
-        Item::Fragment(_) => {
-            if is_sound(whole) {
-                leaving(whole, Answer::Malformed)
-            } else {
-                leaving(whole, Answer::NotSound)
-            }
-        }
-    }
+    value as u16
 }
