@@ -41,10 +41,11 @@ use places::OTHER_WAY_HELD;
 use places::Place;
 use places::WIDER_HELD;
 
-// What the common checks say: a refusal, or the cell of the place to be asked.
+// What the common checks say: a refusal, the cell of the place to be asked, or that lines pass.
 pub enum Looked {
     Refused(Answer),
     At(u8),
+    Lines,
 }
 
 // Code 2.
