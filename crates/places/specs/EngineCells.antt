@@ -17,7 +17,7 @@ use Rattle.places.specs.declared.place.Place.{Place}
 use Rattle.places.specs.declared.place.Place.the-variants.{Register, Attribute, Fixed, DeviceId, ToggleState, AttributeIndex, PaletteState, VPortState, ReadAddress, WriteAddress, PixelData, ToggleReset, Unnamed, UnnamedAttribute, CurrentLine, Passing}
 use Rattle.places.specs.Lookup.{attributeIndex, selects, first, placeOfRow, otherWay, heldIn, insideIn}
 use Rattle.places.specs.Profile.{Reading, givesHeld, givesFixed, givesDeviceId, givesToggle, givesPaletteState, givesVPortState, givesDacState, givesAddress, givesPixel, resetsToggle, givesLine, namesNothing, Writing, storesTo, readOnly, setsAddress, writesPixel, storesNothing, passesLines, profile}
-use Rattle.places.specs.Places.{Index, any, sr, cr, gr, ar, indexDue, dataDue, Row, places, sr6, pci00}
+use Rattle.places.specs.Places.{Index, any, sr, cr, gr, ar, indexDue, dataDue, Row, sharedPlaces, places, sr6, pci00}
 
 -- ---- the numbers of cells
 
@@ -97,8 +97,11 @@ unfoldable pub ofAddress : ℕ → List Row → List Row
 ofAddress address [] = []
 ofAddress address (row ∷ rows) = cond (eqb address (row .address)) (row ∷ ofAddress address rows) (ofAddress address rows)
 
+unfoldable pub rowsIn : List Row → ℕ → ℕ → List Row
+rowsIn rows kind address = ofAddress address (ofKind kind rows)
+
 unfoldable pub rowsAt : Chip → ℕ → ℕ → List Row
-rowsAt chip kind address = ofAddress address (ofKind kind (places chip))
+rowsAt chip kind address = rowsIn (places chip) kind address
 
 unfoldable pub cellOf : List Row → ℕ
 cellOf [] = nothingHeld
@@ -137,9 +140,9 @@ unfoldable pub cellsFrom : List Row → ℕ → ℕ → List ℕ
 cellsFrom rows n zero = []
 cellsFrom rows n (suc count) = plainCell (chosen (seen (indicesAt n) unasked) rows) ∷ cellsFrom rows (n + 1) count
 
--- the cells behind an indexed port, by its index
-unfoldable pub behindPort : Chip → ℕ → ℕ → List ℕ
-behindPort chip address count = cellsFrom (rowsAt chip 2 address) 0 count
+-- the cells behind an indexed port, by its index; the ports are those of both chips
+unfoldable pub behindPort : ℕ → ℕ → List ℕ
+behindPort address count = cellsFrom (rowsIn sharedPlaces 2 address) 0 count
 
 -- ---- the engine's one table, by sections: each begins where the one before it ends
 
@@ -220,10 +223,10 @@ unfoldable pub tableCell : Chip → ℕ → ℕ
 tableCell chip n =
     cond (ltb n portWrites) (cellAt chip 2 (firstPort + n))
     (cond (ltb n behindSRX) (cellAt chip 3 (firstPort + (n - portWrites)))
-    (cond (ltb n behindCRX) (getD (behindPort chip 0x3C5 countSRX) (n - behindSRX) 0)
-    (cond (ltb n behindGRX) (getD (behindPort chip 0x3B5 countCRX) (n - behindCRX) 0)
-    (cond (ltb n behindARX) (getD (behindPort chip 0x3CF countGRX) (n - behindGRX) 0)
-    (cond (ltb n configSpace) (getD (behindPort chip 0x3C1 countARX) (n - behindARX) 0)
+    (cond (ltb n behindCRX) (getD (behindPort 0x3C5 countSRX) (n - behindSRX) 0)
+    (cond (ltb n behindGRX) (getD (behindPort 0x3B5 countCRX) (n - behindCRX) 0)
+    (cond (ltb n behindARX) (getD (behindPort 0x3CF countGRX) (n - behindGRX) 0)
+    (cond (ltb n configSpace) (getD (behindPort 0x3C1 countARX) (n - behindARX) 0)
     (cond (ltb n mmioSpace) (cellAt chip 0 (n - configSpace))
     (cond (ltb n lineReads) (cellAt chip 4 (n - mmioSpace))
     (cond (ltb n lineWrites) (cellAt chip 4 (lineAddress + (n - lineReads))) (cellAt chip 5 (lineAddress + (n - lineWrites)))))))))))
