@@ -1,3 +1,4 @@
+pub mod LineRead
 pub mod SeenFiles
 pub mod PassedChecks
 pub mod EntriesNamed
