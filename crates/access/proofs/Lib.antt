@@ -13,3 +13,4 @@ pub mod Lock
 pub mod StaticSync
 pub mod IndicesAndToggle
 pub mod HandsBack
+pub mod Lines

@@ -12,7 +12,7 @@ use Rattle.places.specs.declared.place.Place.{Place}
 use Rattle.places.specs.EngineCells.{nothingHeld, heldCell, inFile, takesBytes}
 use Rattle.places.specs.Lookup.{isOneOf, ofToggle, matches, rowAt, placeAt}
 use Rattle.places.specs.Places.{Row, sharedPlaces, ownPlaces}
-use Rattle.places.specs.Profile.{profile, storesInto, flips, resets}
+use Rattle.places.specs.Profile.{profile, storesInto, flips, letsPass, resets}
 use Rattle.places.proofs.CellsOfRows.{Outcome, nothing, held, outcome}
 use Rattle.places.proofs.Rows.{every, everywhere, Passes, row-passes, place-passes}
 
@@ -34,6 +34,15 @@ toggleRule kind address place = ofToggle kind address || not (flips (profile pla
 pub toggle-rule : (f : File) (kind address : ℕ) → T (toggleRule kind address (placeAt f kind address))
 unfolding everywhere every sharedPlaces ownPlaces toggleRule ofToggle isOneOf
 toggle-rule f kind address = place-passes f kind address toggleRule tt (second (ofToggle kind address) true tt)
+
+-- 02, 10/13: of kinds 0 to 5 no place lets lines pass
+unfoldable pub lineRule : ℕ → ℕ → Place → Bool
+unfolding profile letsPass
+lineRule kind address place = leb 6 kind || not (letsPass (profile place .writing))
+
+pub line-rule : (f : File) (kind address : ℕ) → T (lineRule kind address (placeAt f kind address))
+unfolding everywhere every sharedPlaces ownPlaces lineRule
+line-rule f kind address = place-passes f kind address lineRule tt (second (leb 6 kind) true tt)
 
 -- the registers that places name are the file's
 pub place-in-file : (f : File) (kind address : ℕ) → T (inFile (placeAt f kind address))

@@ -73,6 +73,15 @@ flips writesPixel = false
 flips (storesNothing flip) = flip
 flips passesLines = false
 
+-- a write lets lines pass (02, 10/13)
+unfoldable pub letsPass : Writing → Bool
+letsPass (storesTo number flip) = false
+letsPass readOnly = false
+letsPass (setsAddress reading) = false
+letsPass writesPixel = false
+letsPass (storesNothing flip) = false
+letsPass passesLines = true
+
 -- a read shows a pixel's component
 unfoldable pub readsPixel : Reading → Bool
 readsPixel (givesHeld number) = false
