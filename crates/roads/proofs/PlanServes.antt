@@ -39,7 +39,7 @@ use Rattle.roads.specs.StageEnds.{opened, coloured, marked, indexed, clo
 use Rattle.roads.proofs.RegisterStageRuns.{ends-wanted, after-length, after-append}
 use Rattle.roads.proofs.RunsCompose.{runs-then}
 use Rattle.roads.proofs.PlanCount.{plan-room}
-use Rattle.roads.proofs.OrdinaryPlan.{plan-ordinary, line-stays}
+use Rattle.roads.proofs.KindsOfRecords.{plan-ordinary, line-stays}
 use Rattle.roads.proofs.AcceptedFits.{run-fits, trace-items}
 use Rattle.roads.proofs.OpeningRuns.{opening-runs, opened-ready, opened-open}
 use Rattle.roads.proofs.LaterStagesRun.{colours-run, marks-run, marked-ready, registers-bring, indices-run, indexed-ready, closing-runs}
