@@ -23,8 +23,7 @@ MISTAKES = [
 
     # The order of checks
     ("3 before 2",
-     "    if (malformed(r))\n        return SC_MALFORMED;\n"
-     "    if (space_off(f, r))\n        return SC_SPACE_OFF;\n",
+     "    if (malformed(r))\n        return SC_MALFORMED;\n",
      "    if (space_off(f, r))\n        return SC_SPACE_OFF;\n"
      "    if (malformed(r))\n        return SC_MALFORMED;\n"),
     ("4 before 3",
@@ -78,8 +77,8 @@ MISTAKES = [
 
     # Places
     ("MMIO mirrored",
-     "static struct place mmio_place(uint16_t address)\n{\n",
-     "static struct place mmio_place(uint16_t address)\n{\n    address &= 0x7FFF;\n"),
+     "    default: return mmio_place(f, r->address, is_write(r));",
+     "    default: return mmio_place(f, r->address & 0x7FFF, is_write(r));"),
     ("ports decoded in ten bits",
      "    switch (address) {\n    case 0x3C0:", "    switch (address & 0x3FF) {\n    case 0x3C0:"),
     ("CR24 and CR26 by MMIO",
