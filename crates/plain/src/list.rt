@@ -1,10 +1,10 @@
-// The list of places: 01's 'Places' and 'Stored bits' and 02's V-Port registers, a row to a line, in 01's order. A record is looked up from the top, and
-// the first row that fits is meant. The columns of a row:
-// - space: port, mmio, or conf for config space
+// The list of places: 01's 'Places' and 'Stored bits', 02's V-Port registers and its lines, a row to a line, in 01's order. A record is looked up from the
+// top, and the first row that fits is meant. The columns of a row:
+// - space: port, mmio, or conf for config space; time for a record that lets lines pass, which is of no space
 // - address
 // - index, where the row goes by one: SR, CR, GR or AR and the number that the index register has to hold, ARX counting by ARX[4:0]; at a 3C0h
 //   write i while the index is due, and d while data is due, with ARX[4:0]; 5462 or 5464 where the row is of one chip
-// - direction: R, W or both
+// - direction: R, W or both; P where lines pass
 // - width in bytes
 // - stored bits, where a register is stored
 // - what stands there, a word of which the first letter counts:
@@ -19,7 +19,9 @@
 //     dac    a read gives the DAC state, a write sets the address in read mode
 //     where  a read gives the address, a write sets it in write mode
 //     pixel  pixel data
-//     zero   a read gives 0 and sets the toggle to index
+//     sync   a read gives bit 3 in vertical sync and bit 0 past the display, and sets the toggle to index
+//     beam   the line that the display is at
+//     lines  so many lines pass
 //     none   no register
 //     flips  no register, and a write flips the toggle
 // - the register's number in the file, or the number that never changes
@@ -28,7 +30,7 @@
 ghost use Rattle.plain.specs.Rows.{Listed};
 
 // How many rows there are, and how many bytes a row has.
-pub const ROWS: usize = 221;
+pub const ROWS: usize = 223;
 
 pub const COLUMNS: usize = 45;
 
@@ -153,7 +155,7 @@ const LIST: [u8; BYTES] = *b"\
     port 3B5 CR24 RW 1      togl       CR24      \
     port 3B5 CR26 RW 1      index      CR26      \
     port 3B5      RW 1      none                 \
-    port 3BA      R  1      zero                 \
+    port 3BA      R  1      sync                 \
     port 3D4      RW 1   3F reg      2 CRX       \
     port 3D5 CR00 RW 1   FF reg     19 CR0       \
     port 3D5 CR01 RW 1   FF reg     1A CR1       \
@@ -188,7 +190,7 @@ const LIST: [u8; BYTES] = *b"\
     port 3D5 CR24 RW 1      togl       CR24      \
     port 3D5 CR26 RW 1      index      CR26      \
     port 3D5      RW 1      none                 \
-    port 3DA      R  1      zero                 \
+    port 3DA      R  1      sync                 \
     mmio  00      RW 1   FF reg     19 CR0       \
     mmio  04      RW 1   FF reg     1A CR1       \
     mmio  08      RW 1   FF reg     1B CR2       \
@@ -255,7 +257,9 @@ const LIST: [u8; BYTES] = *b"\
     conf  04      RW 2 0027 reg      6 PCI04     \
     mmio 300      RW 2      gives 1013 PCI00     \
     mmio 302      RW 2      chip       PCI02     \
-    mmio 304      RW 2 0027 reg      6 PCI04     ";
+    mmio 304      RW 2 0027 reg      6 PCI04     \
+    time  00      P  2      lines                \
+    mmio 140 5464 R  2      beam       CSL       ";
 
 // The list by value, for those who lend it. On either chip it says what 01's list of places says, with the bits that the chip's registers store.
 pub fn list() -> [u8; BYTES]

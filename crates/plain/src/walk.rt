@@ -21,7 +21,7 @@ pub enum Found {
     Nothing,
 }
 
-// A row's space, as the kinds of record have it: 0 and 1 config, 2 and 3 port, 4 and 5 MMIO.
+// A row's space, as the kinds of record have it: 0 and 1 config, 2 and 3 port, 4 and 5 MMIO, 6 lines that pass.
 fn space(row: Row) -> u8
     ensures { λ r. ⌜ r ≡ spaceOf row ⌝ }
 {
@@ -29,7 +29,8 @@ fn space(row: Row) -> u8
     match letter {
         b'c' => 0,
         b'p' => 1,
-        _ => 2,
+        b'm' => 2,
+        _ => 3,
     }
 }
 
