@@ -1,13 +1,13 @@
 -- By a list that says 01's places and stored bits, the checks and the row that is found give 01's answer and 01's file. Assumes nothing.
 use Prim.Native.Nat.{ℕ, _<_, _^_}
 use mathlib.Core.Path.{_≡_, refl, sym, ap, ap₂, _∙_, subst}
-use mathlib.Core.Bool.{Bool, true, false, cond, true≢false, not, _&&_, _||_}
+use mathlib.Core.Bool.{Bool, true, false, cond, true≢false, not, _&&_}
 use mathlib.Core.List.{List}
 use mathlib.Core.Option.{some}
 use lib.Dec.{T, eqb, eqb→eq}
 use native.Mathlib.Omega.{arith}
 use lib.ListN.{getD}
-use Rattle.bits.proofs.Test.{left, right, either, by-test, is-true, twice}
+use Rattle.bits.proofs.Test.{left, right, either, by-test, is-true}
 use Rattle.file.specs.declared.answer.Answer.{Answer}
 use Rattle.file.specs.declared.effect.Effect.{Effect}
 use Rattle.file.specs.declared.effect.Effect.the-variants.{Nothing}
@@ -30,8 +30,6 @@ use Rattle.access.proofs.PassedChecks.{kind-below, value-fits, word-fits, carri
 use Rattle.plain.specs.declared.checks.Looked.{Looked}
 use Rattle.plain.specs.declared.checks.Looked.the-variants.{Refused, Means}
 use Rattle.plain.specs.declared.row.Row.{Row}
-use Rattle.plain.specs.declared.told.Told.{Told}
-use Rattle.plain.specs.declared.walk.Found.{Found}
 use Rattle.plain.specs.Looked.{lookedOver}
 use Rattle.plain.specs.Rows.{Listed, rowCount, rowsOf, ofChip, indexOf, said, bitsRight}
 use Rattle.plain.specs.Told.{told, readTold, rowReach, writeTold, accessTold}

@@ -25,7 +25,7 @@ abbrev pub rowCount : ℕ
 rowCount = 223
 
 abbrev pub columns : ℕ
-columns = 45
+columns = 44
 
 -- a hexadecimal digit; a blank counts as 0
 unfoldable pub digit : ℕ → ℕ

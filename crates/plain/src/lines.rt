@@ -1,7 +1,7 @@
 // The line that the display is at, held to the vertical numbers that timing reads.
 ghost use mathlib.Core.Path.{_≡_};
 ghost use Prim.Native.Nat.{_<_};
-ghost use Rattle.access.specs.Access.{vTotal, vDisplay, vSyncStart, vSyncEnd, lineShown, lineAfter, inSync, pastDisplay, displayState};
+ghost use Rattle.access.specs.Access.{vTotal, lineShown, lineAfter, inSync, pastDisplay, displayState};
 use file::File;
 use timing::v_display;
 use timing::v_sync_end;
