@@ -26,7 +26,7 @@ use Rattle.access.specs.declared.engine.Looked.the-variants.{Refused, At
 use Rattle.access.specs.declared.record.Record.{Record}
 use Rattle.access.specs.Access.{placeOf}
 use Rattle.access.specs.Checks.{checks, firstRefusal, notSound, malformed, spaceOff, notHeld, noRow, otherDirection, insideWider, isPort, isMmio, otherHalf, otherWidth, wrongWidth}
-use Rattle.access.specs.Engine.{noAccess, passes, otherRow, nothingTold, lookedBy}
+use Rattle.access.specs.Engine.{noAccess, linesPass, otherRow, nothingTold, lookedBy}
 use Rattle.access.specs.Promises.{turned}
 use Rattle.access.proofs.PassedChecks.{kind-below, Passing, is-passing, malformed-told}
 
@@ -105,7 +105,7 @@ unfolding placeOf placeAt placeOfRow
 passing-place f r p = rw (p .kind, p .address, passing-row f) refl
 
 -- so no check stands in its way but soundness: it needs no space enabled
-pub passing-through : (f : File) (r : Record) (otherwise : Answer) → T (sound f) → passes r ≡ true → firstRefusal checks f r otherwise ≡ otherwise
+pub passing-through : (f : File) (r : Record) (otherwise : Answer) → T (sound f) → linesPass r ≡ true → firstRefusal checks f r otherwise ≡ otherwise
 unfolding firstRefusal checks notSound spaceOff otherDirection insideWider notHeld noRow otherHalf wrongWidth otherWidth isPort isMmio
 passing-through f r otherwise s h =
     let p = is-passing r h in
@@ -117,7 +117,7 @@ pub in-order : (f : File) (r : Record) (otherwise : Answer) → T (sound f)
 unfolding firstRefusal checks notSound otherDirection insideWider settled lookedBy
 in-order f r otherwise s =
     by-test (noAccess r)
-    (λ m. by-test (passes r)
+    (λ m. by-test (linesPass r)
     (λ p. passing-through f r otherwise s p ∙ sym (rw (m, p) refl))
     (λ p. rw (is-true (sound f) s, malformed-told f r, m, p)))
     (λ m. rw (is-true (sound f) s, malformed-told f r, m, cell-true (f .state .chip) (r .kind) (kind-below r m) (r .address))

@@ -37,7 +37,7 @@ use Rattle.access.specs.declared.engine.Looked.the-variants.{Refused, At
 use Rattle.access.specs.declared.record.Record.{Record}
 use Rattle.access.specs.Access.{placeOf, paletteUp, reachIn, readAnswer, writeAnswer, answerAt, writeEffect, readEffect, effectAt, answer, effect}
 use Rattle.access.specs.Checks.{isWrite, isPassing, carries, spaceOff}
-use Rattle.access.specs.Engine.{noAccess, passes, otherRow, nothingTold, lookedBy, reachBy, decidedWrite, decidedRead, decidedBy, asksPixel, decision}
+use Rattle.access.specs.Engine.{noAccess, linesPass, otherRow, nothingTold, lookedBy, reachBy, decidedWrite, decidedRead, decidedBy, asksPixel, decision}
 use Rattle.access.proofs.ChecksInOrder.{settled, in-order, passing-place, passing-through}
 use Rattle.access.proofs.PassedChecks.{kind-below, value-fits, carries-below, is-passing, Passed, passed, lines-told}
 use Rattle.access.proofs.SeenDecisions.{same-decision}
@@ -67,7 +67,7 @@ told-refuses cell =
 looked-refuses : (cells : List ℕ) (f : File) (r : Record) → T (refuses (lookedBy cells f r))
 unfolding lookedBy refuses refused codeOf
 looked-refuses cells f r =
-    chosen refuses (noAccess r) _ _ (chosen refuses (passes r) Lines (Refused Malformed) tt tt)
+    chosen refuses (noAccess r) _ _ (chosen refuses (linesPass r) Lines (Refused Malformed) tt tt)
     (chosen refuses (spaceOff f r) (Refused SpaceOff) _ tt
     (chosen refuses (isNothing (cellIn cells (r .kind) (r .address))) (Refused (nothingTold (cellIn cells (r .kind) (r .address)))) _ (told-refuses (cellIn cells (r .kind) (r .address)))
     (chosen refuses (otherRow f r) (Refused OtherHalf) _ tt
@@ -206,7 +206,7 @@ module _ (f : File) (s : T (sound f)) (r : Record) where
 
   -- lines pass
   module _ (e : lookedBy Cells f r ≡ Lines) where
-    good : passes r ≡ true
+    good : linesPass r ≡ true
     good = lines-told Cells f r e
 
     carried-lines : carries r ≡ true

@@ -23,7 +23,7 @@ use Rattle.timing.proofs.VerticalNumbers.{total-least}
 use Rattle.access.specs.declared.record.Record.{Record}
 use Rattle.access.specs.Access.{placeOf, reachIn, vTotal, lineShown, lineAfter, writeAnswer, answerAt, writeEffect, readEffect, effectAt, answer, effect, reach, access}
 use Rattle.access.specs.Checks.{isWrite, isPassing, ordinary, carries, badPassing}
-use Rattle.access.specs.Engine.{passes}
+use Rattle.access.specs.Engine.{linesPass}
 use Rattle.access.specs.Promises.{passing}
 use Rattle.access.proofs.ChecksInOrder.{passing-place, passing-through}
 use Rattle.access.proofs.PassedChecks.{Passing, is-passing}
@@ -33,8 +33,8 @@ use Rattle.access.proofs.Refusals.{by-read, by-write, by-effect}
 -- ---- kind 6
 
 module _ (f : File) (lines : ℕ) (s : T (sound f)) (least : 1 ≤ lines) (most : lines ≤ 65535) where
-  good : passes (passing lines) ≡ true
-  unfolding passes isPassing badPassing
+  good : linesPass (passing lines) ≡ true
+  unfolding linesPass isPassing badPassing
   good = rw (le-leb 1 lines least, le-leb lines 65535 most) refl
 
   -- 'Kind 6 replies 0 with value 0 and needs no space enabled'

@@ -18,7 +18,7 @@ use Rattle.access.specs.declared.engine.Looked.{Looked}
 use Rattle.access.specs.declared.engine.Looked.the-variants.{Refused, At, Lines}
 use Rattle.access.specs.declared.record.Record.{Record}
 use Rattle.access.specs.Checks.{isWrite, isPassing, carries, badAccess, badPassing, malformed, spaceOff}
-use Rattle.access.specs.Engine.{noAccess, passes, otherRow, nothingTold, lookedBy}
+use Rattle.access.specs.Engine.{noAccess, linesPass, otherRow, nothingTold, lookedBy}
 
 -- an ordinary access in good form has a kind up to 5
 pub kind-below : (r : Record) → noAccess r ≡ false → r .kind < 6
@@ -54,8 +54,8 @@ pub record Passing (r : Record) : Type 0 where
   pub address : r .address ≡ 0
   pub value : r .value < 65536
 
-pub is-passing : (r : Record) → passes r ≡ true → Passing r
-unfolding passes isPassing badPassing
+pub is-passing : (r : Record) → linesPass r ≡ true → Passing r
+unfolding linesPass isPassing badPassing
 is-passing r p =
     by-test (eqb (r .kind) 6)
     (λ k. by-test (eqb (r .width) 2)
@@ -75,8 +75,8 @@ is-passing r p =
     (λ k. absurd (true≢false (sym (rw k at p))))
 
 -- a record is malformed where it is neither an ordinary access nor lines that pass
-pub malformed-told : (f : File) (r : Record) → malformed f r ≡ (noAccess r && not (passes r))
-unfolding malformed noAccess passes isPassing
+pub malformed-told : (f : File) (r : Record) → malformed f r ≡ (noAccess r && not (linesPass r))
+unfolding malformed noAccess linesPass isPassing
 malformed-told f r =
     by-test (ltb 6 (r .kind))
     (λ g.
@@ -121,7 +121,7 @@ module _ (cells : List ℕ) (f : File) (r : Record) (cell : ℕ) where
   unfolding lookedBy atCell isAt
   passed e =
       by-test (noAccess r)
-      (λ m. by-test (passes r) (λ p. absurd (true≢false (sym (ap isAt (rw (m, p) at e))))) (λ p. never Malformed (rw (m, p) at e)))
+      (λ m. by-test (linesPass r) (λ p. absurd (true≢false (sym (ap isAt (rw (m, p) at e))))) (λ p. never Malformed (rw (m, p) at e)))
       (λ m. by-test (spaceOff f r) (λ o. never SpaceOff (rw (m, o) at e))
       (λ o. by-test (isNothing Here) (λ n. never (nothingTold Here) (rw (m, o, n) at e))
       (λ n. by-test (otherRow f r) (λ h. never OtherHalf (rw (m, o, n, h) at e))
@@ -135,12 +135,12 @@ module _ (cells : List ℕ) (f : File) (r : Record) (cell : ℕ) where
       (λ w. never WrongWidth (rw (m, o, n, h, w) at e))))))
 
 -- where the checks say that lines pass, they do
-pub lines-told : (cells : List ℕ) (f : File) (r : Record) → lookedBy cells f r ≡ Lines → passes r ≡ true
+pub lines-told : (cells : List ℕ) (f : File) (r : Record) → lookedBy cells f r ≡ Lines → linesPass r ≡ true
 unfolding lookedBy isLines
 lines-told cells f r e =
     let here = cellIn cells (r .kind) (r .address) in
     by-test (noAccess r)
-    (λ m. by-test (passes r) (λ p. p) (λ p. no (rw (m, p) at e)))
+    (λ m. by-test (linesPass r) (λ p. p) (λ p. no (rw (m, p) at e)))
     (λ m. by-test (spaceOff f r) (λ o. no (rw (m, o) at e))
     (λ o. by-test (isNothing here) (λ n. no (rw (m, o, n) at e))
     (λ n. by-test (otherRow f r) (λ h. no (rw (m, o, n, h) at e))

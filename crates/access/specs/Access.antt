@@ -104,7 +104,7 @@ inSync f = leb (vSyncStart f) (lineShown f) && ltb (lineShown f) (vSyncEnd f)
 unfoldable pub pastDisplay : File → Bool
 pastDisplay f = leb (vDisplay f) (lineShown f)
 
--- what 3?Ah reads
+-- 02, 10/13: what 3?Ah reads, where 01's base 'gives 0'
 unfoldable pub displayState : File → ℕ
 displayState f = cond (inSync f) 0x08 0x00 + cond (pastDisplay f) 0x01 0x00
 
@@ -123,7 +123,7 @@ readAnswer f resetsToggle = Done (displayState f)
 readAnswer f givesLine = Done (lineShown f)
 readAnswer f namesNothing = NoRegister
 
--- what a write answers: 'then 1 or 7 or 8 or 9', or done
+-- what a write answers: 'then 1 or 7 or 8 or 9', or done; 02, 10/13: 'Kind 6 replies 0 with value 0'
 unfoldable pub writeAnswer : File → Writing → Answer
 writeAnswer f (storesTo number flips) = cond (lockedOut f number) Locked (Done 0)
 writeAnswer f readOnly = ReadOnly

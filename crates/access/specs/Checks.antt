@@ -25,7 +25,7 @@ isWrite r = eqb (r .kind % 2) 1
 unfoldable pub isPassing : Record → Bool
 isPassing r = eqb (r .kind) 6
 
--- kinds 0 to 5: an ordinary access, which lets no line pass
+-- 01's kinds, 0 to 5: an ordinary access, as demand 3 has it of a plan
 unfoldable pub ordinary : Record → Bool
 ordinary r = ltb (r .kind) 6
 
@@ -56,7 +56,7 @@ badPassing r = not (eqb (r .width) 2 && eqb (r .address) 0 && leb 1 (r .value) &
 unfoldable pub malformed : File → Record → Bool
 malformed f r = ltb 6 (r .kind) || cond (isPassing r) (badPassing r) (badAccess r)
 
--- code 3: 'port access with PCI04[0]=0, or MMIO access with PCI04[1]=0'
+-- code 3: 'port access with PCI04[0]=0, or MMIO access with PCI04[1]=0'; 02, 10/13: kind 6 'needs no space enabled'
 unfoldable pub spaceOff : File → Record → Bool
 spaceOff f r =
     isPort r && eqb (bit 0 (register f PCI04)) 0 || isMmio r && eqb (bit 1 (register f PCI04)) 0

@@ -40,14 +40,14 @@ unfoldable pub noAccess : Record → Bool
 noAccess r = ltb 5 (r .kind) || badAccess r
 
 -- 02, 10/13: a record of kind 6 in good form
-unfoldable pub passes : Record → Bool
-passes r = isPassing r && not (badPassing r)
+unfoldable pub linesPass : Record → Bool
+linesPass r = isPassing r && not (badPassing r)
 
 -- 'Access checks run .. 2, 3, 4, 5, 6', by the cell of the record's kind and address; lines that pass are told among what is no access, and have no cell
 unfoldable pub lookedBy : List ℕ → File → Record → Looked
 lookedBy cells f r =
     let cell = cellIn cells (r .kind) (r .address) in
-    cond (noAccess r) (cond (passes r) Lines (Refused Malformed))
+    cond (noAccess r) (cond (linesPass r) Lines (Refused Malformed))
     (cond (spaceOff f r) (Refused SpaceOff)
     (cond (isNothing cell) (Refused (nothingTold cell))
     (cond (otherRow f r) (Refused OtherHalf) (cond (eqb (cellWidth cell) (r .width)) (At cell) (Refused WrongWidth)))))

@@ -17,7 +17,7 @@ ghost use Rattle.access.specs.Access.{lockedOut, paletteUp, inBank, pixe
 ghost use Rattle.bits.specs.Store.{store as storeBits};
 ghost use Rattle.file.specs.Names.{B0 as B0Number};
 ghost use Rattle.access.specs.Checks.{spaceOff};
-ghost use Rattle.access.specs.Engine.{noAccess, passes, otherRow, nothingTold, lookedBy, reachBy, decidedWrite, decidedRead, decidedBy};
+ghost use Rattle.access.specs.Engine.{noAccess, linesPass, otherRow, nothingTold, lookedBy, reachBy, decidedWrite, decidedRead, decidedBy};
 use crate::record::Record;
 use file::ARX;
 use file::Answer;
@@ -77,7 +77,7 @@ fn is_no_access(asked: Record) -> bool
 
 // Kind 6 in good form: lines pass.
 fn is_passing(asked: Record) -> bool
-    ensures { λ r. ⌜ r ≡ passes asked ⌝ }
+    ensures { λ r. ⌜ r ≡ linesPass asked ⌝ }
 {
     let kind = asked.kind;
     let width = asked.width;

@@ -50,7 +50,7 @@ unfoldable pub withLine : ℕ → File → File
 unfolding withState passing
 withLine new f = withState (passing new (f .state)) f
 
--- 02, 10/13: the line 'is outside demand 3's sameness'. The same file: all but the line is
+-- 02, 10/13: the line 'is outside demand 3's sameness'. Two files are the same if all but the line is
 unfoldable pub Same : File → File → Type 0
 Same f g = f ≡ withLine (f .state .line) g
 
@@ -69,7 +69,8 @@ abbrev pub bankCount : ℕ
 bankCount = 16
 
 -- 01, end of 'Places': 'At power-on all stored bits and entries are 0, the toggle is index, and the pointer is at address 0, write mode, red, nothing held.'
--- 02, 1/13: 'power-on is write, blue'; 02, 6/13: 10Ch of the 5462 is the one register that starts with a stored bit set
+-- 02, 1/13: 'power-on is write, blue'; 02, 6/13: 10Ch of the 5462 is the one register that starts with a stored bit set; 02, 10/13:
+-- 'The line starts at 0'
 unfoldable pub powerOn : Chip → File
 unfolding initial black
 powerOn chip =

@@ -179,6 +179,10 @@ common =
     (portRead 0x3BA reads 0x08 ∷ passes 1 gives 0 ∷ portRead 0x3BA reads 0x09 ∷ portRead 0x3DA gives 5 ∷ portWrite 0x3C2 0x01 gives 0 ∷ portRead 0x3DA reads 0x09
     ∷ passes 65535 gives 0 ∷ portRead 0x3DA reads 0x08 ∷ [])
     nothing
+    -- V sync goes from line 1 to 16, past the total: it doesn't come round to line 0
+    ∷ example "02, 10/13" (CR10 ≔ 0x01 ∷ opened)
+    (portRead 0x3BA reads 0x00 ∷ passes 1 gives 0 ∷ portRead 0x3BA reads 0x09 ∷ [])
+    nothing
     ∷ example "02, 10/13" mode12
     (passes 479 gives 0 ∷ portRead 0x3BA reads 0x00 ∷ passes 1 gives 0 ∷ portRead 0x3BA reads 0x01 ∷ passes 9 gives 0 ∷ portRead 0x3BA reads 0x01
     ∷ passes 1 gives 0 ∷ portRead 0x3BA reads 0x09 ∷ passes 1 gives 0 ∷ portRead 0x3BA reads 0x09 ∷ passes 1 gives 0 ∷ portRead 0x3BA reads 0x01
@@ -200,7 +204,7 @@ common =
     ∷ []
 
 -- 02, 6/13: those that the two chips answer differently: PCI02, and 10Ch at power-on, with every bit written and with none; 02, 10/13: 140h, and with it
--- the line itself, at its longest total with a count that passes 16 bits
+-- the line itself, at its longest total, where line and count together pass 16 bits
 unfoldable pub own : Chip → List Example
 own Gd5462 =
     example "02, 6/13" opened

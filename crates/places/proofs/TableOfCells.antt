@@ -11,7 +11,7 @@ use lib.ListN.{getD}
 use Rattle.bits.proofs.Test.{left, right, either, and-false, by-test, passes, is-true, everyBelow, below}
 use Rattle.file.specs.declared.chip.Chip.{Chip}
 use Rattle.file.specs.declared.chip.Chip.the-variants.{Gd5462, Gd5464}
-use Rattle.places.specs.EngineCells.{nothingHeld, plainCell, indexedCell, ofKind, ofAddress, rowsIn, rowsAt, cellOf, heldCell, nothingAt, cellAt, behindPort, firstPort, portCount, portWrites, behindSRX, countSRX, behindCRX, countCRX, behindGRX, countGRX, behindARX, countARX, configSpace, configCount, configInMmio, mmioSpace, mmioCount, lineReads, lineAddress, lineCount, lineWrites, cellCount, tableCell, tabled, cellTable, portCell, lineCell, mmioCell, configCell, cellIn}
+use Rattle.places.specs.EngineCells.{nothingHeld, plainCell, indexedCell, ofKind, ofAddress, rowsIn, rowsAt, cellOf, heldCell, nothingAt, cellAt, behindPort, firstPort, portCount, portWrites, behindSRX, countSRX, behindCRX, countCRX, behindGRX, countGRX, behindARX, countARX, configSpace, configCount, configInMmio, mmioSpace, mmioCount, cslReads, cslAddress, cslCount, cslWrites, cellCount, tableCell, tabled, cellTable, portCell, cslCell, mmioCell, configCell, cellIn}
 use Rattle.places.specs.Lookup.{otherWay, someRow, heldIn, isWider, insideIn}
 use Rattle.places.specs.Places.{Row, places}
 use Rattle.places.proofs.NotHeld.{both-ways}
@@ -24,11 +24,11 @@ configRange a = ltb a configCount
 unfoldable pub portRange : ℕ → Bool
 portRange a = leb firstPort a && ltb a (firstPort + portCount)
 
-unfoldable pub lineRange : ℕ → Bool
-lineRange a = leb lineAddress a && ltb a (lineAddress + lineCount)
+unfoldable pub cslRange : ℕ → Bool
+cslRange a = leb cslAddress a && ltb a (cslAddress + cslCount)
 
 unfoldable pub mmioRange : ℕ → Bool
-mmioRange a = ltb a mmioCount || (lineRange a || leb configInMmio a && configRange (a - configInMmio))
+mmioRange a = ltb a mmioCount || (cslRange a || leb configInMmio a && configRange (a - configInMmio))
 
 unfoldable pub range : ℕ → ℕ → Bool
 range kind = getD (configRange ∷ configRange ∷ portRange ∷ portRange ∷ mmioRange ∷ mmioRange ∷ []) kind configRange
@@ -37,7 +37,7 @@ unfoldable pub coveredOf : Chip → ℕ → Bool
 coveredOf chip kind = every (λ (row : Row). range kind (row .address)) (ofKind kind (places chip))
 
 all-covered : T (everyBelow (coveredOf Gd5462) 6) × T (everyBelow (coveredOf Gd5464) 6)
-unfolding everyBelow coveredOf every range configRange portRange lineRange mmioRange ofKind places
+unfolding everyBelow coveredOf every range configRange portRange cslRange mmioRange ofKind places
 all-covered = (tt, tt)
 
 covered : (chip : Chip) (kind : ℕ) → kind < 6 → T (every (λ (row : Row). range kind (row .address)) (ofKind kind (places chip)))
@@ -82,11 +82,11 @@ unfoldable pub insideCovered : Chip → ℕ → Bool
 insideCovered chip kind = every (λ (row : Row). not (isWider kind row) || range kind (row .address + 1)) (places chip)
 
 all-other-covered : T (everyBelow (otherCovered Gd5462) 6) × T (everyBelow (otherCovered Gd5464) 6)
-unfolding everyBelow otherCovered every range configRange portRange lineRange mmioRange otherWay places
+unfolding everyBelow otherCovered every range configRange portRange cslRange mmioRange otherWay places
 all-other-covered = (tt, tt)
 
 all-inside-covered : T (everyBelow (insideCovered Gd5462) 6) × T (everyBelow (insideCovered Gd5464) 6)
-unfolding everyBelow insideCovered every range configRange portRange lineRange mmioRange isWider places
+unfolding everyBelow insideCovered every range configRange portRange cslRange mmioRange isWider places
 all-inside-covered = (tt, tt)
 
 covered-around : (chip : Chip) (kind : ℕ) → kind < 6
@@ -182,19 +182,19 @@ module _ (chip : Chip) where
   mmio-cells : (i : ℕ) → i < mmioCount → tableCell chip (mmioSpace + i) ≡ cellAt chip 4 i
   unfolding tableCell
   mmio-cells i h =
-      rw (le-ltb (mmioSpace + i) portWrites (omega arith), le-ltb (mmioSpace + i) behindSRX (omega arith), le-ltb (mmioSpace + i) behindCRX (omega arith), le-ltb (mmioSpace + i) behindGRX (omega arith), le-ltb (mmioSpace + i) behindARX (omega arith), le-ltb (mmioSpace + i) configSpace (omega arith), le-ltb (mmioSpace + i) mmioSpace (omega arith), lt-ltb (mmioSpace + i) lineReads (omega arith))
+      rw (le-ltb (mmioSpace + i) portWrites (omega arith), le-ltb (mmioSpace + i) behindSRX (omega arith), le-ltb (mmioSpace + i) behindCRX (omega arith), le-ltb (mmioSpace + i) behindGRX (omega arith), le-ltb (mmioSpace + i) behindARX (omega arith), le-ltb (mmioSpace + i) configSpace (omega arith), le-ltb (mmioSpace + i) mmioSpace (omega arith), lt-ltb (mmioSpace + i) cslReads (omega arith))
       (ap (cellAt chip 4) (omega arith))
 
-  line-read-cells : (i : ℕ) → i < lineCount → tableCell chip (lineReads + i) ≡ cellAt chip 4 (lineAddress + i)
+  csl-read-cells : (i : ℕ) → i < cslCount → tableCell chip (cslReads + i) ≡ cellAt chip 4 (cslAddress + i)
   unfolding tableCell
-  line-read-cells i h =
-      rw (le-ltb (lineReads + i) portWrites (omega arith), le-ltb (lineReads + i) behindSRX (omega arith), le-ltb (lineReads + i) behindCRX (omega arith), le-ltb (lineReads + i) behindGRX (omega arith), le-ltb (lineReads + i) behindARX (omega arith), le-ltb (lineReads + i) configSpace (omega arith), le-ltb (lineReads + i) mmioSpace (omega arith), le-ltb (lineReads + i) lineReads (omega arith), lt-ltb (lineReads + i) lineWrites (omega arith))
+  csl-read-cells i h =
+      rw (le-ltb (cslReads + i) portWrites (omega arith), le-ltb (cslReads + i) behindSRX (omega arith), le-ltb (cslReads + i) behindCRX (omega arith), le-ltb (cslReads + i) behindGRX (omega arith), le-ltb (cslReads + i) behindARX (omega arith), le-ltb (cslReads + i) configSpace (omega arith), le-ltb (cslReads + i) mmioSpace (omega arith), le-ltb (cslReads + i) cslReads (omega arith), lt-ltb (cslReads + i) cslWrites (omega arith))
       (ap (cellAt chip 4) (omega arith))
 
-  line-write-cells : (i : ℕ) → i < lineCount → tableCell chip (lineWrites + i) ≡ cellAt chip 5 (lineAddress + i)
+  csl-write-cells : (i : ℕ) → i < cslCount → tableCell chip (cslWrites + i) ≡ cellAt chip 5 (cslAddress + i)
   unfolding tableCell
-  line-write-cells i h =
-      rw (le-ltb (lineWrites + i) portWrites (omega arith), le-ltb (lineWrites + i) behindSRX (omega arith), le-ltb (lineWrites + i) behindCRX (omega arith), le-ltb (lineWrites + i) behindGRX (omega arith), le-ltb (lineWrites + i) behindARX (omega arith), le-ltb (lineWrites + i) configSpace (omega arith), le-ltb (lineWrites + i) mmioSpace (omega arith), le-ltb (lineWrites + i) lineReads (omega arith), le-ltb (lineWrites + i) lineWrites (omega arith))
+  csl-write-cells i h =
+      rw (le-ltb (cslWrites + i) portWrites (omega arith), le-ltb (cslWrites + i) behindSRX (omega arith), le-ltb (cslWrites + i) behindCRX (omega arith), le-ltb (cslWrites + i) behindGRX (omega arith), le-ltb (cslWrites + i) behindARX (omega arith), le-ltb (cslWrites + i) configSpace (omega arith), le-ltb (cslWrites + i) mmioSpace (omega arith), le-ltb (cslWrites + i) cslReads (omega arith), le-ltb (cslWrites + i) cslWrites (omega arith))
       (ap (cellAt chip 5) (omega arith))
 
   -- in both directions, and at 300h of MMIO
@@ -246,30 +246,30 @@ module _ (chip : Chip) where
       outside true e = uncovered chip 3 (lit< tt) a e
       outside false e = uncovered chip 2 (lit< tt) a e
 
-  line-true : (write : Bool) (a : ℕ) → a < configInMmio → mmioCount ≤ a → lineCell (cellTable chip) write a ≡ cellAt chip (cond write 5 4) a
-  unfolding lineCell range mmioRange lineRange
-  line-true write a under over =
-      by-test (leb lineAddress a && ltb a (lineAddress + lineCount))
+  csl-true : (write : Bool) (a : ℕ) → a < configInMmio → mmioCount ≤ a → cslCell (cellTable chip) write a ≡ cellAt chip (cond write 5 4) a
+  unfolding cslCell range mmioRange cslRange
+  csl-true write a under over =
+      by-test (leb cslAddress a && ltb a (cslAddress + cslCount))
       (λ e.
-      let t = passes (leb lineAddress a && ltb a (lineAddress + lineCount)) e in
-      let from : lineAddress ≤ a = leb→le lineAddress a (left (leb lineAddress a) (ltb a (lineAddress + lineCount)) t) in
-      let to : a < lineAddress + lineCount = ltb→lt a (lineAddress + lineCount) (right (leb lineAddress a) (ltb a (lineAddress + lineCount)) t) in
-      let low : a - lineAddress < lineCount = omega arith in
-      let back : lineAddress + (a - lineAddress) ≡ a = omega arith in
+      let t = passes (leb cslAddress a && ltb a (cslAddress + cslCount)) e in
+      let from : cslAddress ≤ a = leb→le cslAddress a (left (leb cslAddress a) (ltb a (cslAddress + cslCount)) t) in
+      let to : a < cslAddress + cslCount = ltb→lt a (cslAddress + cslCount) (right (leb cslAddress a) (ltb a (cslAddress + cslCount)) t) in
+      let low : a - cslAddress < cslCount = omega arith in
+      let back : cslAddress + (a - cslAddress) ≡ a = omega arith in
       rw e (inside write low back))
       (λ e. rw e (outside write (simp (e, le-ltb a mmioCount over, lt-leb configInMmio a under))))
     where
-      inside : (write : Bool) → a - lineAddress < lineCount → lineAddress + (a - lineAddress) ≡ a
-          → getD (cellTable chip) (cond write lineWrites lineReads + (a - lineAddress)) 0 ≡ cellAt chip (cond write 5 4) a
-      inside true low back = at-cell (lineWrites + (a - lineAddress)) (omega arith) ∙ line-write-cells (a - lineAddress) low ∙ ap (cellAt chip 5) back
-      inside false low back = at-cell (lineReads + (a - lineAddress)) (omega arith) ∙ line-read-cells (a - lineAddress) low ∙ ap (cellAt chip 4) back
+      inside : (write : Bool) → a - cslAddress < cslCount → cslAddress + (a - cslAddress) ≡ a
+          → getD (cellTable chip) (cond write cslWrites cslReads + (a - cslAddress)) 0 ≡ cellAt chip (cond write 5 4) a
+      inside true low back = at-cell (cslWrites + (a - cslAddress)) (omega arith) ∙ csl-write-cells (a - cslAddress) low ∙ ap (cellAt chip 5) back
+      inside false low back = at-cell (cslReads + (a - cslAddress)) (omega arith) ∙ csl-read-cells (a - cslAddress) low ∙ ap (cellAt chip 4) back
 
       outside : (write : Bool) → mmioRange a ≡ false → nothingHeld ≡ cellAt chip (cond write 5 4) a
       outside true e = uncovered chip 5 (lit< tt) a e
       outside false e = uncovered chip 4 (lit< tt) a e
 
   mmio-true : (a : ℕ) → (mmioCell (cellTable chip) false a ≡ cellAt chip 4 a) × (mmioCell (cellTable chip) true a ≡ cellAt chip 5 a)
-  unfolding mmioCell configCell range mmioRange lineRange configRange
+  unfolding mmioCell configCell range mmioRange cslRange configRange
   mmio-true a =
       by-test (ltb a mmioCount)
       (λ e.
@@ -288,9 +288,9 @@ module _ (chip : Chip) where
       rw h (here ∙ config-in-mmio (a - configInMmio) low ∙ ap (cellAt chip 4) back, here ∙ config-in-writes (a - configInMmio) low ∙ ap (cellAt chip 5) back))
       (λ h.
       let up : configInMmio ≤ a = leb-true configInMmio a g in
-      let past = le-ltb a (lineAddress + lineCount) (omega arith) in
+      let past = le-ltb a (cslAddress + cslCount) (omega arith) in
       rw h (uncovered chip 4 (lit< tt) a (simp (e, g, h, past, and-false)), uncovered chip 5 (lit< tt) a (simp (e, g, h, past, and-false))))))
-      (λ g. rw g (line-true false a (leb-false configInMmio a g) (ltb-false a mmioCount e), line-true true a (leb-false configInMmio a g) (ltb-false a mmioCount e)))))
+      (λ g. rw g (csl-true false a (leb-false configInMmio a g) (ltb-false a mmioCount e), csl-true true a (leb-false configInMmio a g) (ltb-false a mmioCount e)))))
 
   pub cell-true : (kind : ℕ) → kind < 6 → (a : ℕ) → cellIn (cellTable chip) kind a ≡ cellAt chip kind a
   unfolding cellIn

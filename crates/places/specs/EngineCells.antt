@@ -22,7 +22,7 @@ use Rattle.places.specs.Places.{Index, any, sr, cr, gr, ar, indexDue, da
 -- ---- the numbers of cells
 
 -- a register's cell is its number; the places that stand alone follow from 6Ch on, where the registers end, the indexed ports from 78h on, and from 7Dh
--- on the address is not held
+-- on the address is not held, or 7Fh stands behind an index that names no register
 abbrev pub firstAlone : ℕ
 firstAlone = 0x6C
 
@@ -198,21 +198,21 @@ mmioSpace = configSpace + configCount
 abbrev pub mmioCount : ℕ
 mmioCount = 0x110
 
--- 02, 10/13: MMIO reads and MMIO writes from 140h on. All below is held both ways or not at all
-abbrev pub lineReads : ℕ
-lineReads = mmioSpace + mmioCount
+-- 02, 10/13, 'MMIO 140h gives the line, CSL': MMIO reads and MMIO writes from there on. All below is held both ways or not at all
+abbrev pub cslReads : ℕ
+cslReads = mmioSpace + mmioCount
 
-abbrev pub lineAddress : ℕ
-lineAddress = 0x140
+abbrev pub cslAddress : ℕ
+cslAddress = 0x140
 
-abbrev pub lineCount : ℕ
-lineCount = 2
+abbrev pub cslCount : ℕ
+cslCount = 2
 
-abbrev pub lineWrites : ℕ
-lineWrites = lineReads + lineCount
+abbrev pub cslWrites : ℕ
+cslWrites = cslReads + cslCount
 
 abbrev pub cellCount : ℕ
-cellCount = lineWrites + lineCount
+cellCount = cslWrites + cslCount
 
 -- one section of a table: so many entries by a rule
 unfoldable pub tabled : ℕ → (ℕ → ℕ) → List ℕ
@@ -228,8 +228,8 @@ tableCell chip n =
     (cond (ltb n behindARX) (getD (behindPort 0x3CF countGRX) (n - behindGRX) 0)
     (cond (ltb n configSpace) (getD (behindPort 0x3C1 countARX) (n - behindARX) 0)
     (cond (ltb n mmioSpace) (cellAt chip 0 (n - configSpace))
-    (cond (ltb n lineReads) (cellAt chip 4 (n - mmioSpace))
-    (cond (ltb n lineWrites) (cellAt chip 4 (lineAddress + (n - lineReads))) (cellAt chip 5 (lineAddress + (n - lineWrites)))))))))))
+    (cond (ltb n cslReads) (cellAt chip 4 (n - mmioSpace))
+    (cond (ltb n cslWrites) (cellAt chip 4 (cslAddress + (n - cslReads))) (cellAt chip 5 (cslAddress + (n - cslWrites)))))))))))
 
 -- 02, 10/13: the table of a chip
 unfoldable pub cellTable : Chip → List ℕ
@@ -247,16 +247,16 @@ unfoldable pub configCell : List ℕ → ℕ → ℕ
 configCell cells address = cond (ltb address configCount) (getD cells (configSpace + address) 0) nothingHeld
 
 -- 02, 10/13: the cell of an MMIO address from 140h on
-unfoldable pub lineCell : List ℕ → Bool → ℕ → ℕ
-lineCell cells write address =
-    cond (leb lineAddress address && ltb address (lineAddress + lineCount))
-    (getD cells (cond write lineWrites lineReads + (address - lineAddress)) 0)
+unfoldable pub cslCell : List ℕ → Bool → ℕ → ℕ
+cslCell cells write address =
+    cond (leb cslAddress address && ltb address (cslAddress + cslCount))
+    (getD cells (cond write cslWrites cslReads + (address - cslAddress)) 0)
     nothingHeld
 
 unfoldable pub mmioCell : List ℕ → Bool → ℕ → ℕ
 mmioCell cells write address =
     cond (ltb address mmioCount) (getD cells (mmioSpace + address) 0)
-    (cond (leb configInMmio address) (configCell cells (address - configInMmio)) (lineCell cells write address))
+    (cond (leb configInMmio address) (configCell cells (address - configInMmio)) (cslCell cells write address))
 
 unfoldable pub cellIn : List ℕ → ℕ → ℕ → ℕ
 cellIn cells kind address =

@@ -3,7 +3,7 @@
 ghost use mathlib.Core.Path.{_≡_};
 ghost use Rattle.file.specs.declared.chip.Chip.the-variants.{Gd5462, Gd5464};
 ghost use Rattle.file.specs.File.{seen};
-ghost use Rattle.places.specs.EngineCells.{cellTable, cellIn, portCell, lineCell, mmioCell, configCell, isNothing, cellWidth, plainPlace, attributePlace, cellPlace};
+ghost use Rattle.places.specs.EngineCells.{cellTable, cellIn, portCell, cslCell, mmioCell, configCell, isNothing, cellWidth, plainPlace, attributePlace, cellPlace};
 use crate::place::Place;
 use file::ARX;
 use file::CRX;
@@ -68,15 +68,15 @@ const MMIO_SPACE: usize = CONFIG_SPACE + CONFIG;
 
 const MMIO: usize = 0x110;
 
-const LINE_READS: usize = MMIO_SPACE + MMIO;
+const CSL_READS: usize = MMIO_SPACE + MMIO;
 
-const LINE_ADDRESS: usize = 0x140;
+const CSL_ADDRESS: usize = 0x140;
 
-const LINE: usize = 2;
+const CSL: usize = 2;
 
-const LINE_WRITES: usize = LINE_READS + LINE;
+const CSL_WRITES: usize = CSL_READS + CSL;
 
-pub const CELLS: usize = LINE_WRITES + LINE;
+pub const CELLS: usize = CSL_WRITES + CSL;
 
 // The cells of 01 and 02, sixteen to a row, section by section; those from 140h on are the 5462's.
 const TABLE: [u8; CELLS] = *b"\
@@ -139,10 +139,10 @@ fn with_line() -> [u8; CELLS]
     ensures { λ r. ⌜ r ≡ cellTable Gd5464 ⌝ }
 {
     let mut cells = TABLE;
-    cells[LINE_READS] = CURRENT_LINE + WIDER;
-    cells[LINE_READS + 1] = WIDER_HELD;
-    cells[LINE_WRITES] = OTHER_WAY_HELD;
-    cells[LINE_WRITES + 1] = WIDER_HELD;
+    cells[CSL_READS] = CURRENT_LINE + WIDER;
+    cells[CSL_READS + 1] = WIDER_HELD;
+    cells[CSL_WRITES] = OTHER_WAY_HELD;
+    cells[CSL_WRITES + 1] = WIDER_HELD;
     cells
 }
 
@@ -187,24 +187,24 @@ fn mmio_cell(cells: &[u8; CELLS], write: bool, at: usize) -> u8
         return cells[MMIO_SPACE + at];
     }
     if at < CONFIG_IN_MMIO {
-        return line_cell(cells, write, at);
+        return csl_cell(cells, write, at);
     }
     config_cell(cells, at - CONFIG_IN_MMIO)
 }
 
-fn line_cell(cells: &[u8; CELLS], write: bool, at: usize) -> u8
-    ensures { λ r. ⌜ r ≡ lineCell (now (cells .entry)) write at ⌝ }
+fn csl_cell(cells: &[u8; CELLS], write: bool, at: usize) -> u8
+    ensures { λ r. ⌜ r ≡ cslCell (now (cells .entry)) write at ⌝ }
 {
-    if at < LINE_ADDRESS {
+    if at < CSL_ADDRESS {
         return NOTHING;
     }
-    if LINE_ADDRESS + LINE <= at {
+    if CSL_ADDRESS + CSL <= at {
         return NOTHING;
     }
     if write {
-        cells[LINE_WRITES + (at - LINE_ADDRESS)]
+        cells[CSL_WRITES + (at - CSL_ADDRESS)]
     } else {
-        cells[LINE_READS + (at - LINE_ADDRESS)]
+        cells[CSL_READS + (at - CSL_ADDRESS)]
     }
 }
 

@@ -29,8 +29,8 @@ pub record RunKept (f : File) (trace before after : List ℕ) (r : Ran) : Type 0
   pub counted : r .count ≡ run f trace before .count
   pub replied : after ≡ run f trace before .buffer
 
--- demand 3 of a run over so many records: 'accepted at each access and ends in exactly the wanted file'; 02, 10/13: its line is that of the file that it began
--- with
+-- demand 3 of a run over so many records: 'accepted at each access and ends in exactly the wanted file'; 02, 10/13, as settled: with the line of
+-- the file that it began with
 pub record RunServes (f w : File) (count : ℕ) (replies : List ℕ) (r : Ran) : Type 0 where
   pub answered : r .answer ≡ Done 0
   pub counted : r .count ≡ count

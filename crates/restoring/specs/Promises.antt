@@ -15,7 +15,7 @@ use Rattle.roads.specs.Restores.{PlanWritten}
 use Rattle.restoring.specs.declared.Restored.{Restored}
 
 -- a restore: '12, 13, 11', with 02's 15 behind 12 (6/13), never 14 by what `made` says of the records, and 'the file the run ends in', which is the wanted one
--- with the current file's line (02, 10/13)
+-- with the current file's line (02, 10/13, as settled)
 pub record RestoreKept (f w : File) (before after : List ℕ) (r : Restored) : Type 0 where
   pub answered : r .answer ≡ restoreAnswer f w (length before)
   pub made : refused (r .answer) ≡ false → PlanWritten w before after (r .count)

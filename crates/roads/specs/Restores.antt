@@ -44,7 +44,7 @@ unfoldable pub allInBytes : List Record → Bool
 allInBytes [] = true
 allInBytes (r ∷ rs) = inBytes r && allInBytes rs
 
--- 02, 10/13: none lets lines pass
+-- demand 3, 'ordinary accesses'; 02, 10/13, as settled: none lets lines pass
 unfoldable pub allOrdinary : List Record → Bool
 allOrdinary [] = true
 allOrdinary (r ∷ rs) = ordinary r && allOrdinary rs
@@ -67,8 +67,8 @@ pub record IsFile (f : File) : Type 0 where
   pub bankBytes : T (bytes (f .bank))
   pub address : f .state .pointer .address < 256
 
--- demand 3: records that are a plan of a wanted file, ordinary accesses (02, 10/13), by which all but the line is restored, the marks too (02, 1/13).
--- 02, 6/13: it 'speaks of starts on the wanted file's chip'. Several are; `planRecords` is one
+-- demand 3: records that are a plan of a wanted file, 'ordinary accesses', by which all is restored, the marks too (02, 1/13), but the line, which is outside
+-- its sameness (02, 10/13). 02, 6/13: it 'speaks of starts on the wanted file's chip'. Several are; `planRecords` is one
 pub record Plans (w : File) (records : List Record) : Type 0 where
   pub room : length records ≤ 1024
   pub whole : T (allInBytes records)

@@ -3,7 +3,7 @@ use mathlib.Core.Path.{_≡_, refl}
 use mathlib.Core.Bool.{Bool, true, false, not}
 use borrow.Author.Tests.{eq-eqb, ne-eqb, le-leb, lt-leb}
 use Rattle.access.specs.Checks.{isPassing, badPassing}
-use Rattle.access.specs.Engine.{passes}
+use Rattle.access.specs.Engine.{linesPass}
 use Rattle.access.proofs.engine.is_passing.Statement.{statement}
 use Rattle.access.proofs.engine.is_passing.Tie as tie
 
@@ -12,24 +12,24 @@ twice true = refl
 twice false = refl
 
 returns : tie.Need-returns
-unfolding passes isPassing badPassing
+unfolding linesPass isPassing badPassing
 returns c = rw (ne-eqb _ _ (c .if1 .taken))
 
 returns-2 : tie.Need-returns-2
-unfolding passes isPassing badPassing
+unfolding linesPass isPassing badPassing
 returns-2 c = rw (eq-eqb _ _ (c .before .if1 .left), ne-eqb _ _ (c .if2 .taken))
 
 returns-3 : tie.Need-returns-3
-unfolding passes isPassing badPassing
+unfolding linesPass isPassing badPassing
 returns-3 c = rw (eq-eqb _ _ (c .before .before .if1 .left), eq-eqb _ _ (c .before .if2 .left), ne-eqb _ _ (c .if3 .taken))
 
 returns-4 : tie.Need-returns-4
-unfolding passes isPassing badPassing
+unfolding linesPass isPassing badPassing
 returns-4 c =
     rw (eq-eqb _ _ (c .before .before .before .if1 .left), eq-eqb _ _ (c .before .before .if2 .left), eq-eqb _ _ (c .before .if3 .left), lt-leb _ _ (c .if4 .taken))
 
 returns-5 : tie.Need-returns-5
-unfolding passes isPassing badPassing
+unfolding linesPass isPassing badPassing
 returns-5 c =
     rw (eq-eqb _ _ (c .before .before .before .if1 .left), eq-eqb _ _ (c .before .before .if2 .left), eq-eqb _ _ (c .before .if3 .left), le-leb _ _ (c .if4 .left))
     (twice _)

@@ -11,7 +11,7 @@ returns c = simp (lt-ltb _ _ (c .before .if1 .taken))
 
 returns-2 : tie.Need-returns-2
 unfolding mmioCell
-returns-2 c = simp (le-ltb _ _ (c .before .before .if1 .left), lt-leb _ _ (c .before .if2 .taken)) (c .line-cell .ensures)
+returns-2 c = simp (le-ltb _ _ (c .before .before .if1 .left), lt-leb _ _ (c .before .if2 .taken)) (c .csl-cell .ensures)
 
 returns-3 : tie.Need-returns-3
 unfolding mmioCell
