@@ -25,7 +25,7 @@ use Rattle.places.proofs.RulesOfPlaces.{narrow, all-narrow, place-in-file}
 use Rattle.access.specs.declared.record.Record.{Record}
 use Rattle.access.specs.Access.{placeOf, reachIn, answerAt, effectAt, writeEffect, answer, effect}
 use Rattle.access.specs.Checks.{isWrite, carries, malformed}
-use Rattle.access.specs.Engine.{noAccess, passes}
+use Rattle.access.specs.Engine.{noAccess, linesPass}
 use Rattle.access.proofs.PassedChecks.{kind-below, value-fits, word-fits, carries-below, Passing, is-passing, malformed-told}
 use Rattle.plain.specs.declared.checks.Looked.{Looked}
 use Rattle.plain.specs.declared.checks.Looked.the-variants.{Refused, Means}
@@ -53,7 +53,7 @@ same-effect f stored passesLines value e = refl
 by-form : {P : Type 0} (f : File) (r : Record) → malformed f r ≡ false → (noAccess r ≡ false → P) → (Passing r → P) → P
 by-form f r m access lines =
     by-test (noAccess r)
-    (λ n. by-test (passes r) (λ p. lines (is-passing r p)) (λ p. absurd (true≢false (rw (n, p) at (sym (malformed-told f r) ∙ m)))))
+    (λ n. by-test (linesPass r) (λ p. lines (is-passing r p)) (λ p. absurd (true≢false (rw (n, p) at (sym (malformed-told f r) ∙ m)))))
     access
 
 -- of an access what brings a value is a write
