@@ -1,14 +1,15 @@
-// A write at a row.
+// A write at a row, or lines that pass.
 ghost use mathlib.Core.Path.{_≡_};
 ghost use Prim.Native.Nat.{_<_};
 ghost use lib.Dec.{T};
 ghost use Rattle.file.specs.File.{crtcLocked};
 ghost use Rattle.file.specs.Registers.{registerCount};
 ghost use Rattle.places.specs.EngineCells.{inFile, takesBytes};
-ghost use Rattle.places.specs.Profile.{profile, storesTo, setsAddress, writesPixel};
+ghost use Rattle.places.specs.Profile.{profile, storesTo, setsAddress, writesPixel, passesLines};
 ghost use Rattle.file.specs.Effects.{paintIn};
 ghost use Rattle.access.specs.Access.{lockedOut, inBank, entryNumber};
 ghost use Rattle.plain.specs.Told.{rowReach, writeTold, pixelWritten};
+use crate::lines::line_after;
 use crate::reading::is_in_bank;
 use crate::reading::is_palette_up;
 use crate::row::Row;
@@ -49,11 +50,24 @@ pub fn write_row(row: Row, whole: File, value: u16) -> Told
         Place::ToggleState => leaving(whole, Answer::ReadOnly),
         Place::AttributeIndex => leaving(whole, Answer::ReadOnly),
         Place::ToggleReset => leaving(whole, Answer::ReadOnly),
+        Place::CurrentLine => leaving(whole, Answer::ReadOnly),
+        Place::Passing => pass_lines(whole, value),
         Place::Unnamed => leaving(whole, Answer::NoRegister),
         Place::UnnamedAttribute => Told {
             answer: Answer::NoRegister,
             file: with_state(whole, state.toggling(!state.toggle)),
         },
+    }
+}
+
+// Lines pass.
+fn pass_lines(whole: File, lines: u16) -> Told
+    ensures { λ r. ⌜ r ≡ writeTold whole 0 passesLines lines ⌝ }
+{
+    let line = line_after(whole, lines);
+    Told {
+        answer: Answer::Done(0),
+        file: with_state(whole, whole.state.passing(line)),
     }
 }
 
@@ -75,7 +89,7 @@ fn write_register(row: Row, whole: File, number: usize, flips: bool, value: u16)
     }
 }
 
-// Code 8: the lock, CR11[7], refuses CR0 to CR6.
+// It refuses CR0 to CR6.
 fn is_locked_out(whole: File, number: usize) -> bool
     ensures { λ r. ⌜ r ≡ lockedOut whole number ⌝ }
 {
@@ -87,7 +101,7 @@ fn is_locked_out(whole: File, number: usize) -> bool
     false
 }
 
-// The lock is on.
+// The lock, CR11[7].
 fn is_locked(whole: File) -> bool
     ensures { λ r. ⌜ r ≡ crtcLocked whole ⌝ }
 {
@@ -106,7 +120,6 @@ fn reach(row: Row, whole: File, number: usize) -> u16
     row.stored
 }
 
-// A value that fits one byte.
 fn byte(value: u16) -> u8
     requires { ⌜ value < 256 ⌝ }
     ensures { λ r. ⌜ r ≡ value ⌝ }
