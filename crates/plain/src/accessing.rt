@@ -17,22 +17,21 @@ use file::Answer;
 use file::File;
 use file::is_sound;
 
-// The record brings a value: it is a write, or lets lines pass.
-fn carries(asked: Record) -> bool
-    ensures { λ r. ⌜ r ≡ carriesValue asked ⌝ }
+// What stands next in a trace; a fragment has code 2, and an unsound file 12 before it.
+pub fn access_item(list: &[u8; BYTES], item: Item, whole: File) -> Told
+    requires { ⌜ Listed (now list) ⌝ }
+    ensures { λ r. ⌜ r ≡ itemTold whole item ⌝ }
 {
-    if asked.kind == 6 {
-        return true;
+    match item {
+        Item::Whole(asked) => access(list, asked, whole),
+        Item::Fragment(_) => {
+            if is_sound(whole) {
+                leaving(whole, Answer::Malformed)
+            } else {
+                leaving(whole, Answer::NotSound)
+            }
+        }
     }
-    asked.kind % 2 == 1
-}
-
-// The value, which fits two bytes.
-fn word(value: u32) -> u16
-    requires { ⌜ value < 65536 ⌝ }
-    ensures { λ r. ⌜ r ≡ value ⌝ }
-{
-    value as u16
 }
 
 // A whole record.
@@ -53,19 +52,20 @@ fn access(list: &[u8; BYTES], asked: Record, whole: File) -> Told
     }
 }
 
-// What stands next in a trace; a fragment has code 2, and an unsound file 12 before it.
-pub fn access_item(list: &[u8; BYTES], item: Item, whole: File) -> Told
-    requires { ⌜ Listed (now list) ⌝ }
-    ensures { λ r. ⌜ r ≡ itemTold whole item ⌝ }
+// The record brings a value: it is a write, or lets lines pass.
+fn carries(asked: Record) -> bool
+    ensures { λ r. ⌜ r ≡ carriesValue asked ⌝ }
 {
-    match item {
-        Item::Whole(asked) => access(list, asked, whole),
-        Item::Fragment(_) => {
-            if is_sound(whole) {
-                leaving(whole, Answer::Malformed)
-            } else {
-                leaving(whole, Answer::NotSound)
-            }
-        }
+    if asked.kind == 6 {
+        return true;
     }
+    asked.kind % 2 == 1
+}
+
+// The value, which fits two bytes.
+fn word(value: u32) -> u16
+    requires { ⌜ value < 65536 ⌝ }
+    ensures { λ r. ⌜ r ≡ value ⌝ }
+{
+    value as u16
 }

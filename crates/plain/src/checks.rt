@@ -25,6 +25,35 @@ pub enum Looked {
     Means(Row),
 }
 
+// All of them: 12, 2 and 3, and then the list is walked.
+pub fn look(list: &[u8; BYTES], asked: Record, whole: File) -> Looked
+    ensures { λ r. ⌜ r ≡ lookedOver (rowsOf rowCount (now (list .entry))) whole asked ⌝ }
+{
+    if !is_sound(whole) {
+        return Looked::Refused(Answer::NotSound);
+    }
+    if is_malformed(asked) {
+        return Looked::Refused(Answer::Malformed);
+    }
+    if is_space_off(asked, whole) {
+        return Looked::Refused(Answer::SpaceOff);
+    }
+    look_at(list, asked, whole, find(list, asked, whole))
+}
+
+// Code 2: kind over 6, or a record that has not the form of its kind.
+fn is_malformed(asked: Record) -> bool
+    ensures { λ r. ⌜ r ≡ malformed (powerOn Gd5464) asked ⌝ }
+{
+    if 6 < asked.kind {
+        return true;
+    }
+    if asked.kind == 6 {
+        return is_bad_passing(asked);
+    }
+    is_bad_access(asked)
+}
+
 // Of kind 6: another form than width 2, address 0, value 1 to 65,535.
 fn is_bad_passing(asked: Record) -> bool
     ensures { λ r. ⌜ r ≡ badPassing asked ⌝ }
@@ -60,19 +89,6 @@ fn is_bad_access(asked: Record) -> bool
     }
 }
 
-// Code 2: kind over 6, or a record that has not the form of its kind.
-fn is_malformed(asked: Record) -> bool
-    ensures { λ r. ⌜ r ≡ malformed (powerOn Gd5464) asked ⌝ }
-{
-    if 6 < asked.kind {
-        return true;
-    }
-    if asked.kind == 6 {
-        return is_bad_passing(asked);
-    }
-    is_bad_access(asked)
-}
-
 // Code 3: a port access with PCI04[0]=0, or an MMIO access with PCI04[1]=0.
 fn is_space_off(asked: Record, whole: File) -> bool
     ensures { λ r. ⌜ r ≡ spaceOff whole asked ⌝ }
@@ -83,6 +99,24 @@ fn is_space_off(asked: Record, whole: File) -> bool
         2 => whole.registers[PCI04] / 2 % 2 == 0,
         _ => false,
     }
+}
+
+// The row that the walk found, if there is one: 16, 17 or 4, then 5, then 6, another width than the row's.
+fn look_at(list: &[u8; BYTES], asked: Record, whole: File, found: Found) -> Looked
+    ensures { λ r. ⌜ r ≡ lookedAt (rowsOf rowCount (now (list .entry))) whole asked found ⌝ }
+{
+    let Found::At(row) = found else {
+        let state = whole.state;
+        let chip = state.chip;
+        return Looked::Refused(nothing_there(list, asked, chip));
+    };
+    if is_other_half(asked, whole) {
+        return Looked::Refused(Answer::OtherHalf);
+    }
+    if row.width != asked.width {
+        return Looked::Refused(Answer::WrongWidth);
+    }
+    Looked::Means(row)
 }
 
 // Codes 16, 17 and 4: where no row fits, the address is held in the other direction only, or it falls inside a wider register, or there is nothing.
@@ -116,38 +150,4 @@ fn is_other_half(asked: Record, whole: File) -> bool
         0x3DA => half == 0,
         _ => false,
     }
-}
-
-// The row that the walk found, if there is one: 16, 17 or 4, then 5, then 6, another width than the row's.
-fn look_at(list: &[u8; BYTES], asked: Record, whole: File, found: Found) -> Looked
-    ensures { λ r. ⌜ r ≡ lookedAt (rowsOf rowCount (now (list .entry))) whole asked found ⌝ }
-{
-    let Found::At(row) = found else {
-        let state = whole.state;
-        let chip = state.chip;
-        return Looked::Refused(nothing_there(list, asked, chip));
-    };
-    if is_other_half(asked, whole) {
-        return Looked::Refused(Answer::OtherHalf);
-    }
-    if row.width != asked.width {
-        return Looked::Refused(Answer::WrongWidth);
-    }
-    Looked::Means(row)
-}
-
-// All of them: 12, 2 and 3, and then the list is walked.
-pub fn look(list: &[u8; BYTES], asked: Record, whole: File) -> Looked
-    ensures { λ r. ⌜ r ≡ lookedOver (rowsOf rowCount (now (list .entry))) whole asked ⌝ }
-{
-    if !is_sound(whole) {
-        return Looked::Refused(Answer::NotSound);
-    }
-    if is_malformed(asked) {
-        return Looked::Refused(Answer::Malformed);
-    }
-    if is_space_off(asked, whole) {
-        return Looked::Refused(Answer::SpaceOff);
-    }
-    look_at(list, asked, whole, find(list, asked, whole))
 }

@@ -20,66 +20,6 @@ use file::CR1A;
 use file::File;
 use places::Place;
 
-// B0[7] stops the palette, and so does static sync, CR1A[3:2].
-pub fn is_palette_up(whole: File) -> bool
-    ensures { λ r. ⌜ r ≡ paletteUp whole ⌝ }
-{
-    if whole.registers[B0] / 128 % 2 != 0 {
-        return false;
-    }
-    if whole.registers[CR1A] / 8 % 2 != 0 {
-        return false;
-    }
-    whole.registers[CR1A] / 4 % 2 == 0
-}
-
-// With B0[3]=1 the pointer's entry is one of the bank, else of the palette.
-pub fn is_in_bank(whole: File) -> bool
-    ensures { λ r. ⌜ r ≡ inBank whole ⌝ }
-{
-    whole.registers[B0] / 8 % 2 == 1
-}
-
-// The stored component of the next colour.
-fn component(whole: File) -> u8
-    ensures { λ r. ⌜ r ≡ shownIn whole ⌝ }
-{
-    let pointer = whole.state.pointer;
-    let at = pointer.address as usize;
-    if is_in_bank(whole) {
-        let entry = whole.bank[at % BANK];
-        return entry.component(pointer.next);
-    }
-    let entry = whole.palette[at];
-    entry.component(pointer.next)
-}
-
-// Pixel data: code 9, or the component, and the pointer moves.
-fn read_pixel(whole: File) -> Told
-    ensures { λ r. ⌜ r ≡ readTold whole givesPixel ⌝ }
-{
-    if !is_palette_up(whole) {
-        return leaving(whole, Answer::PaletteDown);
-    }
-    let state = whole.state;
-    let pointer = state.pointer;
-    let after = state.stepping(pointer.after_read(), pointer.marks(true));
-    Told {
-        answer: Answer::Done(component(whole) as u16),
-        file: with_state(whole, after),
-    }
-}
-
-// 10Ch: on the 5462 bits 11 and 10 read 1.
-fn v_port_control(whole: File) -> u16
-    ensures { λ r. ⌜ r ≡ vPortState whole ⌝ }
-{
-    let state = whole.state;
-    let chip = state.chip;
-    let shown = chip.v_port_shown();
-    bits::store(shown, whole.registers[CAPTURE_Y_START], shown)
-}
-
 // What a read at a row answers, and the file after it.
 pub fn read_row(row: Row, whole: File) -> Told
     requires { ⌜ T (inFile (row .place)) ⌝ }
@@ -113,4 +53,64 @@ pub fn read_row(row: Row, whole: File) -> Told
         Place::CurrentLine => leaving(whole, Answer::Done(line_shown(whole))),
         Place::Passing => leaving(whole, Answer::NoRegister),
     }
+}
+
+// 10Ch: on the 5462 bits 11 and 10 read 1.
+fn v_port_control(whole: File) -> u16
+    ensures { λ r. ⌜ r ≡ vPortState whole ⌝ }
+{
+    let state = whole.state;
+    let chip = state.chip;
+    let shown = chip.v_port_shown();
+    bits::store(shown, whole.registers[CAPTURE_Y_START], shown)
+}
+
+// Pixel data: code 9, or the component, and the pointer moves.
+fn read_pixel(whole: File) -> Told
+    ensures { λ r. ⌜ r ≡ readTold whole givesPixel ⌝ }
+{
+    if !is_palette_up(whole) {
+        return leaving(whole, Answer::PaletteDown);
+    }
+    let state = whole.state;
+    let pointer = state.pointer;
+    let after = state.stepping(pointer.after_read(), pointer.marks(true));
+    Told {
+        answer: Answer::Done(component(whole) as u16),
+        file: with_state(whole, after),
+    }
+}
+
+// B0[7] stops the palette, and so does static sync, CR1A[3:2].
+pub fn is_palette_up(whole: File) -> bool
+    ensures { λ r. ⌜ r ≡ paletteUp whole ⌝ }
+{
+    if whole.registers[B0] / 128 % 2 != 0 {
+        return false;
+    }
+    if whole.registers[CR1A] / 8 % 2 != 0 {
+        return false;
+    }
+    whole.registers[CR1A] / 4 % 2 == 0
+}
+
+// The stored component of the next colour.
+fn component(whole: File) -> u8
+    ensures { λ r. ⌜ r ≡ shownIn whole ⌝ }
+{
+    let pointer = whole.state.pointer;
+    let at = pointer.address as usize;
+    if is_in_bank(whole) {
+        let entry = whole.bank[at % BANK];
+        return entry.component(pointer.next);
+    }
+    let entry = whole.palette[at];
+    entry.component(pointer.next)
+}
+
+// With B0[3]=1 the pointer's entry is one of the bank, else of the palette.
+pub fn is_in_bank(whole: File) -> bool
+    ensures { λ r. ⌜ r ≡ inBank whole ⌝ }
+{
+    whole.registers[B0] / 8 % 2 == 1
 }

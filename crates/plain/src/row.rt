@@ -21,35 +21,24 @@ pub struct Row {
     pub place: Place,
 }
 
-fn wide(byte: u8) -> u16
-    ensures { λ r. ⌜ r ≡ byte ⌝ }
+// The row of a number, from 0 on.
+pub fn row_at(list: &[u8; BYTES], n: usize) -> Row
+    requires { ⌜ n < rowCount ⌝ }
+    ensures { λ r. ⌜ r ≡ rowOf (drop (columns * n) (now (list .entry))) ⌝ }
 {
-    byte as u16
-}
-
-// A hexadecimal digit; a blank counts as 0.
-fn digit(byte: u8) -> u16
-    ensures { λ r. ⌜ (r ≡ digitOf byte) × (r < 16) ⌝ }
-{
-    if byte < b'A' {
-        wide(byte) % 16
-    } else {
-        (wide(byte) + 9) % 16
+    let at = COLUMNS * n;
+    let place = place_named(list[at + 24], four_digits(list, at + 30));
+    Row {
+        space: list[at],
+        address: four_digits(list, at + 4),
+        index: list[at + 9],
+        nth: two_digits(list, at + 11),
+        reads: list[at + 14] != b' ',
+        writes: list[at + 15] != b' ',
+        width: list[at + 17] % 16,
+        stored: four_digits(list, at + 19),
+        place,
     }
-}
-
-fn two_digits(list: &[u8; BYTES], at: usize) -> u16
-    requires { ⌜ at + 1 < rowCount * columns ⌝ }
-    ensures { λ r. ⌜ (r ≡ twoDigits (now (list .entry)) at) × (r < 256) ⌝ }
-{
-    16 * digit(list[at]) + digit(list[at + 1])
-}
-
-fn four_digits(list: &[u8; BYTES], at: usize) -> u16
-    requires { ⌜ at + 3 < rowCount * columns ⌝ }
-    ensures { λ r. ⌜ r ≡ fourDigits (now (list .entry)) at ⌝ }
-{
-    256 * two_digits(list, at) + two_digits(list, at + 2)
 }
 
 // What stands there, by a letter and a number.
@@ -76,22 +65,33 @@ fn place_named(letter: u8, number: u16) -> Place
     }
 }
 
-// The row of a number, from 0 on.
-pub fn row_at(list: &[u8; BYTES], n: usize) -> Row
-    requires { ⌜ n < rowCount ⌝ }
-    ensures { λ r. ⌜ r ≡ rowOf (drop (columns * n) (now (list .entry))) ⌝ }
+fn four_digits(list: &[u8; BYTES], at: usize) -> u16
+    requires { ⌜ at + 3 < rowCount * columns ⌝ }
+    ensures { λ r. ⌜ r ≡ fourDigits (now (list .entry)) at ⌝ }
 {
-    let at = COLUMNS * n;
-    let place = place_named(list[at + 24], four_digits(list, at + 30));
-    Row {
-        space: list[at],
-        address: four_digits(list, at + 4),
-        index: list[at + 9],
-        nth: two_digits(list, at + 11),
-        reads: list[at + 14] != b' ',
-        writes: list[at + 15] != b' ',
-        width: list[at + 17] % 16,
-        stored: four_digits(list, at + 19),
-        place,
+    256 * two_digits(list, at) + two_digits(list, at + 2)
+}
+
+fn two_digits(list: &[u8; BYTES], at: usize) -> u16
+    requires { ⌜ at + 1 < rowCount * columns ⌝ }
+    ensures { λ r. ⌜ (r ≡ twoDigits (now (list .entry)) at) × (r < 256) ⌝ }
+{
+    16 * digit(list[at]) + digit(list[at + 1])
+}
+
+// A hexadecimal digit; a blank counts as 0.
+fn digit(byte: u8) -> u16
+    ensures { λ r. ⌜ (r ≡ digitOf byte) × (r < 16) ⌝ }
+{
+    if byte < b'A' {
+        wide(byte) % 16
+    } else {
+        (wide(byte) + 9) % 16
     }
+}
+
+fn wide(byte: u8) -> u16
+    ensures { λ r. ⌜ r ≡ byte ⌝ }
+{
+    byte as u16
 }

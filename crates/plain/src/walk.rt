@@ -21,17 +21,19 @@ pub enum Found {
     Nothing,
 }
 
-// A row's space, as the kinds of record have it: 0 and 1 config, 2 and 3 port, 4 and 5 MMIO, 6 lines that pass.
-fn space(row: Row) -> u8
-    ensures { λ r. ⌜ r ≡ spaceOf row ⌝ }
+// The first row that fits a record.
+pub fn find(list: &[u8; BYTES], asked: Record, whole: File) -> Found
+    ensures { λ r. ⌜ r ≡ found (fits whole (asked .kind) (asked .address)) (rowsOf rowCount (now (list .entry))) ⌝ }
 {
-    let letter = row.space;
-    match letter {
-        b'c' => 0,
-        b'p' => 1,
-        b'm' => 2,
-        _ => 3,
+    for n in 0..ROWS {
+        let row = row_at(list, n);
+        if is_at(row, asked.kind, asked.address) {
+            if is_selected(row, whole) {
+                return Found::At(row);
+            }
+        }
     }
+    Found::Nothing
 }
 
 // A row is for this kind of record and this address.
@@ -47,17 +49,16 @@ fn is_at(row: Row, kind: u8, address: u16) -> bool
     if kind % 2 == 0 { row.reads } else { row.writes }
 }
 
-// A row is of this chip.
-fn is_of_chip(row: Row, chip: Chip) -> bool
-    ensures { λ r. ⌜ r ≡ ofChip chip row ⌝ }
+// A row's space, as the kinds of record have it: 0 and 1 config, 2 and 3 port, 4 and 5 MMIO, 6 lines that pass.
+fn space(row: Row) -> u8
+    ensures { λ r. ⌜ r ≡ spaceOf row ⌝ }
 {
-    if row.index != b'5' {
-        return true;
-    }
-    let is_5462 = row.nth == 0x62;
-    match chip {
-        Chip::Gd5462 => is_5462,
-        Chip::Gd5464 => !is_5462,
+    let letter = row.space;
+    match letter {
+        b'c' => 0,
+        b'p' => 1,
+        b'm' => 2,
+        _ => 3,
     }
 }
 
@@ -86,19 +87,32 @@ fn is_selected(row: Row, whole: File) -> bool
     }
 }
 
-// The first row that fits a record.
-pub fn find(list: &[u8; BYTES], asked: Record, whole: File) -> Found
-    ensures { λ r. ⌜ r ≡ found (fits whole (asked .kind) (asked .address)) (rowsOf rowCount (now (list .entry))) ⌝ }
+// A row is of this chip.
+fn is_of_chip(row: Row, chip: Chip) -> bool
+    ensures { λ r. ⌜ r ≡ ofChip chip row ⌝ }
 {
+    if row.index != b'5' {
+        return true;
+    }
+    let is_5462 = row.nth == 0x62;
+    match chip {
+        Chip::Gd5462 => is_5462,
+        Chip::Gd5464 => !is_5462,
+    }
+}
+
+// Code 16: the address is held in the other direction.
+pub fn is_held_other_way(list: &[u8; BYTES], chip: Chip, kind: u8, address: u16) -> bool
+    ensures { λ r. ⌜ r ≡ someOf (holds chip (otherWayOf kind) address) (rowsOf rowCount (now (list .entry))) ⌝ }
+{
+    let other = other_way(kind);
     for n in 0..ROWS {
         let row = row_at(list, n);
-        if is_at(row, asked.kind, asked.address) {
-            if is_selected(row, whole) {
-                return Found::At(row);
-            }
+        if is_held(row, chip, other, address) {
+            return true;
         }
     }
-    Found::Nothing
+    false
 }
 
 // The kind of record of the same space in the other direction.
@@ -119,14 +133,13 @@ fn is_held(row: Row, chip: Chip, kind: u8, address: u16) -> bool
     }
 }
 
-// Code 16: the address is held in the other direction.
-pub fn is_held_other_way(list: &[u8; BYTES], chip: Chip, kind: u8, address: u16) -> bool
-    ensures { λ r. ⌜ r ≡ someOf (holds chip (otherWayOf kind) address) (rowsOf rowCount (now (list .entry))) ⌝ }
+// Code 17: the address falls inside a wider register.
+pub fn is_inside_wider(list: &[u8; BYTES], chip: Chip, kind: u8, address: u16) -> bool
+    ensures { λ r. ⌜ r ≡ someOf (inside chip kind address) (rowsOf rowCount (now (list .entry))) ⌝ }
 {
-    let other = other_way(kind);
     for n in 0..ROWS {
         let row = row_at(list, n);
-        if is_held(row, chip, other, address) {
+        if is_inside(row, chip, kind, address) {
             return true;
         }
     }
@@ -147,17 +160,4 @@ fn is_inside(row: Row, chip: Chip, kind: u8, address: u16) -> bool
         return true;
     }
     is_held(row, chip, other_way(kind), address - 1)
-}
-
-// Code 17: the address falls inside a wider register.
-pub fn is_inside_wider(list: &[u8; BYTES], chip: Chip, kind: u8, address: u16) -> bool
-    ensures { λ r. ⌜ r ≡ someOf (inside chip kind address) (rowsOf rowCount (now (list .entry))) ⌝ }
-{
-    for n in 0..ROWS {
-        let row = row_at(list, n);
-        if is_inside(row, chip, kind, address) {
-            return true;
-        }
-    }
-    false
 }

@@ -29,125 +29,6 @@ use file::File;
 use file::Pointer;
 use places::Place;
 
-// The lock, CR11[7].
-fn is_locked(whole: File) -> bool
-    ensures { λ r. ⌜ r ≡ crtcLocked whole ⌝ }
-{
-    whole.registers[CR11] / 128 % 2 == 1
-}
-
-// It refuses CR0 to CR6.
-fn is_locked_out(whole: File, number: usize) -> bool
-    ensures { λ r. ⌜ r ≡ lockedOut whole number ⌝ }
-{
-    if is_locked(whole) {
-        if CR0 <= number {
-            return number <= CR6;
-        }
-    }
-    false
-}
-
-// The bits that a write may change: the row's stored bits; under the lock bit 4 alone of CR7.
-fn reach(row: Row, whole: File, number: usize) -> u16
-    ensures { λ r. ⌜ r ≡ rowReach whole (row .stored) number ⌝ }
-{
-    if number == CR7 {
-        if is_locked(whole) {
-            return 0x10;
-        }
-    }
-    row.stored
-}
-
-// A register: code 8, or its bits inside the reach are the value's, and the others stay. An attribute register's write flips the toggle.
-fn write_register(row: Row, whole: File, number: usize, flips: bool, value: u16) -> Told
-    requires { ⌜ number < registerCount ⌝ }
-    ensures { λ r. ⌜ r ≡ writeTold whole (row .stored) (storesTo number flips) value ⌝ }
-{
-    if is_locked_out(whole, number) {
-        return leaving(whole, Answer::Locked);
-    }
-    let reach = reach(row, whole, number);
-    let mut file = whole;
-    let old = file.registers[number];
-    file.registers[number] = bits::store(reach, old, value);
-    Told {
-        answer: Answer::Done(0),
-        file: with_state(file, whole.state.flipped(flips)),
-    }
-}
-
-fn byte(value: u16) -> u8
-    requires { ⌜ value < 256 ⌝ }
-    ensures { λ r. ⌜ r ≡ value ⌝ }
-{
-    value as u8
-}
-
-// 3C7h and 3C8h: the pointer at a new address, in read or write mode.
-fn write_address(whole: File, reading: bool, address: u8) -> Told
-    ensures { λ r. ⌜ r ≡ writeTold whole 0 (setsAddress reading) address ⌝ }
-{
-    let pointer = Pointer::addressed(reading, address);
-    Told {
-        answer: Answer::Done(0),
-        file: with_state(whole, whole.state.pointing(pointer)),
-    }
-}
-
-// The entry that the pointer names, of the bank or the palette, stored.
-fn store_entry(whole: File, colour: Colour) -> File
-    ensures { λ r. ⌜ r ≡ paintIn (inBank whole) (entryNumber whole) colour whole ⌝ }
-{
-    let pointer = whole.state.pointer;
-    let at = pointer.address as usize;
-    let mut file = whole;
-    if is_in_bank(whole) {
-        file.bank[at % BANK] = colour;
-    } else {
-        file.palette[at] = colour;
-    }
-    file
-}
-
-// Pixel data where the palette is up: at blue an entry is stored, and the pointer moves.
-fn store_pixel(whole: File, byte: u8) -> File
-    ensures { λ r. ⌜ r ≡ pixelWritten whole byte ⌝ }
-{
-    let state = whole.state;
-    let pointer = state.pointer;
-    let after = state.stepping(pointer.after_write(byte), pointer.marks(false));
-    if pointer.stores() {
-        return with_state(store_entry(whole, pointer.mixed(byte)), after);
-    }
-    with_state(whole, after)
-}
-
-// Pixel data: code 9, or stored.
-fn write_pixel(whole: File, byte: u8) -> Told
-    ensures { λ r. ⌜ r ≡ writeTold whole 0 writesPixel byte ⌝ }
-{
-    if !is_palette_up(whole) {
-        return leaving(whole, Answer::PaletteDown);
-    }
-    Told {
-        answer: Answer::Done(0),
-        file: store_pixel(whole, byte),
-    }
-}
-
-// Lines pass.
-fn pass_lines(whole: File, lines: u16) -> Told
-    ensures { λ r. ⌜ r ≡ writeTold whole 0 passesLines lines ⌝ }
-{
-    let line = line_after(whole, lines);
-    Told {
-        answer: Answer::Done(0),
-        file: with_state(whole, whole.state.passing(line)),
-    }
-}
-
 // What a write at a row answers, and the file after it. The pointer's places take a byte.
 pub fn write_row(row: Row, whole: File, value: u16) -> Told
     requires { ⌜ T (inFile (row .place)) ⌝ }
@@ -176,5 +57,125 @@ pub fn write_row(row: Row, whole: File, value: u16) -> Told
             answer: Answer::NoRegister,
             file: with_state(whole, state.toggling(!state.toggle)),
         },
+    }
+}
+
+// A register: code 8, or its bits inside the reach are the value's, and the others stay. An attribute register's write flips the toggle.
+fn write_register(row: Row, whole: File, number: usize, flips: bool, value: u16) -> Told
+    requires { ⌜ number < registerCount ⌝ }
+    ensures { λ r. ⌜ r ≡ writeTold whole (row .stored) (storesTo number flips) value ⌝ }
+{
+    if is_locked_out(whole, number) {
+        return leaving(whole, Answer::Locked);
+    }
+    let reach = reach(row, whole, number);
+    let mut file = whole;
+    let old = file.registers[number];
+    file.registers[number] = bits::store(reach, old, value);
+    Told {
+        answer: Answer::Done(0),
+        file: with_state(file, whole.state.flipped(flips)),
+    }
+}
+
+// Code 8: the lock, CR11[7], refuses CR0 to CR6.
+fn is_locked_out(whole: File, number: usize) -> bool
+    ensures { λ r. ⌜ r ≡ lockedOut whole number ⌝ }
+{
+    if is_locked(whole) {
+        if CR0 <= number {
+            return number <= CR6;
+        }
+    }
+    false
+}
+
+// The lock is on.
+fn is_locked(whole: File) -> bool
+    ensures { λ r. ⌜ r ≡ crtcLocked whole ⌝ }
+{
+    whole.registers[CR11] / 128 % 2 == 1
+}
+
+// The bits that a write may change: the row's stored bits; under the lock bit 4 alone of CR7.
+fn reach(row: Row, whole: File, number: usize) -> u16
+    ensures { λ r. ⌜ r ≡ rowReach whole (row .stored) number ⌝ }
+{
+    if number == CR7 {
+        if is_locked(whole) {
+            return 0x10;
+        }
+    }
+    row.stored
+}
+
+// A value that fits one byte.
+fn byte(value: u16) -> u8
+    requires { ⌜ value < 256 ⌝ }
+    ensures { λ r. ⌜ r ≡ value ⌝ }
+{
+    value as u8
+}
+
+// 3C7h and 3C8h: the pointer at a new address, in read or write mode.
+fn write_address(whole: File, reading: bool, address: u8) -> Told
+    ensures { λ r. ⌜ r ≡ writeTold whole 0 (setsAddress reading) address ⌝ }
+{
+    let pointer = Pointer::addressed(reading, address);
+    Told {
+        answer: Answer::Done(0),
+        file: with_state(whole, whole.state.pointing(pointer)),
+    }
+}
+
+// Pixel data: code 9, or stored.
+fn write_pixel(whole: File, byte: u8) -> Told
+    ensures { λ r. ⌜ r ≡ writeTold whole 0 writesPixel byte ⌝ }
+{
+    if !is_palette_up(whole) {
+        return leaving(whole, Answer::PaletteDown);
+    }
+    Told {
+        answer: Answer::Done(0),
+        file: store_pixel(whole, byte),
+    }
+}
+
+// Pixel data where the palette is up: at blue an entry is stored, and the pointer moves.
+fn store_pixel(whole: File, byte: u8) -> File
+    ensures { λ r. ⌜ r ≡ pixelWritten whole byte ⌝ }
+{
+    let state = whole.state;
+    let pointer = state.pointer;
+    let after = state.stepping(pointer.after_write(byte), pointer.marks(false));
+    if pointer.stores() {
+        return with_state(store_entry(whole, pointer.mixed(byte)), after);
+    }
+    with_state(whole, after)
+}
+
+// The entry that the pointer names, of the bank or the palette, stored.
+fn store_entry(whole: File, colour: Colour) -> File
+    ensures { λ r. ⌜ r ≡ paintIn (inBank whole) (entryNumber whole) colour whole ⌝ }
+{
+    let pointer = whole.state.pointer;
+    let at = pointer.address as usize;
+    let mut file = whole;
+    if is_in_bank(whole) {
+        file.bank[at % BANK] = colour;
+    } else {
+        file.palette[at] = colour;
+    }
+    file
+}
+
+// Lines pass.
+fn pass_lines(whole: File, lines: u16) -> Told
+    ensures { λ r. ⌜ r ≡ writeTold whole 0 passesLines lines ⌝ }
+{
+    let line = line_after(whole, lines);
+    Told {
+        answer: Answer::Done(0),
+        file: with_state(whole, whole.state.passing(line)),
     }
 }
