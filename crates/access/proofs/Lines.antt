@@ -2,7 +2,7 @@
 -- Assumes nothing.
 use Prim.Native.Nat.{ℕ, _≤_, _<_}
 use mathlib.Core.Path.{_≡_, refl, sym, ap, _∙_}
-use mathlib.Core.Bool.{true, false, not, _||_}
+use mathlib.Core.Bool.{true, false, not}
 use native.Mathlib.Nat.{mod-lt}
 use native.Mathlib.Omega.{arith}
 use borrow.Author.Tests.{le-leb, not-true}
@@ -18,7 +18,6 @@ use Rattle.file.specs.File.{withLine}
 use Rattle.file.specs.Sound.{sound}
 use Rattle.places.specs.Profile.{Reading, Writing, profile, letsPass}
 use Rattle.places.proofs.RulesOfPlaces.{lineRule, line-rule}
-use Rattle.timing.specs.Timing.{timingIn}
 use Rattle.timing.proofs.VerticalNumbers.{total-least}
 use Rattle.access.specs.declared.record.Record.{Record}
 use Rattle.access.specs.Access.{placeOf, reachIn, vTotal, lineShown, lineAfter, writeAnswer, answerAt, writeEffect, readEffect, effectAt, answer, effect, reach, access}
@@ -26,7 +25,7 @@ use Rattle.access.specs.Checks.{isWrite, isPassing, ordinary, carries, b
 use Rattle.access.specs.Engine.{linesPass}
 use Rattle.access.specs.Promises.{passing}
 use Rattle.access.proofs.ChecksInOrder.{passing-place, passing-through}
-use Rattle.access.proofs.PassedChecks.{Passing, is-passing}
+use Rattle.access.proofs.PassedChecks.{is-passing}
 use Rattle.access.proofs.Reach.{outside-reach}
 use Rattle.access.proofs.Refusals.{by-read, by-write, by-effect}
 

@@ -47,7 +47,7 @@ module _ (f : File) where
   Seen = seen (f .registers) (f .state)
 
   read-effect : (reading : Reading) → readEffect f reading ≡ readEffect Seen reading
-  unfolding readEffect seen
+  unfolding readEffect lineShown vTotal timingIn wide seen register
   read-effect (givesHeld number) = refl
   read-effect (givesFixed value) = refl
   read-effect givesDeviceId = refl

@@ -18,7 +18,7 @@ use Rattle.access.specs.declared.record.Item.the-variants.{Whole}
 use Rattle.access.specs.declared.record.Record.{Record}
 use Rattle.access.specs.Access.{answerAt, answer, access, accessItem, placeOf}
 use Rattle.access.specs.Checks.{Check, isWrite, isPassing, carries, checks, firstRefusal, notSound, badAccess, badPassing, malformed, noRow, notHeld}
-use Rattle.places.specs.Lookup.{matches, rowAt, placeAt}
+use Rattle.places.specs.Lookup.{matches, rowAt}
 use Rattle.places.specs.Places.{Row, sharedPlaces, ownPlaces}
 use Rattle.trace.specs.Records.{bytesOf, itemOf, items}
 use Rattle.trace.specs.Run.{answers}

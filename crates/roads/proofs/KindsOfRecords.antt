@@ -5,7 +5,6 @@ use mathlib.Core.Bool.{Bool, true, false}
 use mathlib.Core.List.{List, [], _∷_, _++_, map}
 use lib.Dec.{T}
 use Rattle.bits.proofs.Test.{left, right, both}
-use Rattle.places.specs.Lookup.{isOneOf}
 use Rattle.file.specs.declared.palette.Colour.{Colour}
 use Rattle.file.specs.declared.palette.Pointer.{Pointer}
 use Rattle.file.specs.declared.registers.File.{File}
@@ -16,7 +15,7 @@ use Rattle.access.specs.Access.{access, accessItem}
 use Rattle.access.specs.Checks.{ordinary}
 use Rattle.access.proofs.Lines.{ordinary-line}
 use Rattle.trace.specs.Run.{fileAfter}
-use Rattle.roads.specs.Roads.{toB0, eachRoad, but, registerRoads, indexRoads, closingRoads}
+use Rattle.roads.specs.Roads.{toB0, registerRoads, indexRoads, closingRoads}
 use Rattle.roads.specs.Plan.{openBank, opening, pixel, pixels, entries, colours, pixelSteps, marking, indices, closing, planRecords}
 use Rattle.roads.specs.RoadRecords.{write, selecting, along}
 use Rattle.roads.specs.Restores.{allOrdinary}

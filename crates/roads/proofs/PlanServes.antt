@@ -182,7 +182,7 @@ pub written-items : (w : File) (before after : List ℕ) (count : ℕ) (p : Plan
 written-items w before after count p =
     ap₂ items (p .counted) (p .filled) ∙ trace-items (p .records) (drop (8 * count) before)
 
--- run over: every record is accepted, and the run ends in the wanted file, the line being the start's
+-- run over: every record is accepted, and the run ends in the wanted file
 pub planned-runs : (w : File) (before after : List ℕ) (count : ℕ) → PlanWritten w before after count → (f : File) → IsFile f → T (sound f) → f .state .chip ≡ w .state .chip
     → T (allAccepted (answers f (items count after))) × Same (fileAfter f (items count after)) w
 planned-runs w before after count p f ff fs chips =
@@ -190,6 +190,7 @@ planned-runs w before after count p f ff fs chips =
     let same = written-items w before after count p in
     (subst (λ (is : List Item). T (allAccepted (answers f is))) (sym same) (runs .allDone), subst (λ (is : List Item). Same (fileAfter f is) w) (sym same) (runs .ends))
 
+-- at the line that it began with
 pub planned-line : (w : File) (before after : List ℕ) (count : ℕ) → PlanWritten w before after count → (f : File) → fileAfter f (items count after) .state .line ≡ f .state .line
 planned-line w before after count p f =
     ap (λ (is : List Item). fileAfter f is .state .line) (written-items w before after count p) ∙ line-stays (p .records) f (p .plans .ordinary)

@@ -12,7 +12,7 @@ use lib.Dec.{T}
 use Rattle.places.specs.declared.place.Place.{Place}
 use Rattle.places.specs.EngineCells.{inFile}
 use Rattle.places.proofs.CellsInFile.{cell-in-file}
-use Rattle.access.proofs.PassedChecks.{word-fits, Passing, is-passing, passed, lines-told}
+use Rattle.access.proofs.PassedChecks.{word-fits, is-passing, passed, lines-told}
 use borrow.Author.Tests.{eq-eqb, ne-eqb}
 use borrow.Author.Needs.{needs}
 use Rattle.access.proofs.engine.decide.Statement.{statement}

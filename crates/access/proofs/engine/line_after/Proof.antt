@@ -1,6 +1,5 @@
 -- `line_after` meets its contract: line and count fit 32 bits. Assumes nothing.
-use Prim.Native.Nat.{_+_, _%_}
-use mathlib.Core.Path.{sym, ap, _∙_}
+use Prim.Native.Nat.{_+_}
 use native.Mathlib.Nat.{mod-lt}
 use native.Mathlib.Omega.{arith}
 use Rattle.access.proofs.LineRead.{total-some, total-fits, after-by}
