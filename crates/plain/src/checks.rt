@@ -54,6 +54,22 @@ fn is_malformed(asked: Record) -> bool
     is_bad_access(asked)
 }
 
+// Of kind 6: another form than width 2, address 0, value 1 to 65,535.
+fn is_bad_passing(asked: Record) -> bool
+    ensures { λ r. ⌜ r ≡ badPassing asked ⌝ }
+{
+    if asked.width != 2 {
+        return true;
+    }
+    if asked.address != 0 {
+        return true;
+    }
+    if asked.value < 1 {
+        return true;
+    }
+    65535 < asked.value
+}
+
 // Of the other kinds: width not 1 or 2; a read's value not 0; a write's value that doesn't fit the width.
 fn is_bad_access(asked: Record) -> bool
     ensures { λ r. ⌜ r ≡ badAccess asked ⌝ }
@@ -71,22 +87,6 @@ fn is_bad_access(asked: Record) -> bool
         2 => 0x10000 <= asked.value,
         _ => true,
     }
-}
-
-// Of kind 6: another form than width 2, address 0, value 1 to 65,535.
-fn is_bad_passing(asked: Record) -> bool
-    ensures { λ r. ⌜ r ≡ badPassing asked ⌝ }
-{
-    if asked.width != 2 {
-        return true;
-    }
-    if asked.address != 0 {
-        return true;
-    }
-    if asked.value < 1 {
-        return true;
-    }
-    65535 < asked.value
 }
 
 // Code 3: a port access with PCI04[0]=0, or an MMIO access with PCI04[1]=0.

@@ -2,7 +2,8 @@
 // value; nothing in it is made for speed. What it answers, and every file and byte that it leaves, is what `trace::run` leaves: it has that function's
 // contract, and `engines` says what follows.
 //
-// The files in the order in which a record meets them: running, accessing, checks, walk, row, list, reading, writing; in each file the functions stand so too.
+// The files in the order in which a record meets them: running, accessing, checks, walk, row, list, reading, writing, lines; in each file the functions
+// stand so too.
 //
 // One record through it: with CR11[7]=1, the bytes 05 01 1C 00 FF 00 00 00, an MMIO write of FFh to 1Ch, width 1.
 //

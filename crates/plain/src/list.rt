@@ -1,5 +1,5 @@
-// The list of places: 01's 'Places' and 'Stored bits', 02's V-Port registers and its lines, a row to a line, in 01's order. A record is looked up from the
-// top, and the first row that fits is meant. The columns of a row:
+// The list of places: 01's 'Places' and 'Stored bits' and 02's V-Port registers, a row to a line, in 01's order, and behind them 02's lines. A record is
+// looked up from the top, and the first row that fits is meant. The columns of a row:
 // - space: port, mmio, or conf for config space; time for a record that lets lines pass, which is of no space
 // - address
 // - index, where the row goes by one: SR, CR, GR or AR and the number that the index register has to hold, ARX counting by ARX[4:0]; at a 3C0h

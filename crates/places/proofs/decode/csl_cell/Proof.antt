@@ -1,9 +1,6 @@
 -- `csl_cell` meets its contract. Assumes nothing.
 use borrow.Author.Tests.{le-leb, lt-leb, le-ltb, lt-ltb}
 use Rattle.places.specs.EngineCells.{cslCell}
-use mathlib.Core.Path.{ap}
-use native.Mathlib.Omega.{arith}
-use lib.ListN.{getD}
 use borrow.Author.Needs.{needs}
 use Rattle.places.proofs.decode.csl_cell.Statement.{statement}
 use Rattle.places.proofs.decode.csl_cell.Tie as tie
