@@ -60,17 +60,6 @@ pub fn write_row(row: Row, whole: File, value: u16) -> Told
     }
 }
 
-// Lines pass.
-fn pass_lines(whole: File, lines: u16) -> Told
-    ensures { λ r. ⌜ r ≡ writeTold whole 0 passesLines lines ⌝ }
-{
-    let line = line_after(whole, lines);
-    Told {
-        answer: Answer::Done(0),
-        file: with_state(whole, whole.state.passing(line)),
-    }
-}
-
 // A register: code 8, or its bits inside the reach are the value's, and the others stay. An attribute register's write flips the toggle.
 fn write_register(row: Row, whole: File, number: usize, flips: bool, value: u16) -> Told
     requires { ⌜ number < registerCount ⌝ }
@@ -89,7 +78,7 @@ fn write_register(row: Row, whole: File, number: usize, flips: bool, value: u16)
     }
 }
 
-// It refuses CR0 to CR6.
+// Code 8: the lock, CR11[7], refuses CR0 to CR6.
 fn is_locked_out(whole: File, number: usize) -> bool
     ensures { λ r. ⌜ r ≡ lockedOut whole number ⌝ }
 {
@@ -101,7 +90,7 @@ fn is_locked_out(whole: File, number: usize) -> bool
     false
 }
 
-// The lock, CR11[7].
+// The lock is on.
 fn is_locked(whole: File) -> bool
     ensures { λ r. ⌜ r ≡ crtcLocked whole ⌝ }
 {
@@ -120,6 +109,7 @@ fn reach(row: Row, whole: File, number: usize) -> u16
     row.stored
 }
 
+// A value that fits one byte.
 fn byte(value: u16) -> u8
     requires { ⌜ value < 256 ⌝ }
     ensures { λ r. ⌜ r ≡ value ⌝ }
