@@ -1,7 +1,8 @@
 /*
  * The C side of crates/measured: runs the trace on standard input from power-on and prints nothing
  * of it; then does one thing some hundred times with the file that it ends in. Words: `run`, or
- * `read`, `write` (the timing), `plan` or `restore` (from power-on) and a digit for the hundreds.
+ * `flat`, which is the same here; or `read`, `write` (the timing), `plan` or `restore` (from
+ * power-on) and a digit for the hundreds.
  */
 #include <inttypes.h>
 #include <stdio.h>

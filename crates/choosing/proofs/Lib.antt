@@ -1,1 +1,2 @@
 pub mod SameTexts
+pub mod WordBytes

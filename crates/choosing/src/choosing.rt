@@ -1,57 +1,91 @@
-// The chip that a program is started for: the words behind its name.
+// The chip and the engine that a program is started for: the words behind its name, none, or one option or both in any order.
 ghost use mathlib.Core.Path.{_≡_};
-ghost use Rattle.file.specs.Readers.{same};
-ghost use Rattle.choosing.specs.Choosing.{ByWords, chipChosen, chipNamed};
+ghost use Rattle.choosing.specs.Choosing.{byOne, byTwo, chosenBy, withChip, withEngine};
+use crate::options::Wish;
+use crate::options::wanted;
+use crate::words::Words;
+use crate::words::read_words;
+use engines::Engine;
 use file::Chip;
 
-// A chip, or words that name none.
+// A chip and an engine, or words that name none.
 pub enum Chosen {
-    On(Chip),
+    On(Chip, Engine),
     Unknown,
 }
 
-// Whether two texts are the same.
-fn is_same(a: &[u8], b: &[u8]) -> bool
-    ensures { λ r. ⌜ r ≡ same (now (a .entry)) (now (b .entry)) ⌝ }
-{
-    check::same(a, b)
+// What was chosen, and the words that chose it.
+pub struct Choice {
+    pub words: Words,
+    pub chosen: Chosen,
 }
 
-fn chip_named(name: &[u8]) -> Chosen
-    ensures { λ r. ⌜ r ≡ chipNamed (now (name .entry)) ⌝ }
+// By one option; what it doesn't name is the 5464, or the quick engine.
+fn by_one(only: Wish) -> Chosen
+    ensures { λ r. ⌜ r ≡ byOne only ⌝ }
 {
-    if is_same(name, b"5462") {
-        return Chosen::On(Chip::Gd5462);
+    match only {
+        Wish::OnChip(chip) => Chosen::On(chip, Engine::Quick),
+        Wish::ByEngine(engine) => Chosen::On(Chip::Gd5464, engine),
+        Wish::Nothing => Chosen::Unknown,
     }
-    if is_same(name, b"5464") {
-        return Chosen::On(Chip::Gd5464);
-    }
-    Chosen::Unknown
 }
 
-// By how many words there are, the program's own name among them, and the two behind it.
-fn chip_chosen(count: usize, option: &[u8], name: &[u8]) -> Chosen
-    ensures { λ r. ⌜ r ≡ chipChosen count (now (option .entry)) (now (name .entry)) ⌝ }
+// By a chip and another option, which has to be an engine, and by an engine and another option, which has to be a chip.
+fn with_chip(chip: Chip, other: Wish) -> Chosen
+    ensures { λ r. ⌜ r ≡ withChip chip other ⌝ }
 {
+    match other {
+        Wish::OnChip(_) => Chosen::Unknown,
+        Wish::ByEngine(engine) => Chosen::On(chip, engine),
+        Wish::Nothing => Chosen::Unknown,
+    }
+}
+
+fn with_engine(engine: Engine, other: Wish) -> Chosen
+    ensures { λ r. ⌜ r ≡ withEngine engine other ⌝ }
+{
+    match other {
+        Wish::OnChip(chip) => Chosen::On(chip, engine),
+        Wish::ByEngine(_) => Chosen::Unknown,
+        Wish::Nothing => Chosen::Unknown,
+    }
+}
+
+// By two options, one of each.
+fn by_two(one: Wish, other: Wish) -> Chosen
+    ensures { λ r. ⌜ r ≡ byTwo one other ⌝ }
+{
+    match one {
+        Wish::OnChip(chip) => with_chip(chip, other),
+        Wish::ByEngine(engine) => with_engine(engine, other),
+        Wish::Nothing => Chosen::Unknown,
+    }
+}
+
+fn chosen_by(words: Words) -> Chosen
+    ensures { λ r. ⌜ r ≡ chosenBy words ⌝ }
+{
+    let count = words.count();
     if count <= 1 {
-        return Chosen::On(Chip::Gd5464);
+        return Chosen::On(Chip::Gd5464, Engine::Quick);
     }
-    if count != 3 {
-        return Chosen::Unknown;
+    if count == 3 {
+        return by_one(wanted(words.first()));
     }
-    if is_same(option, b"--chip") {
-        return chip_named(name);
+    if count == 5 {
+        return by_two(wanted(words.first()), wanted(words.second()));
     }
     Chosen::Unknown
 }
 
-// By the words that the program was started with. One that is too long for any option or chip counts as an empty one.
-pub fn choose() -> Chosen
-    ensures { λ r. ⌜ ByWords r ⌝ }
+// By the words that the program was started with.
+pub fn choose() -> Choice
+    ensures { λ r. ⌜ r .chosen ≡ chosenBy (r .words) ⌝ }
 {
-    let mut option = [0u8; 8];
-    let mut name = [0u8; 8];
-    let option_size = os::arg(1, &mut option);
-    let name_size = os::arg(2, &mut name);
-    chip_chosen(os::arg_count(), &option[..option_size], &name[..name_size])
+    let words = read_words();
+    Choice {
+        words,
+        chosen: chosen_by(words),
+    }
 }

@@ -1,5 +1,11 @@
-// The chip that a program is started for, by its words.
+// The chip and the engine that a program is started for, by its words.
 mod choosing;
+mod options;
+mod words;
 
+pub use choosing::Choice;
 pub use choosing::Chosen;
 pub use choosing::choose;
+pub use words::Asked;
+pub use words::Word;
+pub use words::Words;

@@ -1,6 +1,8 @@
 // For bench/run: runs the trace on standard input from power-on and prints nothing of it; then does one thing some hundred times with
-// the file that it ends in. Words: `run`, or `read`, `write` (the timing), `plan` or `restore` (from power-on) and a digit for the
-// hundreds. The number that it prints hangs on all that it did.
+// the file that it ends in. Words: `run`, or `flat`, the run by the plain engine; or `read`, `write` (the timing), `plan` or `restore` (from
+// power-on) and a digit for the hundreds. The number that it prints hangs on all that it did.
+use engines::Engine;
+use engines::run_by;
 use file::Chip;
 use file::File;
 use libc::STDIN_FILENO;
@@ -25,10 +27,15 @@ struct Course {
     more: bool,
 }
 
-fn run_some(before: Course, trace: &mut [u8; 8192], replies: &mut [u8; 8192]) -> Course {
+fn run_some(
+    engine: Engine,
+    before: Course,
+    trace: &mut [u8; 8192],
+    replies: &mut [u8; 8192],
+) -> Course {
     let size = io::read_full(STDIN_FILENO, trace);
     let trace: &[u8] = trace;
-    let ran = trace::run(before.file, &trace[..size], replies);
+    let ran = run_by(engine, before.file, &trace[..size], replies);
     let at = (before.sum % 8192) as usize;
     let file = ran.file;
     Course {
@@ -39,7 +46,7 @@ fn run_some(before: Course, trace: &mut [u8; 8192], replies: &mut [u8; 8192]) ->
 }
 
 // A proved loop has to end, so this one counts its turns down, from a number that no run uses up.
-fn run_input() -> Course {
+fn run_input(engine: Engine) -> Course {
     let mut trace = [0u8; 8192];
     let mut replies = [0u8; 8192];
     let mut course = Course {
@@ -49,7 +56,7 @@ fn run_input() -> Course {
     };
     let mut turns = u64::MAX;
     while turns > 0 && course.more {
-        let next = run_some(course, &mut trace, &mut replies);
+        let next = run_some(engine, course, &mut trace, &mut replies);
         course = next;
         turns -= 1;
     }
@@ -109,10 +116,17 @@ fn letter(place: usize) -> u8 {
     if word[2] == b's' { word[2] } else { word[0] }
 }
 
+fn engine_for(what: u8) -> Engine {
+    if what == b'f' {
+        return Engine::Plain;
+    }
+    Engine::Quick
+}
+
 fn main() {
-    let course = run_input();
-    let file = course.file;
     let what = letter(1);
+    let course = run_input(engine_for(what));
+    let file = course.file;
     let times = to_u64(letter(2)) % 16 * 100;
     let done = if what == b'w' {
         write_many(file, read_timing(file).timing, times)

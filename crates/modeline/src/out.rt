@@ -1,4 +1,5 @@
 // The line of the file that a trace ends in, with a name and a clock.
+use engines::Engine;
 use file::Chip;
 use libc::STDERR_FILENO;
 use mode_lines::keep;
@@ -23,7 +24,7 @@ fn tell_refusal(code: u8) {
 // Runs the trace on standard input from power-on and writes the line of the file that it ends in on standard output. The name and the clock in MHz are
 // the second and the third word; one that is missing, or has more bytes than any that is in form, is read as empty.
 pub fn write_line() {
-    let course = run_input(b"modeline", Chip::Gd5464, false);
+    let course = run_input(b"modeline", Chip::Gd5464, Engine::Quick, false);
     if course.failed {
         return;
     }

@@ -7,6 +7,8 @@ ghost use Rattle.file.specs.Sound.{sound};
 ghost use Rattle.trace.specs.Records.{itemCount};
 ghost use Rattle.text.specs.Lent.{Lined, placedBy};
 ghost use Rattle.replaying.specs.Replay.{PartReplayed, partReplies, recordsFit, replayAnswer, replayed};
+use engines::Engine;
+use engines::run_by;
 use file::Answer;
 use file::Chip;
 use file::File;
@@ -16,7 +18,6 @@ use text::numbers_fit;
 use text::reply_lines;
 use text::timing_line;
 use timing::read_timing;
-use trace::run;
 
 // The most bytes that a file's timing line has.
 pub const TIMING_MOST: usize = 172;
@@ -69,8 +70,9 @@ fn refused_part(before: File, answer: Answer) -> Part
     }
 }
 
-// A part of a trace, run from a file on, and the lines of its records, numbered from a number on, from the start of a buffer on.
+// A part of a trace, run by an engine from a file on, and the lines of its records, numbered from a number on, from the start of a buffer on.
 pub fn replay_part(
+    engine: Engine,
     before: File,
     number: u64,
     trace: &[u8],
@@ -87,7 +89,7 @@ pub fn replay_part(
         return refused_part(before, Answer::OutOfRange);
     }
     // An unsound file has no replies, so no lines.
-    let ran = run(before, trace, replies);
+    let ran = run_by(engine, before, trace, replies);
     let answer = ran.answer;
     let file = ran.file;
     let count = ran.count;
@@ -101,8 +103,14 @@ pub fn replay_part(
     }
 }
 
-// What the replay program prints of a trace on a chip, from the start of a buffer on; code 11 where a buffer is short.
-pub fn replay(chip: Chip, trace: &[u8], replies: &mut [u8], lines: &mut [u8]) -> Placed
+// What the replay program prints of a trace on a chip, by either engine, from the start of a buffer on; code 11 where a buffer is short.
+pub fn replay(
+    engine: Engine,
+    chip: Chip,
+    trace: &[u8],
+    replies: &mut [u8],
+    lines: &mut [u8],
+) -> Placed
     ensures { λ r. ⌜ Lined (replayAnswer (now (trace .entry)) (now (replies .entry)) (now (lines .entry))) 0 (replayed chip (now (trace .entry))) (now (lines .entry)) (now (lines .exit)) r ⌝ }
     ensures { λ r. ⌜ now (replies .exit) ≡ placedBy (r .answer) (now (replies .entry)) 0 (partReplies (powerOn chip) (now (trace .entry))) ⌝ }
 {
@@ -113,7 +121,7 @@ pub fn replay(chip: Chip, trace: &[u8], replies: &mut [u8], lines: &mut [u8]) ->
             end: 0,
         };
     }
-    let part = replay_part(File::power_on(chip), 0, trace, replies, lines);
+    let part = replay_part(engine, File::power_on(chip), 0, trace, replies, lines);
     let end = part.end;
     let file = part.file;
     timing_line(lines, end, read_timing(file).timing)

@@ -13,6 +13,8 @@ use crate::reading::read_some;
 use crate::telling::Handed;
 use crate::telling::nothing_handed;
 use crate::telling::write_out;
+use engines::Engine;
+use engines::run_by;
 use file::Chip;
 use file::File;
 use replaying::Part;
@@ -35,8 +37,9 @@ struct Turn {
     course: Course,
 }
 
-// A part of a trace, run, and the lines of its records, if they are asked for, from the start of a buffer on.
+// A part of a trace, run by an engine, and the lines of its records, if they are asked for, from the start of a buffer on.
 fn run_part(
+    engine: Engine,
     before: File,
     number: u64,
     prints: bool,
@@ -51,9 +54,9 @@ fn run_part(
     ensures { λ r. ⌜ Parted before number prints (now (trace .entry)) (now (replies .entry)) (now (replies .exit)) (now (lines .entry)) (now (lines .exit)) r ⌝ }
 {
     if prints {
-        return replay_part(before, number, trace, replies, lines);
+        return replay_part(engine, before, number, trace, replies, lines);
     }
-    let ran = trace::run(before, trace, replies);
+    let ran = run_by(engine, before, trace, replies);
     let answer = ran.answer;
     let file = ran.file;
     Part {
@@ -91,6 +94,7 @@ fn failed(before: Course) -> Course
 // One turn, a function of the bytes that were read: they are run, and their lines, if they are asked for, stand from the start of a
 // buffer on.
 fn run_some(
+    engine: Engine,
     prints: bool,
     before: Course,
     trace: &[u8],
@@ -103,7 +107,7 @@ fn run_some(
     ensures { λ r. ⌜ Turned before prints (now (trace .entry)) (now (replies .entry)) (now (replies .exit)) (now (lines .entry)) (now (lines .exit)) r ⌝ }
 {
     let number = before.number;
-    let part = run_part(before.file, number, prints, trace, replies, lines);
+    let part = run_part(engine, before.file, number, prints, trace, replies, lines);
     let number = number + part.count as u64;
     let read = before.read;
     let handed = before.handed;
@@ -121,8 +125,8 @@ fn run_some(
     }
 }
 
-// The whole of a trace, on a chip. A proved loop has to end, so this one counts its turns down, from a number that no run uses up.
-pub fn run_input(program: &[u8], chip: Chip, prints: bool) -> Course
+// The whole of a trace, on a chip, by either engine. A proved loop has to end, so this one counts its turns down, from a number that no run uses up.
+pub fn run_input(program: &[u8], chip: Chip, engine: Engine, prints: bool) -> Course
     ensures { λ r. ⌜ Came chip prints r ⌝ }
 {
     let mut trace = [0u8; 8192];
@@ -137,7 +141,14 @@ pub fn run_input(program: &[u8], chip: Chip, prints: bool) -> Course
             return failed(course);
         }
         let size = read.count;
-        let turn = run_some(prints, course, &trace[..size], &mut replies, &mut lines);
+        let turn = run_some(
+            engine,
+            prints,
+            course,
+            &trace[..size],
+            &mut replies,
+            &mut lines,
+        );
         let end = turn.end;
         course = turn.course;
         let handed = write_out(program, course.handed, &lines[..end]);

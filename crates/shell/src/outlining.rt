@@ -2,9 +2,10 @@
 ghost use mathlib.Core.Path.{_≡_};
 use crate::course::run_input;
 use crate::telling::Handed;
-use crate::telling::choose_chip;
+use crate::telling::choose_course;
 use crate::telling::write_out;
 use choosing::Chosen;
+use engines::Engine;
 use file::Chip;
 use geometry::Capture;
 use geometry::Cursor;
@@ -78,8 +79,8 @@ fn write_first(before: Handed, lines: &[u8], end: usize) {
 
 // Runs the trace on standard input from a chip's power-on and prints the cursor, window 2 and the capture window of the file that it ends in
 // on standard output.
-fn outline_on(chip: Chip) {
-    let course = run_input(b"geometry", chip, false);
+fn outline_on(chip: Chip, engine: Engine) {
+    let course = run_input(b"geometry", chip, engine, false);
     if course.failed {
         return;
     }
@@ -91,10 +92,10 @@ fn outline_on(chip: Chip) {
     write_first(course.handed, &lines, end);
 }
 
-// The same on the chip that the program's words choose.
+// The same on the chip and by the engine that the program's words choose.
 pub fn outline() {
-    let chosen = choose_chip(b"geometry");
-    if let Chosen::On(chip) = chosen {
-        outline_on(chip);
+    let chosen = choose_course(b"geometry");
+    if let Chosen::On(chip, engine) = chosen {
+        outline_on(chip, engine);
     }
 }

@@ -10,9 +10,10 @@ ghost use Rattle.timing.specs.Timing.{timingIn};
 ghost use Rattle.replaying.specs.Replay.{timingMost};
 ghost use Rattle.text.specs.Text.{timingLine};
 use crate::course::run_input;
-use crate::telling::choose_chip;
+use crate::telling::choose_course;
 use crate::telling::write_out;
 use choosing::Chosen;
+use engines::Engine;
 use file::Chip;
 use file::File;
 use replaying::TIMING_MOST;
@@ -29,8 +30,8 @@ fn timing_end(file: File, line: &mut [u8]) -> usize
 }
 
 // Runs the trace on standard input from a chip's power-on and prints what 01 says on standard output.
-fn replay_on(chip: Chip) {
-    let course = run_input(b"replay", chip, true);
+fn replay_on(chip: Chip, engine: Engine) {
+    let course = run_input(b"replay", chip, engine, true);
     if course.failed {
         return;
     }
@@ -39,10 +40,10 @@ fn replay_on(chip: Chip) {
     write_out(b"replay", course.handed, &line[..end]);
 }
 
-// The same on the chip that the program's words choose.
+// The same on the chip and by the engine that the program's words choose.
 pub fn replay() {
-    let chosen = choose_chip(b"replay");
-    if let Chosen::On(chip) = chosen {
-        replay_on(chip);
+    let chosen = choose_course(b"replay");
+    if let Chosen::On(chip, engine) = chosen {
+        replay_on(chip, engine);
     }
 }

@@ -1,8 +1,9 @@
 // Snapshot: reads a trace and writes the plan of the file after it.
 use crate::course::run_input;
-use crate::telling::choose_chip;
+use crate::telling::choose_course;
 use crate::telling::write_out;
 use choosing::Chosen;
+use engines::Engine;
 use file::Chip;
 use libc::STDERR_FILENO;
 
@@ -20,8 +21,8 @@ fn tell_refusal(code: u8) {
 }
 
 // Runs the trace on standard input from a chip's power-on and writes the plan of the file that it ends in, as bytes, on standard output.
-fn snapshot_on(chip: Chip) {
-    let course = run_input(b"snapshot", chip, false);
+fn snapshot_on(chip: Chip, engine: Engine) {
+    let course = run_input(b"snapshot", chip, engine, false);
     if course.failed {
         return;
     }
@@ -37,10 +38,10 @@ fn snapshot_on(chip: Chip) {
     write_out(b"snapshot", course.handed, &buffer[..size]);
 }
 
-// The same on the chip that the program's words choose.
+// The same on the chip and by the engine that the program's words choose.
 pub fn snapshot() {
-    let chosen = choose_chip(b"snapshot");
-    if let Chosen::On(chip) = chosen {
-        snapshot_on(chip);
+    let chosen = choose_course(b"snapshot");
+    if let Chosen::On(chip, engine) = chosen {
+        snapshot_on(chip, engine);
     }
 }

@@ -62,13 +62,14 @@ impl Handed {
     }
 }
 
-// The chip that a program is started for; where its words name none, that is told.
-pub fn choose_chip(program: &[u8]) -> Chosen {
-    let chosen = choose();
+// The chip and the engine that a program is started for; where its words name none, that is told.
+pub fn choose_course(program: &[u8]) -> Chosen {
+    let choice = choose();
+    let chosen = choice.chosen;
     if let Chosen::Unknown = chosen {
         tell(
             program,
-            b": unknown chip or option: it is --chip 5462 or --chip 5464",
+            b": unknown option or name: --chip is 5462 or 5464, --engine is quick or plain",
         );
     }
     chosen

@@ -4,10 +4,10 @@ use Rattle.measured.proofs.run_input.Statement.{statement}
 use Rattle.measured.proofs.run_input.Tie as tie
 
 abbrev Inv-loop : tie.InvT-loop
-Inv-loop trace₀ replies₀ course₀ turns₀ trace replies course turns = Unit {0}
+Inv-loop engine trace₀ replies₀ course₀ turns₀ trace replies course turns = Unit {0}
 
 abbrev μ-loop : tie.MeasureT-loop
-μ-loop trace₀ replies₀ course₀ turns₀ trace replies course turns = turns
+μ-loop engine trace₀ replies₀ course₀ turns₀ trace replies course turns = turns
 
 sub-turns : tie.Need-sub-turns Inv-loop μ-loop
 sub-turns c = omega arith

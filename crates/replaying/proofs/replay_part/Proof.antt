@@ -34,7 +34,7 @@ mul-size c =
     let roomy =
     ap (λ (k : ℕ). recordsFit k 0 (length (now (args .replies))) (length (now (args .lines)))) (sym (c .before .before .before .before .before .before .before .before .before .item-count .ensures)) ∙ sym (c .before .before .before .before .before .before .before .before .records-fit .ensures) ∙ not-false _ (c .before .before .before .before .before .before .before .if1 .left) in
     let numbered = ap (numbersFit (args .number)) (sym (c .before .before .before .before .before .before .before .before .before .item-count .ensures)) ∙ sym (c .before .before .before .before .before .before .numbers-fit .ensures) ∙ not-false _ (c .before .before .before .before .before .if2 .left) in
-    omega (arith, few (args .before) (args .number) (now (args .trace)) (now (args .replies)) (now (args .lines)) roomy numbered (c .before .before .before .run .result) (c .before .before .before .run .last .1 .1 .0) (c .before .before .before .run .ensures .0) (c .before .before .before .run .ensures .1), c .before .before .before .before .before .before .before .before .before .before .before .before .before .good .1 .1 .1 .0 .0)
+    omega (arith, few (args .before) (args .number) (now (args .trace)) (now (args .replies)) (now (args .lines)) roomy numbered (c .before .before .before .run-by .result) (c .before .before .before .run-by .last .1 .1 .1 .0) (c .before .before .before .run-by .ensures .0) (c .before .before .before .run-by .ensures .1), c .before .before .before .before .before .before .before .before .before .before .before .before .before .good .1 .1 .1 .1 .0 .0)
 
 slice-reshare-prefix-reply-lines : tie.Need-slice-reshare-prefix-reply-lines
 slice-reshare-prefix-reply-lines c =
@@ -42,7 +42,7 @@ slice-reshare-prefix-reply-lines c =
     let roomy =
     ap (λ (k : ℕ). recordsFit k 0 (length (now (args .replies))) (length (now (args .lines)))) (sym (c .before .before .before .before .before .before .before .before .before .before .item-count .ensures)) ∙ sym (c .before .before .before .before .before .before .before .before .before .records-fit .ensures) ∙ not-false _ (c .before .before .before .before .before .before .before .before .if1 .left) in
     let numbered = ap (numbersFit (args .number)) (sym (c .before .before .before .before .before .before .before .before .before .before .item-count .ensures)) ∙ sym (c .before .before .before .before .before .before .before .numbers-fit .ensures) ∙ not-false _ (c .before .before .before .before .before .before .if2 .left) in
-    omega (arith, few (args .before) (args .number) (now (args .trace)) (now (args .replies)) (now (args .lines)) roomy numbered (c .before .before .before .before .run .result) (c .before .before .before .before .run .last .1 .1 .0) (c .before .before .before .before .run .ensures .0) (c .before .before .before .before .run .ensures .1), c .before .before .before .before .run .kept .1 .1 .0)
+    omega (arith, few (args .before) (args .number) (now (args .trace)) (now (args .replies)) (now (args .lines)) roomy numbered (c .before .before .before .before .run-by .result) (c .before .before .before .before .run-by .last .1 .1 .1 .0) (c .before .before .before .before .run-by .ensures .0) (c .before .before .before .before .run-by .ensures .1), c .before .before .before .before .run-by .kept .1 .1 .1 .0)
 
 slice-aggregate-reply-lines : tie.Need-slice-aggregate-reply-lines
 slice-aggregate-reply-lines c = sym (length-take-le _ _ (slice-reshare-prefix-reply-lines (c .before)))
@@ -53,7 +53,7 @@ returns-3 c =
     let roomy =
     ap (λ (k : ℕ). recordsFit k 0 (length (now (args .replies))) (length (now (args .lines)))) (sym (c .before .before .before .before .before .before .before .before .before .before .before .before .before .before .item-count .ensures)) ∙ sym (c .before .before .before .before .before .before .before .before .before .before .before .before .before .records-fit .ensures) ∙ not-false _ (c .before .before .before .before .before .before .before .before .before .before .before .before .if1 .left) in
     let numbered = ap (numbersFit (args .number)) (sym (c .before .before .before .before .before .before .before .before .before .before .before .before .before .before .item-count .ensures)) ∙ sym (c .before .before .before .before .before .before .before .before .before .before .before .numbers-fit .ensures) ∙ not-false _ (c .before .before .before .before .before .before .before .before .before .before .if2 .left) in
-    part-done (args .before) (args .number) (now (args .trace)) (now (args .replies)) (now (args .lines)) roomy numbered (c .before .before .before .before .before .before .before .before .run .result) (c .before .before .before .before .before .before .before .before .run .last .1 .1 .0) (c .before .before .before .before .before .before .before .before .run .ensures .0) (c .before .before .before .before .before .before .before .before .run .ensures .1) _ _ (c .before .before .reply-lines .ensures)
+    part-done (args .before) (args .number) (now (args .trace)) (now (args .replies)) (now (args .lines)) roomy numbered (c .before .before .before .before .before .before .before .before .run-by .result) (c .before .before .before .before .before .before .before .before .run-by .last .1 .1 .1 .0) (c .before .before .before .before .before .before .before .before .run-by .ensures .0) (c .before .before .before .before .before .before .before .before .run-by .ensures .1) _ _ (c .before .before .reply-lines .ensures)
 
 pub replay-part-spec : {M : Type 1} → statement M
 replay-part-spec =

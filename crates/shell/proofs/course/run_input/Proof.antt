@@ -14,10 +14,10 @@ use Rattle.shell.proofs.course.run_input.Statement.{statement}
 use Rattle.shell.proofs.course.run_input.Tie as tie
 
 abbrev Inv-loop : tie.InvT-loop
-Inv-loop program prints trace₀ replies₀ lines₀ course₀ turns₀ trace replies lines course turns = Coming (course₀ .file .state .chip) prints turns course
+Inv-loop program engine prints trace₀ replies₀ lines₀ course₀ turns₀ trace replies lines course turns = Coming (course₀ .file .state .chip) prints turns course
 
 abbrev μ-loop : tie.MeasureT-loop
-μ-loop program prints trace₀ replies₀ lines₀ course₀ turns₀ trace replies lines course turns = turns
+μ-loop program engine prints trace₀ replies₀ lines₀ course₀ turns₀ trace replies lines course turns = turns
 
 -- the loop begins on the chip that is chosen
 begun : (c : tie.After-begin Inv-loop μ-loop) → c .begin .result .file .state .chip ≡ c .before .before .args .chip
@@ -49,7 +49,7 @@ array-share-prefix-lines : tie.Need-array-share-prefix-lines Inv-loop μ-loop
 array-share-prefix-lines c = omega (arith, lines-within (c .before .run-some .ensures) .0)
 
 slice-aggregate-write-out : tie.Need-slice-aggregate-write-out Inv-loop μ-loop
-slice-aggregate-write-out c = sym (length-take-le _ (c .before .before .run-some .last .1 .1 .1 .1 .0) (array-share-prefix-lines (c .before)))
+slice-aggregate-write-out c = sym (length-take-le _ (c .before .before .run-some .last .1 .1 .1 .1 .1 .0) (array-share-prefix-lines (c .before)))
 
 returns-2 : tie.Need-returns-2 Inv-loop μ-loop
 returns-2 c =

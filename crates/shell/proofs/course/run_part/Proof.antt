@@ -15,7 +15,7 @@ returns-2 : tie.Need-returns-2
 returns-2 c =
     let start = c .before .before .before .before .before .before .before .before .before in
     let args = start .args in
-    rw (c .before .before .before .before .before .if1 .left) (part-unprinted (args .before) (args .number) (now (args .trace)) (now (args .replies)) (now (args .lines)) (start .pre .0) (start .pre .1 .0) (start .pre .1 .1 .0) (start .pre .1 .1 .1) (c .before .before .before .run .result) _ (c .before .before .before .run .ensures .0) (c .before .before .before .run .ensures .1))
+    rw (c .before .before .before .before .before .if1 .left) (part-unprinted (args .before) (args .number) (now (args .trace)) (now (args .replies)) (now (args .lines)) (start .pre .0) (start .pre .1 .0) (start .pre .1 .1 .0) (start .pre .1 .1 .1) (c .before .before .before .run-by .result) _ (c .before .before .before .run-by .ensures .0) (c .before .before .before .run-by .ensures .1))
 
 pub run-part-spec : {M : Type 1} → statement M
 run-part-spec =
