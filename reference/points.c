@@ -1026,19 +1026,82 @@ static bool restore_order(void)
         && refused(&good, &inside, 0) == 13 && refused(&good, &good, SC_PLAN_BYTES - 1) == 11;
 }
 
-/* A restore of any file from any file of its chip ends in it. */
+/* Does the plan of a buffer, run from a file, answer 0 to each of its records? */
+static bool all_done(struct sc_file f, const uint8_t *plan, size_t count)
+{
+    uint8_t replies[SC_PLAN_BYTES];
+
+    if (sc_run(&f, plan, SC_RECORD_BYTES * count, replies, sizeof replies).count != count)
+        return false;
+    for (size_t i = 0; i < count; i++)
+        if (replies[SC_REPLY_BYTES * i] != 0)
+            return false;
+    return true;
+}
+
+/* A restore of any file from any file of its chip ends in it, and no record of it is refused. */
 static bool restored(void)
 {
     uint8_t buffer[SC_PLAN_BYTES];
 
     for (int round = 0; round < 400; round++) {
-        struct sc_file wanted = random_file(), current = random_file();
+        struct sc_file wanted = random_file(), current = random_file(), start = current;
         size_t count;
         wanted.pointer = pointer((int)below(256), below(2), SC_RED, 0, 0);
         if (sc_restore(&current, &wanted, buffer, sizeof buffer, &count) != 0
-            || count > 1024 || !same_file(&current, &wanted))
+            || count > 1024 || !same_file(&current, &wanted) || !all_done(start, buffer, count))
             return false;
     }
+    return true;
+}
+
+/* ---- 02, 9/13 ---- */
+
+static bool seen[256];
+
+/* Marks the codes that accesses to a file draw, made at random from a few addresses of each kind. */
+static void see_accesses(struct sc_file f)
+{
+    for (int i = 0; i < 4000; i++) {
+        uint32_t kind = below(7), address = kind < 2 ? below(6) : kind < 4 ? 0x3B0 + below(0x30)
+            : below(0x112);
+        struct sc_record r = { (uint8_t)kind, (uint8_t)(1 + below(2)), (uint16_t)address,
+                               kind & 1 ? below(0x100) : 0 };
+        seen[sc_access(&f, &r).code] = true;
+    }
+}
+
+/* The same of the timing writer and of restores: sound files or not, one chip or two, any room. */
+static void see_calls(void)
+{
+    static uint8_t buffer[SC_PLAN_BYTES];
+    enum sc_chip both[] = { SC_5462, SC_5464 };
+    struct sc_file f = random_file(), g = below(8) ? f : unsound();
+    struct sc_timing t = random_timing(is_wide(&f));
+    size_t count;
+
+    t.number[below(SC_NUMBERS)] += below(2) << 20;
+    f.cr[0x11] |= (uint8_t)(below(2) << 7);
+    seen[sc_timing_write(&f, &t)] = true;
+    seen[sc_timing_write(&g, &t)] = true;
+    sc_power_on(&f, both[below(2)]);
+    f.pointer.colour = below(3) ? SC_RED : SC_GREEN;
+    seen[sc_plan(&f, buffer, SC_PLAN_BYTES - below(2), &count)] = true;
+    seen[sc_restore(&g, &f, buffer, SC_PLAN_BYTES - below(2), &count)] = true;
+}
+
+/* The list of codes: 14 is unused, and all others are drawn. */
+static bool code_list(void)
+{
+    memset(seen, 0, sizeof seen);
+    for (int round = 0; round < 200; round++) {
+        see_accesses(random_file());
+        see_calls();
+    }
+    see_accesses(unsound());
+    for (int code = 0; code < 256; code++)
+        if (seen[code] != (code <= SC_INSIDE_WIDER && code != 14))
+            return false;
     return true;
 }
 
@@ -1190,6 +1253,7 @@ int main(void)
         { "02, 6/13", "capture geometry", capture },
         { "02, 6/13", "a restore's order of codes", restore_order },
         { "02, 6/13", "a restore ends in the wanted file", restored },
+        { "02, 9/13", "the list of codes: 14 is unused", code_list },
         { "timing", "reads as counted up from the table", timing_read },
         { "timing", "written back changes nothing; written is read", timing_kept },
         { "02, 7/13", "CR1A under no lock; a timing write keeps static sync", sync_kept },

@@ -917,10 +917,5 @@ uint8_t sc_restore(struct sc_file *current, const struct sc_file *wanted,
     if (code != SC_DONE)
         return code;
     sc_run(current, buffer, SC_RECORD_BYTES * *count, replies, sizeof replies);
-    for (size_t i = 0; i < *count; i++)
-        if (replies[SC_REPLY_BYTES * i] != SC_DONE) {
-            *count = 0;
-            return SC_RECORD_REFUSED;   /* by 01's demand 3 it never comes to this */
-        }
     return SC_DONE;
 }

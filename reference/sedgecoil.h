@@ -27,7 +27,6 @@ enum sc_code {
     SC_SHORT_BUFFER = 11,
     SC_UNSOUND = 12,
     SC_NOT_BEFORE_RED = 13,
-    SC_RECORD_REFUSED = 14,
     SC_OTHER_CHIP = 15,         /* 02, 6/13 */
     SC_OTHER_DIRECTION = 16,    /* 02 2/13 */
     SC_INSIDE_WIDER = 17
@@ -195,8 +194,8 @@ uint8_t sc_capture_read(const struct sc_file *f, struct sc_capture *c);
 uint8_t sc_plan(const struct sc_file *wanted, uint8_t *buffer, size_t room, size_t *count);
 
 /*
- * 01 "Accesses and replies", 02, 6/13: the plan made and run. 12 (the current file first), 15, 13, 11
- * leave the current file and the buffer as they were, and the count is 0; 14 is the last.
+ * 01 "Accesses and replies", 02, 6/13 and 9/13: the plan made and run. 12 (the current file first),
+ * 15, 13, 11 leave the current file and the buffer as they were, and the count is 0.
  */
 uint8_t sc_restore(struct sc_file *current, const struct sc_file *wanted,
                    uint8_t *buffer, size_t room, size_t *count);

@@ -1,12 +1,13 @@
 -- Every answer is one of 01's list of codes, and which of them the readers of a file give. Assumes nothing.
 use Prim.Native.Nat.{ℕ}
-use mathlib.Core.Bool.{Bool}
+use mathlib.Core.Path.{_≡_, subst}
+use mathlib.Core.Bool.{Bool, not}
 use mathlib.Core.List.{List, [], _∷_}
-use lib.Dec.{T, ltb}
+use lib.Dec.{T, ltb, T-not}
 use lib.ListN.{getD}
 use Rattle.bits.proofs.Test.{chosen}
 use Rattle.file.specs.declared.answer.Answer.{Answer}
-use Rattle.file.specs.declared.answer.Answer.the-variants.{Done, NoRegister, Malformed, SpaceOff, NotHeld, OtherHalf, WrongWidth, ReadOnly, Locked, PaletteDown, OutOfRange, ShortBuffer, NotSound, NotBeforeRed, PlanRefused, OtherChip, OtherDirection, InsideWider}
+use Rattle.file.specs.declared.answer.Answer.the-variants.{Done, NoRegister, Malformed, SpaceOff, NotHeld, OtherHalf, WrongWidth, ReadOnly, Locked, PaletteDown, OutOfRange, ShortBuffer, NotSound, NotBeforeRed, OtherChip, OtherDirection, InsideWider}
 use Rattle.file.specs.declared.palette.Colour.{Colour}
 use Rattle.file.specs.declared.readers.EntryRead.{EntryRead}
 use Rattle.file.specs.declared.readers.NumberRead.{NumberRead}
@@ -14,7 +15,7 @@ use Rattle.file.specs.declared.readers.MarksRead.{MarksRead}
 use Rattle.file.specs.declared.readers.PointerRead.{PointerRead}
 use Rattle.file.specs.declared.readers.ToggleRead.{ToggleRead}
 use Rattle.file.specs.declared.registers.File.{File}
-use Rattle.file.specs.Answers.{codeOf, oneOf, listed, isListed}
+use Rattle.file.specs.Answers.{codeOf, among, oneOf, listed, isListed}
 use Rattle.file.specs.File.{register, black, paletteCount, bankCount}
 use Rattle.file.specs.Readers.{numberOf, readRegister, readNamed, readNumber, noEntry, entryTold, readPalette, readBank, readPointer, readMarks, readToggle}
 use Rattle.file.specs.Registers.{registerCount}
@@ -36,10 +37,19 @@ every-listed OutOfRange = tt
 every-listed ShortBuffer = tt
 every-listed NotSound = tt
 every-listed NotBeforeRed = tt
-every-listed PlanRefused = tt
 every-listed OtherChip = tt
 every-listed OtherDirection = tt
 every-listed InsideWider = tt
+
+-- 02, 9/13: '14 is unused': the list has a gap there
+pub gap-at-fourteen : T (not (among listed 14))
+unfolding among listed
+gap-at-fourteen = tt
+
+-- so no answer has that code
+pub none-fourteen : (a : Answer) → codeOf a ≡ 14 → ⊥
+unfolding isListed oneOf
+none-fourteen a e = T-not (among listed 14) gap-at-fourteen (subst (λ (n : ℕ). T (among listed n)) e (every-listed a))
 
 -- what names a register or an entry: 0, 1 or 12
 abbrev naming : List ℕ

@@ -5,10 +5,10 @@ use mathlib.Core.Bool.{Bool, false, _||_}
 use mathlib.Core.List.{List, [], _∷_}
 use lib.Dec.{eqb, leb}
 use Rattle.file.specs.declared.answer.Answer.{Answer}
-use Rattle.file.specs.declared.answer.Answer.the-variants.{Done, NoRegister, Malformed, SpaceOff, NotHeld, OtherHalf, WrongWidth, ReadOnly, Locked, PaletteDown, OutOfRange, ShortBuffer, NotSound, NotBeforeRed, PlanRefused, OtherChip, OtherDirection, InsideWider}
+use Rattle.file.specs.declared.answer.Answer.the-variants.{Done, NoRegister, Malformed, SpaceOff, NotHeld, OtherHalf, WrongWidth, ReadOnly, Locked, PaletteDown, OutOfRange, ShortBuffer, NotSound, NotBeforeRed, OtherChip, OtherDirection, InsideWider}
 
 -- 01's table of codes; 02, 2/13: '4 now means nothing there, 16 other direction only, 17 inside a wider register'; 02, 6/13: '15, a restore between
--- different chips'
+-- different chips'; 02, 9/13: '14 is unused'
 unfoldable pub codeOf : Answer → ℕ
 codeOf (Done value) = 0
 codeOf NoRegister = 1
@@ -24,7 +24,6 @@ codeOf OutOfRange = 10
 codeOf ShortBuffer = 11
 codeOf NotSound = 12
 codeOf NotBeforeRed = 13
-codeOf PlanRefused = 14
 codeOf OtherChip = 15
 codeOf OtherDirection = 16
 codeOf InsideWider = 17
@@ -45,7 +44,6 @@ valueOf OutOfRange = 0
 valueOf ShortBuffer = 0
 valueOf NotSound = 0
 valueOf NotBeforeRed = 0
-valueOf PlanRefused = 0
 valueOf OtherChip = 0
 valueOf OtherDirection = 0
 valueOf InsideWider = 0
@@ -64,9 +62,9 @@ unfoldable pub oneOf : List ℕ → Answer → Bool
 unfolding among
 oneOf codes a = among codes (codeOf a)
 
--- the fixed list: 01's table of codes, 02's 15 (6/13), 16 and 17 (2/13), and 18, 19, 21 and 22 of a line (02, 4/13)
+-- the fixed list: 01's table of codes but for 14 (02, 9/13), 02's 15 (6/13), 16 and 17 (2/13), and 18, 19, 21 and 22 of a line (02, 4/13)
 unfoldable pub listed : List ℕ
-listed = 0 ∷ 1 ∷ 2 ∷ 3 ∷ 4 ∷ 5 ∷ 6 ∷ 7 ∷ 8 ∷ 9 ∷ 10 ∷ 11 ∷ 12 ∷ 13 ∷ 14 ∷ 15 ∷ 16 ∷ 17 ∷ 18 ∷ 19 ∷ 21 ∷ 22 ∷ []
+listed = 0 ∷ 1 ∷ 2 ∷ 3 ∷ 4 ∷ 5 ∷ 6 ∷ 7 ∷ 8 ∷ 9 ∷ 10 ∷ 11 ∷ 12 ∷ 13 ∷ 15 ∷ 16 ∷ 17 ∷ 18 ∷ 19 ∷ 21 ∷ 22 ∷ []
 
 unfoldable pub isListed : Answer → Bool
 isListed a = oneOf listed a

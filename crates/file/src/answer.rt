@@ -31,8 +31,6 @@ pub enum Answer {
     NotSound,
     // 13: the wanted file's pointer
     NotBeforeRed,
-    // 14: a plan's own record, during a restore
-    PlanRefused,
     // 15: a restore between different chips
     OtherChip,
     // 16: the address is held in the other direction only
@@ -61,7 +59,6 @@ impl Answer {
             Answer::ShortBuffer => 11,
             Answer::NotSound => 12,
             Answer::NotBeforeRed => 13,
-            Answer::PlanRefused => 14,
             Answer::OtherChip => 15,
             Answer::OtherDirection => 16,
             Answer::InsideWider => 17,

@@ -16,7 +16,7 @@ use Rattle.roads.specs.Refusals.{planAnswer, restoreAnswer}
 use Rattle.restoring.specs.declared.Restored.{Restored}
 use Rattle.restoring.specs.Promises.{RestoreKept}
 
--- those that a plan answers, and 15 (02, 6/13); never 14
+-- those that a plan answers, and 15 (02, 6/13)
 abbrev pub restoring : Answer → Bool
 restoring a = oneOf (0 ∷ 11 ∷ 12 ∷ 13 ∷ 15 ∷ []) a
 

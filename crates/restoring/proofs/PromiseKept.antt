@@ -18,7 +18,7 @@ use Rattle.plan.specs.declared.planning.Planned.{Planned}
 use Rattle.plan.specs.Promises.{PlanKept}
 use Rattle.roads.specs.Refusals.{planAnswer, restoreAnswer}
 use Rattle.roads.specs.Restores.{IsFile}
-use Rattle.roads.proofs.PlanServes.{same-chip, planned-runs, Between, fifteen-between, fifteen-only-between, never-fourteen}
+use Rattle.roads.proofs.PlanServes.{same-chip, planned-runs, Between, fifteen-between, fifteen-only-between}
 use Rattle.restoring.specs.declared.Restored.{Restored}
 use Rattle.restoring.specs.Promises.{RestoreKept}
 
@@ -86,11 +86,6 @@ kept-fifteen f w before after r p s t c = ap codeOf (p .answered) ∙ fifteen-be
 -- and nowhere else
 pub kept-only-fifteen : (f w : File) (before after : List ℕ) (r : Restored) → RestoreKept f w before after r → codeOf (r .answer) ≡ 15 → Between f w
 kept-only-fifteen f w before after r p e = fifteen-only-between f w (length before) (sym (ap codeOf (p .answered)) ∙ e)
-
--- 14 is never answered
-pub kept-never-fourteen : (f w : File) (before after : List ℕ) (r : Restored) → RestoreKept f w before after r
-    → codeOf (r .answer) ≡ 14 → ⊥
-kept-never-fourteen f w before after r p e = never-fourteen f w (length before) (sym (ap codeOf (p .answered)) ∙ e)
 
 -- two restores answer the same and end in the same file
 pub restores-alike : (f w : File) (before after other : List ℕ) (p q : Restored) → RestoreKept f w before after p → RestoreKept f w before other q

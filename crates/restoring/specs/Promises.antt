@@ -13,7 +13,7 @@ use Rattle.roads.specs.Refusals.{restoreAnswer}
 use Rattle.roads.specs.Restores.{PlanWritten}
 use Rattle.restoring.specs.declared.Restored.{Restored}
 
--- a restore: '12, 13, 11', with 02's 15 behind 12 (6/13), never 14 by what `made` says of the records, and 'the file the run ends in', which is the wanted one
+-- a restore: 01's '12, 13, 11, 14' with 15 behind 12 (02, 6/13) and without 14 (02, 9/13), and 'the file the run ends in', which is the wanted one
 pub record RestoreKept (f w : File) (before after : List ℕ) (r : Restored) : Type 0 where
   pub answered : r .answer ≡ restoreAnswer f w (length before)
   pub made : refused (r .answer) ≡ false → PlanWritten w before after (r .count)

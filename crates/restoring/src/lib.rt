@@ -1,8 +1,6 @@
 // A restore: the plan of a wanted file, written and run.
 ghost use mathlib.Core.Path.{_≡_};
-ghost use mathlib.Core.Bool.{true, false, cond};
-ghost use Prim.Native.Nat.{ℕ, _*_, _≤_, _<_};
-ghost use lib.ListN.{length, getD};
+ghost use mathlib.Core.Bool.{cond};
 ghost use Rattle.file.specs.declared.answer.Answer.the-variants.{OtherChip as OtherChipAnswer, NotSound as NotSoundAnswer};
 ghost use Rattle.file.specs.Chips.{sameChip};
 ghost use Rattle.file.specs.Sound.{sound};
@@ -19,22 +17,6 @@ pub struct Restored {
     pub answer: Answer,
     pub count: usize,
     pub file: File,
-}
-
-// So many replies of a buffer have code 0.
-fn all_done(replies: &[u8], count: usize) -> bool
-    requires { ⌜ 8 * count ≤ length (now replies) ⌝ }
-    ensures { λ r. ⌜ (r ≡ true → (k : ℕ) → k < count → getD (now (replies .entry)) (8 * k) 0 ≡ 0) ⌝ }
-    ensures { λ r. ⌜ (r ≡ false → ((k : ℕ) → k < count → getD (now (replies .entry)) (8 * k) 0 ≡ 0) → ⊥) ⌝ }
-{
-    let mut k: usize = 0;
-    while k < count {
-        if replies[8 * k] != 0 {
-            return false;
-        }
-        k += 1;
-    }
-    true
 }
 
 // The two are one chip.
@@ -65,7 +47,7 @@ fn on_one_chip(current: File, wanted: File) -> bool
 }
 
 // Writes a plan of the wanted file and runs it from the current one: 12 by the current file and by the wanted one, 15 where their chips differ, then 13, 11 by the
-// plan, then 14, which no plan comes to. A refusal gives the current file back.
+// plan. No record of a plan is refused (`plan-runs`), so the replies aren't looked at. A refusal gives the current file back.
 pub fn restore(current: File, wanted: File, buffer: &mut [u8]) -> Restored
     ensures { λ r. ⌜ RestoreKept current wanted (now (buffer .entry)) (now (buffer .exit)) r ⌝ }
 {
@@ -85,9 +67,6 @@ pub fn restore(current: File, wanted: File, buffer: &mut [u8]) -> Restored
     let size = 8 * count;
     let ran = run(current, &buffer[..size], &mut replies);
     let file = ran.file;
-    if !all_done(&replies, count) {
-        return not_restored(Answer::PlanRefused, current);
-    }
     Restored {
         answer,
         count,

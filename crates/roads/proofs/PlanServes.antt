@@ -17,7 +17,7 @@ use Rattle.file.specs.declared.registers.File.{File}
 use Rattle.file.specs.File.{register, withRegisters, withPointer, withToggle, withPalette, withBank}
 use Rattle.file.specs.Names.{MISC}
 use Rattle.file.specs.Registers.{registerCount, storedTable, sequencer, crtc, graphics, attribute, pipeline, vPort}
-use Rattle.file.specs.Answers.{codeOf, refused}
+use Rattle.file.specs.Answers.{codeOf}
 use Rattle.file.specs.Chips.{sameChip}
 use Rattle.file.specs.Sound.{allWithin, sound}
 use Rattle.file.proofs.Soundness.{registers-sound, marks-sound, pointer-sound, sound-count}
@@ -30,7 +30,7 @@ use Rattle.trace.specs.Run.{fileAfter, answers}
 use Rattle.roads.specs.Roads.{Road, toARX, eachRoad, but, registerRoads, indexRoads, closingRoads}
 use Rattle.roads.specs.Plan.{opening, colours, marking, indices, closing, planRecords}
 use Rattle.roads.specs.RoadRecords.{along}
-use Rattle.roads.specs.Refusals.{planAnswer, restoreAnswer, answerByRun}
+use Rattle.roads.specs.Refusals.{planAnswer, restoreAnswer}
 use Rattle.roads.specs.Restores.{allAccepted, RunsInto, IsFile, Plans, PlanWritten}
 use Rattle.roads.specs.RegisterStage.{withRegister, Ready, afterSelecting, afterRoads, brought, moves, endsWanted, Brings}
 use Rattle.roads.specs.ColourStage.{PaletteOpen, withStep}
@@ -178,7 +178,7 @@ planned-runs w before after count p f ff fs chips =
     let same = written-items w before after count p in
     (subst (λ (is : List Item). T (allAccepted (answers f is))) (sym same) (runs .allDone), ap (fileAfter f) same ∙ runs .ends)
 
--- ---- codes 15 and 14
+-- ---- code 15
 
 -- the test of two chips says that they are one
 pub same-chip : (a b : Chip) → sameChip a b ≡ true → a ≡ b
@@ -187,23 +187,6 @@ same-chip Gd5462 Gd5462 e = refl
 same-chip Gd5462 Gd5464 e = absurd (true≢false (sym e))
 same-chip Gd5464 Gd5462 e = absurd (true≢false (sym e))
 same-chip Gd5464 Gd5464 e = refl
-
--- a plan's own record is never refused: what 01 says of a restore with 14 is what is said without it
-pub restore-answers : (f w : File) (room : ℕ) (records : List Record) → IsFile f → Plans w records
-    → answerByRun f w room records ≡ restoreAnswer f w room
-unfolding answerByRun restoreAnswer planAnswer refused codeOf
-restore-answers f w room records ff plans =
-    by-test (sound f)
-    (λ s. rw s
-    (by-test (sound w)
-    (λ t. rw t
-    (by-test (sameChip (f .state .chip) (w .state .chip))
-    (λ c.
-    let all = is-true (allAccepted (answers f (map Whole records))) (plans .restores f ff (passes (sound f) s) (same-chip _ _ c) .allDone) in
-    rw (c, all) (by-test (eqb (w .state .pointer .next) 0) (λ e. rw e (by-test (leb 8192 room) (λ l. rw l) (λ l. rw l))) (λ e. rw e)))
-    (λ c. rw c)))
-    (λ t. rw t)))
-    (λ s. rw s)
 
 -- two sound files on different chips
 pub record Between (f w : File) : Type 0 where
@@ -239,19 +222,3 @@ fifteen-only-between f w room e =
     (λ c. record { current = s; wanted = t; chips = c }))
     (λ t. absurd (omega (arith, rw (s, t) at e))))
     (λ s. absurd (omega (arith, rw s at e)))
-
--- code 14 is never answered
-pub never-fourteen : (f w : File) (room : ℕ) → codeOf (restoreAnswer f w room) ≡ 14 → ⊥
-unfolding restoreAnswer planAnswer codeOf
-never-fourteen f w room e =
-    T-not (eqb (codeOf (restoreAnswer f w room)) 14)
-    (chosen other (sound f) _ NotSound
-    (chosen other (sound w) _ NotSound
-    (chosen other (sameChip (f .state .chip) (w .state .chip)) (planAnswer w room) OtherChip
-    (chosen other (sound w) (cond (eqb (w .state .pointer .next) 0) (cond (leb 8192 room) (Done 0) ShortBuffer) NotBeforeRed) NotSound
-    (chosen other (eqb (w .state .pointer .next) 0) (cond (leb 8192 room) (Done 0) ShortBuffer) NotBeforeRed
-    (chosen other (leb 8192 room) (Done 0) ShortBuffer tt tt) tt) tt) tt) tt) tt)
-    (rw e tt)
-  where
-    other : Answer → Bool
-    other a = not (eqb (codeOf a) 14)

@@ -12,7 +12,7 @@ use Rattle.file.specs.Sound.{sound}
 use Rattle.roads.specs.Restores.{IsFile}
 use Rattle.roads.proofs.PlanServes.{same-chip}
 use Rattle.plan.proofs.FileIsFile.{is-file}
-use Rattle.plan.proofs.PromisesKept.{plan-written, written-room, written-few, run-ends, run-codes}
+use Rattle.plan.proofs.PromisesKept.{plan-written, written-room, written-few, run-ends}
 use Rattle.restoring.proofs.PromiseKept.{restore-unsound, restore-elsewhere, restore-unplanned, restore-done}
 use Rattle.restoring.proofs.restore.Statement.{statement}
 use Rattle.restoring.proofs.restore.Tie as tie
@@ -70,31 +70,11 @@ slice-aggregate-run c =
     let planned = c .before .before .before .before .before .plan in
     sym (length-take-le _ _ (written-room (plan-written (planned .result) (planned .ensures) (c .before .before .code .ensures) (c .before .if3 .left))))
 
-all-done-requires : tie.Need-all-done-requires
-all-done-requires c κs =
-    let taken = c .before .before .before .before .before .before in
-    let planned = taken .before .before .before .before .plan in
-    omega (
-      arith,
-      c .before .before .before .run .kept .1 .1 .0,
-      written-few (plan-written (planned .result) (planned .ensures) (taken .before .code .ensures) (taken .if3 .left)),
-    )
-
 returns-4 : tie.Need-returns-4
 returns-4 c =
-    let taken = c .before .before .before .before .before .before .before .before .before in
+    let taken = c .before .before .before .before .before in
     let planned = taken .before .before .before .before in
-    let wrote = plan-written (planned .plan .result) (planned .plan .ensures) (taken .before .code .ensures) (taken .if3 .left) in
-    let enough : 8 * planned .plan .result .count ≤ 8192 = omega (arith, written-few wrote) in
-    absurd (c .before .before .all-done .ensures .1 (not-true _ (c .before .if4 .taken))
-    (λ k h. rw (c .before .before .before .before .before .before .run .ensures .1)
-    (run-codes wrote (current planned) (current-file planned) (current-sound planned) (same-chip _ _ (one-chip planned)) _ enough k h)))
-
-returns-5 : tie.Need-returns-5
-returns-5 c =
-    let taken = c .before .before .before .before .before .before .before .before in
-    let planned = taken .before .before .before .before in
-    let ran = c .before .before .before .before .before .run in
+    let ran = c .before .before .run in
     let wrote = plan-written (planned .plan .result) (planned .plan .ensures) (taken .before .code .ensures) (taken .if3 .left) in
     let enough : 8 * planned .plan .result .count ≤ 8192 = omega (arith, written-few wrote) in
     restore-done (current planned) (current-sound planned) (one-chip planned) (planned .plan .result) (planned .plan .ensures) (taken .before .code .ensures) (taken .if3 .left)
@@ -108,4 +88,4 @@ restore-spec =
     (tie.spec (λ c κs. search needs) (λ c κs. search needs) returns (λ c κs. search needs) (λ c κs. search needs) returns-2
     (λ c κs. search needs) (λ c κs. search needs) (λ c κs. search needs)
     (λ c. search needs) returns-3 mul-size slice-reshare-prefix-run slice-aggregate-run (λ c. search needs) (λ c κs. search needs)
-    (λ c. search needs) all-done-requires (λ c κs. search needs) (λ c. search needs) returns-4 (λ c. search needs) returns-5)
+    (λ c. search needs) returns-4)

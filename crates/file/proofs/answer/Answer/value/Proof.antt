@@ -6,7 +6,7 @@ use borrow.Author.Needs.{needs}
 use denote.Enum.Declared.{tagOf}
 use types.Run.{OneOf, miss}
 use Rattle.file.specs.declared.answer.Answer.{Answer}
-use Rattle.file.specs.declared.answer.Answer.the-variants.{Done, NoRegister, Malformed, SpaceOff, NotHeld, OtherHalf, WrongWidth, ReadOnly, Locked, PaletteDown, OutOfRange, ShortBuffer, NotSound, NotBeforeRed, PlanRefused, OtherChip, OtherDirection, InsideWider}
+use Rattle.file.specs.declared.answer.Answer.the-variants.{Done, NoRegister, Malformed, SpaceOff, NotHeld, OtherHalf, WrongWidth, ReadOnly, Locked, PaletteDown, OutOfRange, ShortBuffer, NotSound, NotBeforeRed, OtherChip, OtherDirection, InsideWider}
 use Rattle.file.specs.Answers.{valueOf}
 use Rattle.file.proofs.answer.Answer.{the-type}
 use Rattle.file.proofs.answer.Answer.value.Statement.{statement}
@@ -14,7 +14,7 @@ use Rattle.file.proofs.answer.Answer.value.Tie as tie
 
 -- the tags of the others
 others : List ℕ
-others = 1 ∷ 2 ∷ 3 ∷ 4 ∷ 5 ∷ 6 ∷ 7 ∷ 8 ∷ 9 ∷ 10 ∷ 11 ∷ 12 ∷ 13 ∷ 14 ∷ 15 ∷ 16 ∷ 17 ∷ []
+others = 1 ∷ 2 ∷ 3 ∷ 4 ∷ 5 ∷ 6 ∷ 7 ∷ 8 ∷ 9 ∷ 10 ∷ 11 ∷ 12 ∷ 13 ∷ 14 ∷ 15 ∷ 16 ∷ []
 
 -- an answer whose tag is not 0 has no value
 no-value : (a : Answer) → OneOf others (tagOf the-type a) → 0 ≡ valueOf a
@@ -33,7 +33,6 @@ no-value OutOfRange k = refl
 no-value ShortBuffer k = refl
 no-value NotSound k = refl
 no-value NotBeforeRed k = refl
-no-value PlanRefused k = refl
 no-value OtherChip k = refl
 no-value OtherDirection k = refl
 no-value InsideWider k = refl
