@@ -11,7 +11,8 @@
 /* Every check is made on both chips. */
 static enum sc_chip chip;
 
-static inline bool same_file(const struct sc_file *a, const struct sc_file *b)
+/* 02, 10/13: what plan and restore bring about; the line is outside. */
+static inline bool same_but_line(const struct sc_file *a, const struct sc_file *b)
 {
     return a->chip == b->chip && a->pci04 == b->pci04 && a->misc == b->misc
         && a->srx == b->srx && a->crx == b->crx && a->grx == b->grx && a->arx == b->arx && a->pixel_mask == b->pixel_mask
@@ -28,6 +29,11 @@ static inline bool same_file(const struct sc_file *a, const struct sc_file *b)
         && !memcmp(a->bank, b->bank, sizeof a->bank);
 }
 
+static inline bool same_file(const struct sc_file *a, const struct sc_file *b)
+{
+    return same_but_line(a, b) && a->line == b->line;
+}
+
 /* The value if the access is done, else minus its code. A refusal must leave the file as it was. */
 static inline int ask(struct sc_file *f, int kind, int width, int address, uint32_t value)
 {
@@ -36,7 +42,8 @@ static inline int ask(struct sc_file *f, int kind, int width, int address, uint3
     struct sc_reply reply = sc_access(f, &r);
     bool kept = reply.code < 2 || same_file(&before, f);
     bool copied = reply.kind == r.kind && reply.address == r.address;
-    bool quiet = (reply.code == 0 && !(kind & 1)) || reply.value == 0;
+    bool reads = kind == SC_CONFIG_READ || kind == SC_PORT_READ || kind == SC_MMIO_READ;
+    bool quiet = (reply.code == 0 && reads) || reply.value == 0;
 
     if (kept && copied && quiet)
         return reply.code ? -reply.code : reply.value;
@@ -72,6 +79,12 @@ static inline int peek16(struct sc_file *f, int address)
 static inline int poke16(struct sc_file *f, int address, int value)
 {
     return ask(f, SC_MMIO_WRITE, 2, address, (uint32_t)value);
+}
+
+/* So many lines pass; -code. */
+static inline int pass(struct sc_file *f, uint32_t lines)
+{
+    return ask(f, SC_LINES_PASS, 2, 0, lines);
 }
 
 /* Index and data; -code of the data access. */

@@ -41,7 +41,7 @@ static void print_entries(const char *name, const uint8_t (*entry)[SC_COLOURS], 
         printf("%s %u: %02X %02X %02X\n", name, i, entry[i][0], entry[i][1], entry[i][2]);
 }
 
-/* The next colour stands first: a plan hangs on it. */
+/* The next colour stands first: a plan hangs on it. The line stands last: a plan leaves it. */
 static void print_file(const struct sc_file *f)
 {
     static const char *const pipe[SC_PIPES] = {
@@ -71,6 +71,7 @@ static void print_file(const struct sc_file *f)
     print_group("AR", f->ar, SC_ARS);
     print_entries("palette", f->palette, SC_PALETTE_ENTRIES);
     print_entries("bank", f->bank, SC_BANK_ENTRIES);
+    printf("line %u\n", f->line);
 }
 
 static bool write_plan(const struct sc_file *f)

@@ -105,24 +105,58 @@ static bool request7(void)
     return true;
 }
 
-static bool p9(void)
+/* IBM mode 12h, with PCI04=0003h. */
+static struct sc_file mode12(void)
 {
-    static const uint8_t mode12[][2] = {
+    static const uint8_t cr[][2] = {
         { 0x00, 0x5F }, { 0x01, 0x4F }, { 0x02, 0x50 }, { 0x03, 0x82 }, { 0x04, 0x54 },
         { 0x05, 0x80 }, { 0x06, 0x0B }, { 0x07, 0x3E }, { 0x09, 0x40 }, { 0x10, 0xEA },
         { 0x11, 0x8C }, { 0x12, 0xDF }, { 0x13, 0x28 }, { 0x15, 0xE7 }, { 0x16, 0x04 },
         { 0x18, 0xFF },
     };
+    struct sc_file f = opened();
+
+    for (size_t i = 0; i < sizeof cr / sizeof cr[0]; i++)
+        if (poke(&f, 4 * cr[i][0], cr[i][1]) != 0) {
+            printf("FAILED: CR%X can't be written\n", cr[i][0]);
+            exit(1);
+        }
+    return f;
+}
+
+static bool p9(void)
+{
     static const struct sc_timing wanted = {
         { 100, 80, 80, 98, 84, 96, 525, 480, 487, 516, 490, 492, 1023, 40, 0 }
     };
-    struct sc_file f = opened();
+    struct sc_file f = mode12();
     struct sc_timing t;
 
-    for (size_t i = 0; i < sizeof mode12 / sizeof mode12[0]; i++)
-        if (poke(&f, 4 * mode12[i][0], mode12[i][1]) != 0)
-            return false;
     return sc_timing_read(&f, &t) == 0 && !memcmp(&t, &wanted, sizeof t);
+}
+
+/* 02, 10/13: 3BAh at power-on; a wait for retrace in mode 12h; the line that 140h gives. */
+static bool request10(void)
+{
+    static const struct { int line, status; } seen[] = {
+        { 0, 0x00 }, { 479, 0x00 }, { 480, 0x01 }, { 489, 0x01 }, { 490, 0x09 }, { 491, 0x09 },
+        { 492, 0x01 }, { 524, 0x01 }, { 525, 0x00 }, { 525 + 490, 0x09 }, { 525 + 492, 0x01 },
+    };
+    struct sc_file f = opened();
+    int line = 0;
+
+    if (in(&f, 0x3BA) != 0x08 || pass(&f, 1) != 0 || in(&f, 0x3BA) != 0x09)
+        return false;
+    f = mode12();
+    for (size_t i = 0; i < sizeof seen / sizeof seen[0]; i++) {
+        if (seen[i].line > line && pass(&f, (uint32_t)(seen[i].line - line)) != 0)
+            return false;
+        line = seen[i].line;
+        if (in(&f, 0x3BA) != seen[i].status
+            || peek16(&f, 0x140) != (chip == SC_5464 ? line % 525 : -4))
+            return false;
+    }
+    return true;
 }
 
 /* Writes an H blank of so many clocks from clock 80 on; the code. */
@@ -204,7 +238,7 @@ static bool replay_fragment(void)
 int main(void)
 {
     static const struct check checks[] = {
-        { "P1", "a closed port, a kind over 5", p1 },
+        { "P1", "a closed port, a kind over 6", p1 },
         { "P2", "PCI04 keeps 0027h", p2 },
         { "P3", "MISC keeps EFh", p3 },
         { "P4", "the lock of CR0 and CR7", p4 },
@@ -218,6 +252,7 @@ int main(void)
         { "02 2/13", "three kinds of nothing held", request2 },
         { "02 6/13", "PCI02 and 10Ch by the chip", request6 },
         { "02 7/13", "static sync stops the palette", request7 },
+        { "02 10/13", "lines pass, and retrace comes", request10 },
         { "replay", "the example", replay_example },
         { "replay", "an empty trace", replay_empty },
         { "replay", "a fragment alone", replay_fragment },

@@ -1,7 +1,7 @@
 /*
  * The open points of 01 as they were settled, one check each (1 to 31; 6 is checked by
- * examples.c and tests/compare, 32 to 35 concern plans), those of 02, 6/13, then checks over many
- * files. All are made on both chips.
+ * examples.c and tests/compare, 32 to 35 concern plans), those of 02, then checks over many files.
+ * All are made on both chips.
  */
 #include "check.h"
 
@@ -45,6 +45,7 @@ static const uint16_t mmio16[] = {
     0x100, 0x102, 0x104, 0x106, 0x108, 0x10A, 0x10C, 0x10E,
 };
 static const uint16_t config16[] = { 0x00, 0x02, 0x04 };
+static const uint16_t line16 = 0x140;       /* read on the 5464 alone, 02, 10/13 */
 
 static bool listed(uint32_t address, const uint16_t *list, size_t count)
 {
@@ -61,13 +62,15 @@ static int held_width(int kind, uint32_t address)
     case SC_PORT_READ: return listed(address, port_reads, LENGTH(port_reads));
     case SC_PORT_WRITE: return listed(address, port_writes, LENGTH(port_writes));
     case SC_MMIO_READ: case SC_MMIO_WRITE:
+        if (address == line16)
+            return chip == SC_5464 && kind == SC_MMIO_READ ? 2 : 0;
         return listed(address, mmio8, LENGTH(mmio8)) ? 1
             : listed(address, mmio16, LENGTH(mmio16)) ? 2 : 0;
     default: return listed(address, config16, LENGTH(config16)) ? 2 : 0;
     }
 }
 
-/* A sound file out of random accesses; all spaces open and the lock off at the end. */
+/* A sound file out of random accesses; all spaces open and the lock off at the end, at any line. */
 static struct sc_file random_file(void)
 {
     struct sc_file f = opened();
@@ -83,6 +86,7 @@ static struct sc_file random_file(void)
         f.pci04 |= 3;
     }
     f.cr[0x11] &= 0x7F;
+    f.line = (uint16_t)below(2049);
     return f;
 }
 
@@ -254,11 +258,11 @@ static bool point10(void)
     struct sc_file f = opened();
 
     out(&f, 0x3C0, 0x11);
-    if (in(&f, 0x3DA) != -5 || !f.data_next || in(&f, 0x3BA) != 0 || f.data_next)
+    if (in(&f, 0x3DA) != -5 || !f.data_next || in(&f, 0x3BA) != 8 || f.data_next)
         return false;
     out(&f, 0x3C2, 0x01);
     out(&f, 0x3C0, 0x11);
-    return in(&f, 0x3BA) == -5 && f.data_next && in(&f, 0x3DA) == 0 && !f.data_next;
+    return in(&f, 0x3BA) == -5 && f.data_next && in(&f, 0x3DA) == 8 && !f.data_next;
 }
 
 static bool point11(void)
@@ -1039,7 +1043,10 @@ static bool all_done(struct sc_file f, const uint8_t *plan, size_t count)
     return true;
 }
 
-/* A restore of any file from any file of its chip ends in it, and no record of it is refused. */
+/*
+ * A restore of any file from any file of its chip ends in it, with the line it had (02, 10/13); no
+ * record of the plan is refused, and all are of kinds 0 to 5.
+ */
 static bool restored(void)
 {
     uint8_t buffer[SC_PLAN_BYTES];
@@ -1049,8 +1056,12 @@ static bool restored(void)
         size_t count;
         wanted.pointer = pointer((int)below(256), below(2), SC_RED, 0, 0);
         if (sc_restore(&current, &wanted, buffer, sizeof buffer, &count) != 0
-            || count > 1024 || !same_file(&current, &wanted) || !all_done(start, buffer, count))
+            || count > 1024 || !same_but_line(&current, &wanted) || current.line != start.line
+            || !all_done(start, buffer, count))
             return false;
+        for (size_t i = 0; i < count; i++)
+            if (buffer[SC_RECORD_BYTES * i] > SC_MMIO_WRITE)
+                return false;
     }
     return true;
 }
@@ -1063,7 +1074,7 @@ static bool seen[256];
 static void see_accesses(struct sc_file f)
 {
     for (int i = 0; i < 4000; i++) {
-        uint32_t kind = below(7), address = kind < 2 ? below(6) : kind < 4 ? 0x3B0 + below(0x30)
+        uint32_t kind = below(8), address = kind < 2 ? below(6) : kind < 4 ? 0x3B0 + below(0x30)
             : below(0x112);
         struct sc_record r = { (uint8_t)kind, (uint8_t)(1 + below(2)), (uint16_t)address,
                                kind & 1 ? below(0x100) : 0 };
@@ -1103,6 +1114,159 @@ static bool code_list(void)
         if (seen[code] != (code <= SC_INSIDE_WIDER && code != 14))
             return false;
     return true;
+}
+
+/* ---- 02, 10/13 ---- */
+
+/* What 3?Ah shows of a file, the slow way: the line counted down, the numbers counted up. */
+static int slow_status(const struct sc_file *f)
+{
+    struct sc_timing t = slow_timing(f);
+    uint32_t line = f->line;
+
+    while (line >= t.number[SC_V_TOTAL])
+        line -= t.number[SC_V_TOTAL];
+    bool sync = line >= t.number[SC_V_SYNC_START] && line < t.number[SC_V_SYNC_END];
+    return 8 * sync + (line >= t.number[SC_V_DISPLAY]);
+}
+
+/* A random file with a V total that is often small or the greatest, and V sync and V display within. */
+static struct sc_file line_file(void)
+{
+    struct sc_file f = random_file();
+    struct sc_timing t;
+    uint32_t total = below(3) ? 2 + below(below(2) ? 20 : 2048) : 2049;
+    uint32_t limit = below(4) && total < 2048 ? total : 2048;
+
+    sc_timing_read(&f, &t);
+    t.number[SC_V_TOTAL] = total;
+    t.number[SC_V_DISPLAY] = 1 + below(limit);
+    t.number[SC_V_SYNC_START] = below(limit);
+    t.number[SC_V_SYNC_END] = t.number[SC_V_SYNC_START] + 1 + below(16);
+    if (sc_timing_write(&f, &t) != 0) {
+        printf("FAILED: a timing can't be written\n");
+        exit(1);
+    }
+    return f;
+}
+
+/* Lines pass one by one or at once, from any line: the line alone moves. */
+static bool lines_pass(void)
+{
+    for (int round = 0; round < 2000; round++) {
+        struct sc_file f = line_file(), at_once = f, before = f;
+        uint32_t total = slow_timing(&f).number[SC_V_TOTAL];
+        uint32_t count = below(2) ? 1 + below(4000) : 0xFFFF - below(200), line = f.line;
+        while (line >= total)
+            line -= total;
+        for (uint32_t i = 0; i < count; i++)
+            line = line + 1 == total ? 0 : line + 1;
+        if (pass(&at_once, count) != 0 || at_once.line != line || !same_but_line(&at_once, &before))
+            return false;
+        for (uint32_t i = 0; i < 40; i++)
+            if (pass(&f, 1) != 0)
+                return false;
+        pass(&before, 40);
+        if (!same_file(&f, &before))
+            return false;
+    }
+    return true;
+}
+
+/* Reading 3?Ah: the bits by the reduced line; the toggle goes to index and nothing else moves. */
+static bool status_shown(void)
+{
+    for (int round = 0; round < 6000; round++) {
+        struct sc_file f = line_file(), before = f;
+        int port = f.misc & 1 ? 0x3DA : 0x3BA;
+        if (in(&f, port) != slow_status(&before))
+            return false;
+        before.data_next = false;
+        if (!same_file(&f, &before))
+            return false;
+    }
+    return true;
+}
+
+/* 140h and 141h: the reduced line, 16, 17, and on the 5462 nothing at all; nothing is stored. */
+static bool line_shown(void)
+{
+    for (int round = 0; round < 2000; round++) {
+        struct sc_file f = line_file(), before = f;
+        bool held = chip == SC_5464;
+        int line = (int)(f.line % slow_timing(&f).number[SC_V_TOTAL]);
+        if (peek16(&f, 0x140) != (held ? line : -4) || peek(&f, 0x140) != (held ? -6 : -4)
+            || poke16(&f, 0x140, 5) != (held ? -16 : -4) || poke(&f, 0x140, 5) != (held ? -16 : -4)
+            || peek(&f, 0x141) != (held ? -17 : -4) || poke16(&f, 0x141, 5) != (held ? -17 : -4)
+            || peek16(&f, 0x142) != -4 || peek16(&f, 0x13E) != -4
+            || ask(&f, SC_MMIO_READ, 2, 0x140, 1) != -2 || !same_file(&f, &before))
+            return false;
+    }
+    return true;
+}
+
+/* A total that is shortened and lengthened again, with reads in between, leaves the line. */
+static bool line_kept(void)
+{
+    struct sc_file f = opened();
+    bool held = chip == SC_5464;
+
+    if (poke(&f, 0x18, 98) != 0 || pass(&f, 75) != 0 || poke(&f, 0x18, 48) != 0     /* 100, then 50 */
+        || peek16(&f, 0x140) != (held ? 25 : -4) || in(&f, 0x3BA) != 0x01
+        || poke(&f, 0x18, 98) != 0 || f.line != 75 || peek16(&f, 0x140) != (held ? 75 : -4))
+        return false;
+    return poke(&f, 0x18, 48) == 0 && pass(&f, 1) == 0 && f.line == 26
+        && poke(&f, 0x18, 98) == 0 && peek16(&f, 0x140) == (held ? 26 : -4);
+}
+
+/* Kind 6 in its one form is done, with value 0, whatever is enabled; in any other it is 2. */
+static bool lines_form(void)
+{
+    static const uint32_t values[] = { 0, 1, 2, 0xFFFF, 0x10000, 0x10001, 0xFFFF0001, 0xFFFFFFFF };
+    static const uint16_t addresses[] = { 0, 1, 0x100, 0x140, 0x3BA, 0xFFFF };
+    struct sc_file f = random_file(), u = unsound();
+
+    for (int enabled = 0; enabled < 4; enabled++)
+        for (int kind = 6; kind < 256; kind++)
+            for (int width = 0; width < 256; width += width < 5 ? 1 : 50)
+                for (size_t a = 0; a < LENGTH(addresses); a++)
+                    for (size_t v = 0; v < LENGTH(values); v++) {
+                        bool good = kind == 6 && width == 2 && addresses[a] == 0
+                            && values[v] > 0 && values[v] <= 0xFFFF;
+                        f.pci04 = (uint16_t)enabled;
+                        if (ask(&f, kind, width, addresses[a], values[v]) != (good ? 0 : -2))
+                            return false;
+                    }
+    return pass(&u, 1) == -12 && ask(&u, 6, 1, 0, 0) == -12;
+}
+
+/* A fragment of kind 6 is 2, and no line passes; the reply of a whole one is 0, 6 and six zeros. */
+static bool lines_reply(void)
+{
+    static const uint8_t trace[8] = { 6, 2, 0, 0, 1, 0, 0, 0 };
+    static const uint8_t wanted[8] = { 0, 6 }, cut[8] = { 2, 6 };
+
+    for (size_t length = 1; length <= 8; length++) {
+        uint8_t reply[8] = { 9, 9, 9, 9, 9, 9, 9, 9 };
+        struct sc_file f = opened();
+        bool whole = length == 8;
+        if (sc_run(&f, trace, length, reply, 8).count != 1 || f.line != whole
+            || memcmp(reply, whole ? wanted : cut, 8))
+            return false;
+    }
+    return true;
+}
+
+static bool sound_lines(void)
+{
+    struct sc_file f = opened();
+
+    for (uint32_t line = 0; line < 0x10000; line++) {
+        f.line = (uint16_t)line;
+        if (sc_sound(&f) != (line <= 2048))
+            return false;
+    }
+    return pass(&f, 1) == -12;
 }
 
 /* ---- Soundness over many files ---- */
@@ -1183,10 +1347,11 @@ static bool sound_kept(void)
         struct sc_file f = opened(), g = f;
         for (size_t i = 0; i < 4096; i++) {
             uint8_t *b = trace + 8 * i;
-            uint32_t kind = i % 64 ? below(7) : 1;
-            bool write = kind & 1, wide = below(4) == 0;
+            uint32_t kind = i % 64 ? below(8) : 1;
+            bool write = kind & 1 || kind == SC_LINES_PASS, wide = below(4) == 0;
             uint32_t address = i % 64 == 0 ? 4 : kind < 2 ? below(6) : kind < 4
-                ? 0x3B0 + below(0x30) : below(16) ? below(0x112) : 0x300 + below(6);
+                ? 0x3B0 + below(0x30) : kind == SC_LINES_PASS ? below(8) / 7 * below(0x400)
+                : below(16) ? below(0x142) : 0x300 + below(6);
             b[0] = (uint8_t)kind;
             b[1] = i % 64 ? (uint8_t)(1 + wide) : 2;
             b[2] = (uint8_t)address;
@@ -1254,6 +1419,13 @@ int main(void)
         { "02, 6/13", "a restore's order of codes", restore_order },
         { "02, 6/13", "a restore ends in the wanted file", restored },
         { "02, 9/13", "the list of codes: 14 is unused", code_list },
+        { "02, 10/13", "lines pass, one by one or at once", lines_pass },
+        { "02, 10/13", "3?Ah shows V sync and V display by the line", status_shown },
+        { "02, 10/13", "140h shows the line, on the 5464", line_shown },
+        { "02, 10/13", "a total shortened for a while leaves the line", line_kept },
+        { "02, 10/13", "kind 6 has one form, and no space need be on", lines_form },
+        { "02, 10/13", "the reply to kind 6, and to a fragment of it", lines_reply },
+        { "02, 10/13", "sound up to line 2,048", sound_lines },
         { "timing", "reads as counted up from the table", timing_read },
         { "timing", "written back changes nothing; written is read", timing_kept },
         { "02, 7/13", "CR1A under no lock; a timing write keeps static sync", sync_kept },

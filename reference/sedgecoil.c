@@ -89,6 +89,8 @@ enum {
     CR11_LOCK = 0x80,
     CR1A_STATIC_SYNC = 0x0C,    /* CR1A[3], CR1A[2] */
     CR1B_WIDE = 0xA0,       /* CR1B[7], CR1B[5] */
+    STATUS_SYNC = 0x08,
+    STATUS_BLANK = 0x01,
     B0_POWER_DOWN = 0x80,
     B0_BANK = 0x08,
     B0_READING = 0x04
@@ -137,14 +139,128 @@ static bool pointer_sound(const struct sc_pointer *p)
 
 bool sc_sound(const struct sc_file *f)
 {
-    return bits_sound(f) && pointer_sound(&f->pointer) && f->last.colour < SC_COLOURS;
+    return bits_sound(f) && pointer_sound(&f->pointer) && f->last.colour < SC_COLOURS
+        && f->line <= SC_LAST_LINE;
+}
+
+/* ---- The timing's numbers ---- */
+
+struct piece {
+    uint8_t cr, low, bits;
+};
+
+enum { PIECES = 5, PLAIN = -1 };
+
+/* 01 "Timing", the table: pieces high bits first; a bias, or the start that an end follows. */
+static const struct field {
+    uint8_t bias;
+    int8_t start;
+    struct piece piece[PIECES];     /* unused ones have no bits */
+} fields[SC_NUMBERS] = {
+    [SC_H_TOTAL] = { 5, PLAIN, { { 0x1E, 7, 1 }, { 0x00, 0, 8 } } },
+    [SC_H_DISPLAY] = { 1, PLAIN, { { 0x1E, 6, 1 }, { 0x01, 0, 8 } } },
+    [SC_H_BLANK_START] = { 0, PLAIN, { { 0x1E, 5, 1 }, { 0x02, 0, 8 } } },
+    [SC_H_BLANK_END] = { 0, SC_H_BLANK_START, { { 0x1A, 4, 2 }, { 0x05, 7, 1 }, { 0x03, 0, 5 } } },
+    [SC_H_SYNC_START] = { 0, PLAIN, { { 0x1E, 4, 1 }, { 0x04, 0, 8 } } },
+    [SC_H_SYNC_END] = { 0, SC_H_SYNC_START, { { 0x05, 0, 5 } } },
+    [SC_V_TOTAL] = { 2, PLAIN, { { 0x1E, 3, 1 }, { 0x07, 5, 1 }, { 0x07, 0, 1 }, { 0x06, 0, 8 } } },
+    [SC_V_DISPLAY] = { 1, PLAIN,
+                       { { 0x1E, 2, 1 }, { 0x07, 6, 1 }, { 0x07, 1, 1 }, { 0x12, 0, 8 } } },
+    [SC_V_BLANK_START] = { 0, PLAIN,
+                           { { 0x1E, 1, 1 }, { 0x09, 5, 1 }, { 0x07, 3, 1 }, { 0x15, 0, 8 } } },
+    [SC_V_BLANK_END] = { 0, SC_V_BLANK_START, { { 0x1A, 6, 2 }, { 0x16, 0, 8 } } },
+    [SC_V_SYNC_START] = { 0, PLAIN,
+                          { { 0x1E, 0, 1 }, { 0x07, 7, 1 }, { 0x07, 2, 1 }, { 0x10, 0, 8 } } },
+    [SC_V_SYNC_END] = { 0, SC_V_SYNC_START, { { 0x11, 0, 4 } } },
+    [SC_LINE_COMPARE] = { 0, PLAIN, { { 0x09, 6, 1 }, { 0x07, 4, 1 }, { 0x18, 0, 8 } } },
+    [SC_OFFSET] = { 0, PLAIN, { { 0x1B, 4, 1 }, { 0x13, 0, 8 } } },
+    [SC_SCREEN_START] = { 0, PLAIN, { { 0x1D, 3, 2 }, { 0x1B, 2, 2 }, { 0x1B, 0, 1 },
+                                      { 0x0C, 0, 8 }, { 0x0D, 0, 8 } } },
+};
+
+/* 01 "Timing": CR1A's pieces count only if CR1B[5] or CR1B[7] is 1. */
+static unsigned piece_bits(const struct sc_file *f, const struct piece *p)
+{
+    return p->cr == 0x1A && !(f->cr[0x1B] & CR1B_WIDE) ? 0 : p->bits;
+}
+
+/* How many values the pieces hold: 2^n. */
+static uint32_t span(const struct sc_file *f, const struct field *field)
+{
+    unsigned bits = 0;
+
+    for (size_t i = 0; i < PIECES; i++)
+        bits += piece_bits(f, &field->piece[i]);
+    return UINT32_C(1) << bits;
+}
+
+static uint32_t gather(const struct sc_file *f, const struct field *field)
+{
+    uint32_t value = 0;
+
+    for (size_t i = 0; i < PIECES; i++) {
+        const struct piece *p = &field->piece[i];
+        unsigned bits = piece_bits(f, p);
+        value = value << bits | (f->cr[p->cr] >> p->low & ((1u << bits) - 1));
+    }
+    return value;
+}
+
+/* 01 "Timing": the smallest number greater than its start with those low n bits. */
+static uint32_t end_after(uint32_t start, uint32_t low, uint32_t values)
+{
+    return start + 1 + ((low - start - 1) & (values - 1));
+}
+
+/* A number as the registers hold it; an end also goes by its start, which is 0 for the others. */
+static uint32_t read_number(const struct sc_file *f, enum sc_number i, uint32_t start)
+{
+    const struct field *field = &fields[i];
+    uint32_t value = gather(f, field);
+
+    return field->start == PLAIN ? value + field->bias : end_after(start, value, span(f, field));
+}
+
+/* ---- The line, 02, 10/13 ---- */
+
+static uint32_t v_total(const struct sc_file *f)
+{
+    return read_number(f, SC_V_TOTAL, 0);
+}
+
+/*
+ * "The line rises modulo the V total of that moment; a line beyond a shortened total is first
+ * reduced by it."
+ */
+static void pass_lines(struct sc_file *f, uint32_t count)
+{
+    uint32_t total = v_total(f);
+
+    f->line = (uint16_t)((f->line % total + count) % total);
+}
+
+/* "Both reads show the line reduced by the total and store nothing of it." */
+static uint16_t shown_line(const struct sc_file *f)
+{
+    return (uint16_t)(f->line % v_total(f));
+}
+
+/* 3?Ah: bit 3 "at or past V sync start and before V sync end", bit 0 "at or past V display". */
+static uint16_t read_status(const struct sc_file *f)
+{
+    uint32_t line = shown_line(f);
+    uint32_t start = read_number(f, SC_V_SYNC_START, 0);
+    uint32_t end = read_number(f, SC_V_SYNC_END, start);
+    uint32_t display = read_number(f, SC_V_DISPLAY, 0);
+
+    return (line >= start && line < end ? STATUS_SYNC : 0) | (line >= display ? STATUS_BLANK : 0);
 }
 
 /* ---- Where an access goes ---- */
 
 enum unit {
     NOWHERE, PCI00, PCI02, PCI04, MISC, SRX, CRX, GRX, ARX, SR, CR, GR, AR,
-    ATTRIBUTE, STATUS, PIXEL_MASK, READ_ADDRESS, WRITE_ADDRESS, PIXEL, PIPE, VPORT
+    ATTRIBUTE, STATUS, PIXEL_MASK, READ_ADDRESS, WRITE_ADDRESS, PIXEL, PIPE, VPORT, LINE
 };
 
 struct place {
@@ -214,8 +330,14 @@ static struct place vport_place(uint16_t offset)
     return at8(NOWHERE, 0);
 }
 
+/* 02, 10/13: "On the 5464 a 16-bit read of MMIO 140h gives the line, CSL; a write gets 16." */
+static struct place line_place(const struct sc_file *f, bool write)
+{
+    return f->chip == SC_5464 && !write ? at16(LINE) : at8(NOWHERE, 0);
+}
+
 /* 01 "Places", MMIO: CRn at 4n where CRn stores anything (CR24 and CR26 do not). */
-static struct place mmio_place(uint16_t address)
+static struct place mmio_place(const struct sc_file *f, uint16_t address, bool write)
 {
     switch (address) {
     case 0x80: return at8(MISC, 0);
@@ -225,6 +347,7 @@ static struct place mmio_place(uint16_t address)
     case 0xA4: return at8(READ_ADDRESS, 0);
     case 0xA8: return at8(WRITE_ADDRESS, 0);
     case 0xAC: return at8(PIXEL, 0);
+    case 0x140: return line_place(f, write);
     }
     if (address >= 0x300)
         return config_place(address - 0x300);
@@ -245,7 +368,7 @@ static struct place place_of(const struct sc_file *f, const struct sc_record *r)
     switch (r->kind) {
     case SC_CONFIG_READ: case SC_CONFIG_WRITE: return config_place(r->address);
     case SC_PORT_READ: case SC_PORT_WRITE: return port_place(f, r->address, is_write(r));
-    default: return mmio_place(r->address);
+    default: return mmio_place(f, r->address, is_write(r));
     }
 }
 
@@ -407,7 +530,8 @@ static uint8_t read_place(struct sc_file *f, struct place at, uint16_t *value)
     case CRX: *value = f->crx; break;
     case GRX: *value = f->grx; break;
     case ARX: *value = f->arx; break;
-    case STATUS: *value = 0; f->data_next = false; break;
+    case STATUS: *value = read_status(f); f->data_next = false; break;
+    case LINE: *value = shown_line(f); break;
     case PIXEL_MASK: *value = f->pixel_mask; break;
     case READ_ADDRESS: *value = f->pointer.reading ? 3 : 0; break;
     case WRITE_ADDRESS: *value = f->pointer.address; break;
@@ -439,17 +563,22 @@ static uint8_t write_place(struct sc_file *f, struct place at, uint16_t value)
     case WRITE_ADDRESS: point(&f->pointer, value, false); break;
     case PIPE: f->pipe[at.number] = value & pipes[at.number].mask; break;
     case VPORT: f->vport[at.number] = value & vport(f->chip, at.number)->mask; break;
-    case ARX: case STATUS: case NOWHERE: return SC_NOT_HELD;    /* never a write's */
+    case ARX: case STATUS: case LINE: case NOWHERE: return SC_NOT_HELD;     /* never a write's */
     }
     return SC_DONE;
 }
 
 /* ---- One access, and a run ---- */
 
-/* 01 "Accesses and replies", code 2, the fragment apart. */
+/*
+ * 01 "Accesses and replies", code 2, the fragment apart; 02, 10/13: kind 6 has "width 2, address 0,
+ * value 1 to 65,535".
+ */
 static bool malformed(const struct sc_record *r)
 {
-    if (r->kind > SC_MMIO_WRITE || r->width < 1 || r->width > 2)
+    if (r->kind == SC_LINES_PASS)
+        return r->width != 2 || r->address != 0 || r->value < 1 || r->value > 0xFFFF;
+    if (r->kind > SC_LINES_PASS || r->width < 1 || r->width > 2)
         return true;
     if (is_write(r))
         return (r->value >> (8 * r->width)) != 0;
@@ -504,6 +633,10 @@ static uint8_t perform(struct sc_file *f, const struct sc_record *r, uint16_t *v
 {
     if (malformed(r))
         return SC_MALFORMED;
+    if (r->kind == SC_LINES_PASS) {
+        pass_lines(f, r->value);
+        return SC_DONE;
+    }
     if (space_off(f, r))
         return SC_SPACE_OFF;
     struct place at = place_of(f, r);
@@ -596,67 +729,6 @@ struct sc_progress sc_run(struct sc_file *f, const uint8_t *trace, size_t length
 
 /* ---- Timing ---- */
 
-struct piece {
-    uint8_t cr, low, bits;
-};
-
-enum { PIECES = 5, PLAIN = -1 };
-
-/* 01 "Timing", the table: pieces high bits first; a bias, or the start that an end follows. */
-static const struct field {
-    uint8_t bias;
-    int8_t start;
-    struct piece piece[PIECES];     /* unused ones have no bits */
-} fields[SC_NUMBERS] = {
-    [SC_H_TOTAL] = { 5, PLAIN, { { 0x1E, 7, 1 }, { 0x00, 0, 8 } } },
-    [SC_H_DISPLAY] = { 1, PLAIN, { { 0x1E, 6, 1 }, { 0x01, 0, 8 } } },
-    [SC_H_BLANK_START] = { 0, PLAIN, { { 0x1E, 5, 1 }, { 0x02, 0, 8 } } },
-    [SC_H_BLANK_END] = { 0, SC_H_BLANK_START, { { 0x1A, 4, 2 }, { 0x05, 7, 1 }, { 0x03, 0, 5 } } },
-    [SC_H_SYNC_START] = { 0, PLAIN, { { 0x1E, 4, 1 }, { 0x04, 0, 8 } } },
-    [SC_H_SYNC_END] = { 0, SC_H_SYNC_START, { { 0x05, 0, 5 } } },
-    [SC_V_TOTAL] = { 2, PLAIN, { { 0x1E, 3, 1 }, { 0x07, 5, 1 }, { 0x07, 0, 1 }, { 0x06, 0, 8 } } },
-    [SC_V_DISPLAY] = { 1, PLAIN,
-                       { { 0x1E, 2, 1 }, { 0x07, 6, 1 }, { 0x07, 1, 1 }, { 0x12, 0, 8 } } },
-    [SC_V_BLANK_START] = { 0, PLAIN,
-                           { { 0x1E, 1, 1 }, { 0x09, 5, 1 }, { 0x07, 3, 1 }, { 0x15, 0, 8 } } },
-    [SC_V_BLANK_END] = { 0, SC_V_BLANK_START, { { 0x1A, 6, 2 }, { 0x16, 0, 8 } } },
-    [SC_V_SYNC_START] = { 0, PLAIN,
-                          { { 0x1E, 0, 1 }, { 0x07, 7, 1 }, { 0x07, 2, 1 }, { 0x10, 0, 8 } } },
-    [SC_V_SYNC_END] = { 0, SC_V_SYNC_START, { { 0x11, 0, 4 } } },
-    [SC_LINE_COMPARE] = { 0, PLAIN, { { 0x09, 6, 1 }, { 0x07, 4, 1 }, { 0x18, 0, 8 } } },
-    [SC_OFFSET] = { 0, PLAIN, { { 0x1B, 4, 1 }, { 0x13, 0, 8 } } },
-    [SC_SCREEN_START] = { 0, PLAIN, { { 0x1D, 3, 2 }, { 0x1B, 2, 2 }, { 0x1B, 0, 1 },
-                                      { 0x0C, 0, 8 }, { 0x0D, 0, 8 } } },
-};
-
-/* 01 "Timing": CR1A's pieces count only if CR1B[5] or CR1B[7] is 1. */
-static unsigned piece_bits(const struct sc_file *f, const struct piece *p)
-{
-    return p->cr == 0x1A && !(f->cr[0x1B] & CR1B_WIDE) ? 0 : p->bits;
-}
-
-/* How many values the pieces hold: 2^n. */
-static uint32_t span(const struct sc_file *f, const struct field *field)
-{
-    unsigned bits = 0;
-
-    for (size_t i = 0; i < PIECES; i++)
-        bits += piece_bits(f, &field->piece[i]);
-    return UINT32_C(1) << bits;
-}
-
-static uint32_t gather(const struct sc_file *f, const struct field *field)
-{
-    uint32_t value = 0;
-
-    for (size_t i = 0; i < PIECES; i++) {
-        const struct piece *p = &field->piece[i];
-        unsigned bits = piece_bits(f, p);
-        value = value << bits | (f->cr[p->cr] >> p->low & ((1u << bits) - 1));
-    }
-    return value;
-}
-
 /* The low n bits of the value, lowest piece first; all other bits stay. */
 static void scatter(struct sc_file *f, const struct field *field, uint32_t value)
 {
@@ -667,12 +739,6 @@ static void scatter(struct sc_file *f, const struct field *field, uint32_t value
         f->cr[p->cr] = (f->cr[p->cr] & ~(ones << p->low)) | (value & ones) << p->low;
         value >>= bits;
     }
-}
-
-/* 01 "Timing": the smallest number greater than its start with those low n bits. */
-static uint32_t end_after(uint32_t start, uint32_t low, uint32_t values)
-{
-    return start + 1 + ((low - start - 1) & (values - 1));
 }
 
 static bool in_range(const struct sc_file *f, const struct sc_timing *t, size_t i)
@@ -690,11 +756,8 @@ uint8_t sc_timing_read(const struct sc_file *f, struct sc_timing *t)
     if (!sc_sound(f))
         return SC_UNSOUND;
     for (size_t i = 0; i < SC_NUMBERS; i++) {
-        const struct field *field = &fields[i];
-        uint32_t value = gather(f, field);
-        t->number[i] = field->start == PLAIN
-            ? value + field->bias
-            : end_after(t->number[field->start], value, span(f, field));
+        int8_t start = fields[i].start;
+        t->number[i] = read_number(f, i, start == PLAIN ? 0 : t->number[start]);
     }
     return SC_DONE;
 }

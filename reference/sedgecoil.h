@@ -39,7 +39,8 @@ enum sc_kind {
     SC_PORT_READ,
     SC_PORT_WRITE,
     SC_MMIO_READ,
-    SC_MMIO_WRITE
+    SC_MMIO_WRITE,
+    SC_LINES_PASS       /* 02, 10/13 */
 };
 
 enum { SC_RECORD_BYTES = 8, SC_REPLY_BYTES = 8, SC_PLAN_BYTES = 8192 };
@@ -92,6 +93,9 @@ struct sc_last {
     uint8_t colour;
 };
 
+/* 02, 10/13: "The line starts at 0, is sound up to 2,048". */
+enum { SC_LAST_LINE = 2048 };
+
 /* Each array spans its whole index range; a number that stores nothing stays 0. */
 enum { SC_SRS = 0x20, SC_CRS = 0x40, SC_GRS = 0x40, SC_ARS = 0x20 };
 enum { SC_PALETTE_ENTRIES = 256, SC_BANK_ENTRIES = 16 };
@@ -103,6 +107,7 @@ struct sc_file {
     uint8_t srx, crx, grx, arx;
     uint8_t pixel_mask;
     bool data_next;     /* the attribute toggle: the next 3C0h write is data */
+    uint16_t line;      /* outside the sameness that plan and restore bring about */
     uint8_t sr[SC_SRS], cr[SC_CRS], gr[SC_GRS], ar[SC_ARS];
     uint16_t pipe[SC_PIPES];
     uint16_t vport[SC_VPORTS];
@@ -157,7 +162,7 @@ struct sc_progress {
  */
 void sc_power_on(struct sc_file *f, enum sc_chip chip);
 
-/* 01 "The palette pointer", last sentence, 02, 1/13 and 6/13: is the file sound, by its chip? */
+/* 01 "The palette pointer", last sentence, 02, 1/13, 6/13 and 10/13: is the file sound, by its chip? */
 bool sc_sound(const struct sc_file *f);
 
 /* 01 "Accesses and replies": the 8 bytes of a record read, the 8 bytes of a reply written. */
@@ -188,14 +193,15 @@ uint8_t sc_window2_read(const struct sc_file *f, struct sc_window2 *w);
 uint8_t sc_capture_read(const struct sc_file *f, struct sc_capture *c);
 
 /*
- * 01 "Accesses and replies": records that lead from any sound file of its chip to the wanted one. 0
- * and their count, or 12, 13, 11 (in this order), count 0 and the buffer as it was.
+ * 01 "Accesses and replies": records that lead from any sound file of its chip to the wanted one, its
+ * line apart. 0 and their count, or 12, 13, 11 (in this order), count 0 and the buffer as it was.
  */
 uint8_t sc_plan(const struct sc_file *wanted, uint8_t *buffer, size_t room, size_t *count);
 
 /*
  * 01 "Accesses and replies", 02, 6/13 and 9/13: the plan made and run. 12 (the current file first),
- * 15, 13, 11 leave the current file and the buffer as they were, and the count is 0.
+ * 15, 13, 11 leave the current file and the buffer as they were, and the count is 0. The line stays
+ * the current file's, 10/13.
  */
 uint8_t sc_restore(struct sc_file *current, const struct sc_file *wanted,
                    uint8_t *buffer, size_t room, size_t *count);

@@ -12,10 +12,11 @@ import sys
 CONFIG, PORT, MMIO = 0, 1, 2
 SPACES = ("config", "port", "MMIO")
 VPORT = range(0x100, 0x110, 2)
+LINES = 6
 
 
 def places():
-    """01 "Places", 02 6/13: (space, address) -> (name, width, held for reads, held for writes)."""
+    """01 "Places", 02 6/13, 10/13: (space, address) -> (name, width, held for reads, for writes)."""
     held = {}
 
     def hold(space, address, name, width=1, reads=True, writes=True):
@@ -24,7 +25,7 @@ def places():
     for base in (0x3B0, 0x3D0):
         hold(PORT, base + 4, "CRX")
         hold(PORT, base + 5, "CR data")
-        hold(PORT, base + 10, "toggle to index", writes=False)
+        hold(PORT, base + 10, "status, toggle to index", writes=False)
     hold(PORT, 0x3C0, "attribute")
     hold(PORT, 0x3C1, "AR data", writes=False)
     hold(PORT, 0x3C2, "MISC", reads=False)
@@ -46,6 +47,7 @@ def places():
         hold(MMIO, offset, f"{offset:X}")
     for offset in (0xC0, 0xCC, 0xCE, 0xD0, 0xD2, 0xE0, 0xE2, 0xE4, 0xE6, 0xE8, *VPORT):
         hold(MMIO, offset, f"{offset:X}", width=2)
+    hold(MMIO, 0x140, "the line, on the 5464 alone", width=2, writes=False)
     for address in (0x00, 0x02, 0x04):
         hold(CONFIG, address, f"PCI{address:02X}", width=2)
         hold(MMIO, 0x300 + address, f"PCI{address:02X}", width=2)
@@ -67,7 +69,9 @@ def place_name(space, write, address):
 def words(record):
     """One record, or a fragment, in words."""
     kind, width, address, value = struct.unpack("<BBHI", record[:8].ljust(8, b"\0"))
-    if kind > 5:
+    if kind == LINES:
+        what = f"kind 6 (lines pass), address {address:04X}h"
+    elif kind > LINES:
         what = f"kind {kind} (none), address {address:04X}h"
     else:
         space, write = kind // 2, kind % 2

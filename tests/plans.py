@@ -2,17 +2,18 @@
 
 A snapshot program reads a trace, runs it from power-on and writes a plan of the file that the run
 ends in, or nothing if the palette pointer isn't before red there. A plan has at most 1,024 records,
-each is answered 0, and from any start the run ends in the same file, part by part.
+none lets lines pass, each is answered 0, and from any start the run ends in the same file, part by
+part, the line apart (02 10/13).
 """
 import re
 import sys
 
 sys.dont_write_bytecode = True
 import traces
-from decode import words
+from decode import LINES, words
 
 MOST = 8 * 1024
-START_KINDS = ("toggles", "palette", "mixed", "noise")
+START_KINDS = ("toggles", "palette", "mixed", "noise", "lines")
 
 
 class Fault(Exception):
@@ -24,8 +25,8 @@ class Fault(Exception):
 
 
 def starts(seed):
-    """Traces that leave the card shut, locked, powered down, in mid-colour or before data; by turns
-    static sync alone is on, 02 7/13."""
+    """Traces that leave the card shut, locked, powered down, in mid-colour, before data or at some line;
+    by turns static sync alone is on, 02 7/13."""
     yield traces.OPEN + traces.write(*traces.CR1A, (0x04, 0x08)[seed // 2 % 2]) if seed % 2 else b""
     for more in range(2):
         chance = traces.Chance(f"start {seed} {more}")
@@ -39,11 +40,18 @@ def first_part(wanted, found):
     return next(f"wanted {a.decode()}, found {b.decode()}" for a, b in pairs if a != b)
 
 
-def check_size(plan, status):
+def without_line(ends):
+    """A file as `ending` prints it, but for the line, which stands last."""
+    return ends.rpartition(b"line ")[0]
+
+
+def check_form(plan, status):
     if status != 0:
         raise Fault([f"exit status {status} with a plan due"], plan=plan)
     if not plan or len(plan) % 8 or len(plan) > MOST:
         raise Fault([f"a plan of {len(plan)} bytes"], plan=plan)
+    if any(kind >= LINES for kind in plan[::8]):
+        raise Fault(["a plan with a record that is no access"], plan=plan)
 
 
 def check_codes(start, plan, output):
@@ -75,7 +83,7 @@ class Plans:
             raise Fault([f"wanted {timing.decode()}", f"found  {last.decode()}"],
                         start=start, plan=plan)
         found, _ = self.run(self.ending, together)
-        if found != ends:
+        if without_line(found) != without_line(ends):
             raise Fault(["the plan ends in another file", first_part(ends, found)],
                         start=start, plan=plan)
         for other in self.others:
@@ -91,7 +99,7 @@ class Plans:
             if plan:
                 raise Fault(["a plan, though the pointer isn't before red"], plan=plan)
             return False
-        check_size(plan, status)
+        check_form(plan, status)
         for start in starts(seed):
             self.check_from(start, plan, ends, timing)
         return True

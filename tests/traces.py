@@ -12,7 +12,7 @@ import struct
 import sys
 
 sys.dont_write_bytecode = True
-from decode import CONFIG, HELD, MMIO, PORT, VPORT
+from decode import CONFIG, HELD, LINES, MMIO, PORT, VPORT
 
 READ, WRITE = 0, 1
 PIXEL_PORTS = ((PORT, 0x3C7), (PORT, 0x3C8), (PORT, 0x3C9))
@@ -57,6 +57,11 @@ def read(space, address, width=1):
 
 def write(space, address, value, width=1):
     return pack(2 * space + WRITE, width, address, value)
+
+
+def passing(count):
+    """So many lines pass, 02 10/13."""
+    return pack(LINES, 2, 0, count)
 
 
 OPEN = write(CONFIG, 0x04, 0x0003, 2)
@@ -111,7 +116,7 @@ def faulty(chance):
     for _ in range(1 + chance.below(2)):
         fault = chance.below(5)
         if fault == 0:
-            kind = chance.below(6) if chance.one_in(2) else chance.pick((6, 7, 9, 128, 254, 255))
+            kind = chance.below(7) if chance.one_in(2) else chance.pick((6, 7, 9, 128, 254, 255))
         elif fault == 1:
             width = chance.pick((0, 1, 2, 3, 4, 255))
         elif fault == 2:
@@ -120,6 +125,22 @@ def faulty(chance):
             value = chance.pick((1, 0xFF, 0x100, 0xFFFF, 0x10000, 0x01000000, 0xFFFFFFFF))
         else:
             width = 3 - width if width in (1, 2) else 2
+    return pack(kind, width, address, value)
+
+
+def some_lines(chance):
+    """So many lines pass, as a rule; or a record of kind 6 or 7 that is not of that form."""
+    fault = chance.below(12)
+    kind, width, address, value = LINES, 2, 0, chance.fitting(2) or 1
+    if fault == 0:
+        width = chance.pick((0, 1, 1, 3, 4, 255))
+        value = chance.pick((1, 0xFF))
+    elif fault == 1:
+        address = chance.pick((1, 2, 0x100, 0x140, 0x3BA, 0xFFFF))
+    elif fault == 2:
+        value = chance.pick((0, 0, 0x10000, 0x10001, 0x01000001, 0xFFFFFFFF))
+    elif fault == 3:
+        kind = chance.pick((7, 7, 8, 14, 70, 134))
     return pack(kind, width, address, value)
 
 
@@ -136,6 +157,8 @@ def noise(chance):
     def records():
         while True:
             yield faulty(chance) if chance.one_in(2) else valid(chance)
+            if chance.one_in(20):
+                yield some_lines(chance)
     return kept_open(chance, records())
 
 
@@ -271,7 +294,7 @@ def switch(chance):
 def touched(chance):
     """One access whose answer hangs on a switch."""
     base = chance.pick((0x3B0, 0x3D0))
-    which = chance.below(8)
+    which = chance.below(9)
     if which == 0:
         return (write(MMIO, 4 * chance.below(8), chance.fitting(1)),)
     if which == 1:
@@ -287,6 +310,8 @@ def touched(chance):
         return (read(*chance.pick(PIXEL_PORTS + PIXEL_MMIO)),)
     if which == 6:
         return (read(PORT, chance.pick((0x3C0, 0x3C1, 0x3CC, base + 4, base + 10))),)
+    if which == 7:
+        return (some_lines(chance), read(MMIO, 0x140, 2), read(PORT, base + 10))
     return (read(MMIO, 0x304, 2), read(CONFIG, 0x04, 2), read(MMIO, 0xB0), read(MMIO, 0x44))
 
 
@@ -477,6 +502,126 @@ def vport(chance):
             yield write(space, address, chance.below(0x10000), 2)
 
 
+class Screen:
+    """What bears on the line, and where it stands."""
+
+    def __init__(self, chance):
+        self.chance, self.line, self.total = chance, 0, 2
+
+    def resize(self, total):
+        """The writes of a V total, and of V display and V sync, mostly within it; the lock is off."""
+        limit = 2048 if self.chance.one_in(4) else min(total, 2048)
+        display, start = (self.chance.below(limit) for _ in range(2))
+        if self.chance.one_in(3):
+            start = max(0, limit - 1 - self.chance.below(12))
+        end = start + 1 + self.chance.below(16)
+        self.total, self.edges = total, (0, display + 1, start, end, total - 1)
+        cr7, cr1e = self.chance.below(256) & 0x18, self.chance.below(256) & 0xF2
+        for bit, number in enumerate((total - 2, display, start)):
+            cr7 |= (number >> 8 & 1) << bit | (number >> 9 & 1) << bit + 5
+            cr1e |= (number >> 10 & 1) << (3, 2, 0)[bit]
+        for number, value in ((0x11, end & 0x0F), (0x06, total - 2), (0x07, cr7), (0x1E, cr1e),
+                              (0x10, start), (0x12, display)):
+            yield write(MMIO, 4 * number, value & 0xFF)
+
+    def go(self, count):
+        self.line = (self.line + count) % self.total
+        return passing(count)
+
+    def to(self, line):
+        """To a line, on the next screen if it is there."""
+        return self.go((line - self.line) % self.total or self.total)
+
+    def aim(self):
+        """To an edge or beside it."""
+        return self.to(self.chance.pick(self.edges) + self.chance.pick((-1, 0, 0, 1)))
+
+    def far(self):
+        """Many lines at once; with the line where it stands they may be more than 16 bits hold."""
+        least = self.chance.pick((1, 0xF000, 0xFFFF))
+        return self.go(least + self.chance.below(0x10000 - least))
+
+    def some(self):
+        """Kind 6 of good form or not, as some_lines has it."""
+        record = some_lines(self.chance)
+        value, = struct.unpack_from("<I", record, 4)
+        return self.go(value) if 0 < value < 0x10000 and passing(value) == record else record
+
+
+def look_at_line(chance, base):
+    yield read(PORT, base + 10)
+    if chance.one_in(2):
+        yield read(MMIO, 0x140, 2)
+    if chance.one_in(8):
+        yield pack(chance.pick((4, 5)), 1 + chance.below(2), 0x13E + chance.below(6), 0)
+
+
+def wait_for_retrace(chance, screen, base):
+    """A recorded wait: 3?Ah read over and over, a line or a few in between, from before V sync on."""
+    step = chance.pick((1, 1, 1, 2, 3))
+    yield screen.to(screen.edges[2] - 3)
+    for _ in range(24):
+        yield read(PORT, base + 10)
+        yield screen.go(step)
+
+
+def shorten(chance, screen, base):
+    """V total below the line for a while, with reads or with lines passing; then as it was."""
+    total, low = screen.total, (screen.total - 2) & 0xFF
+    yield screen.to(total - 1 - chance.below(3))
+    yield write(MMIO, 0x44, chance.below(0x10))
+    for cr6 in (chance.below(low + 1), low):
+        screen.total = total - low + cr6
+        yield write(MMIO, 0x18, cr6)
+        yield from look_at_line(chance, base)
+        if chance.one_in(3):
+            yield screen.go(chance.pick((1, 2, 1 + chance.below(0xFFFF))))
+            yield from look_at_line(chance, base)
+
+
+def unlike(chance, screen, base):
+    """What must not bear on the line, or the line on it: refusals, spaces off, the toggle, the lock."""
+    which = chance.below(5)
+    if which == 0:
+        yield screen.some()
+    elif which == 1:
+        yield write(CONFIG, 0x04, chance.pick((0, 1, 2)), 2)
+        yield screen.some()
+        yield OPEN
+    elif which == 2:
+        yield from (write(PORT, base + 4, 0x24), write(PORT, 0x3C0, chance.below(0x15)), screen.some())
+        yield from (read(PORT, base + 5), read(MMIO, 0x140, 2), read(PORT, base + 5))
+        yield from (read(PORT, base + 10), read(PORT, base + 5))
+    elif which == 3:
+        yield from (write(MMIO, 0x44, 0x80), write(MMIO, 0x18, chance.below(256)), screen.some())
+    else:
+        number = chance.pick((0x10, 0x11, 0x12, 0x15, 0x16, 0x1A))
+        yield write(MMIO, 4 * number, chance.below(0x80))
+
+
+def lines(chance):
+    """lines pass to the edges of V display, V sync and V total; waits for retrace; totals shortened; bad kind 6"""
+    screen = Screen(chance)
+    while True:
+        misc = chance.below(2)
+        base = 0x3D0 if misc else 0x3B0
+        total = chance.pick((2, 3, 4 + chance.below(30), 525, 2 + chance.below(2048), 2048, 2049))
+        yield from (OPEN, write(MMIO, 0x80, misc), *screen.resize(total))
+        for _ in range(4 + chance.below(12)):
+            which = chance.below(12)
+            if which < 6:
+                yield screen.aim()
+            elif which < 8:
+                yield screen.far()
+            elif which == 8:
+                yield from wait_for_retrace(chance, screen, base)
+            elif which == 9:
+                yield from shorten(chance, screen, base)
+            else:
+                yield from unlike(chance, screen, base)
+            yield from look_at_line(chance, base)
+
+
 def fragment(chance):
     """valid records, then 1 to 7 bytes of one more"""
     return kept_open(chance, iter(lambda: valid(chance), None))
@@ -486,13 +631,13 @@ def tail(chance, seed):
     """The fragment: by turns 1 to 7 bytes of a record that would show in the timing line."""
     record = write(MMIO, 4 * chance.below(8), 1 + chance.below(255))
     if chance.one_in(3):
-        record = read(*chance.pick(READS))
+        record = chance.pick((read(*chance.pick(READS)), passing(1 + chance.below(0xFFFF))))
     return record[:1 + seed % 7]
 
 
 def long(chance):
     """stretches of all the other kinds"""
-    streams = [make(chance) for make in (noise, mixed, index, toggles, palette, polls, timing, geometry, vport, sweep)]
+    streams = [make(chance) for make in (noise, mixed, index, toggles, palette, polls, timing, geometry, vport, lines, sweep)]
     yield OPEN
     while True:
         yield from itertools.islice(chance.pick(streams), 20 + chance.below(1500))
@@ -514,6 +659,7 @@ KINDS = {
     "timing": timing,
     "geometry": geometry,
     "vport": vport,
+    "lines": lines,
     "fragment": fragment,
     "long": long,
 }

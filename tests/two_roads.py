@@ -23,7 +23,7 @@ import traces
 from decode import CONFIG, MMIO, PORT, SPACES, words
 from traces import OPEN, READS, pack, read, write
 
-START_KINDS = ("toggles", "palette", "mixed", "noise")
+START_KINDS = ("toggles", "palette", "mixed", "noise", "lines")
 # Codes 3, 4 and 5 are shut out by what 02 asks of the state, 1 by the index, 12 by a replay's start.
 CODES = {0, 2, 6, 7, 8, 9}
 # A read of these moves the pointer or the toggle.
@@ -70,7 +70,8 @@ BY_HALF = tuple(list(pairs(base)) for base in (0x3B0, 0x3D0))
 
 
 def ready(chance, half, old):
-    """Both spaces enabled, MISC[0] fitting, the index selected; locked, powered down or with static sync by chance."""
+    """Both spaces enabled, MISC[0] fitting, the index selected; locked, powered down, with static sync
+    or some lines on by chance."""
     yield write(CONFIG, 0x04, chance.below(0x10000) | 0x0003, 2)
     yield write(MMIO, 0x80, chance.below(0x100) & 0xFE | half)
     if chance.one_in(3):
@@ -79,6 +80,8 @@ def ready(chance, half, old):
         yield write(MMIO, 0xB0, chance.pick((0x00, 0x00, 0x08, 0x80, 0x88)))
     if chance.one_in(3):
         yield write(*traces.CR1A, chance.pick(traces.SYNC))
+    if chance.one_in(3):
+        yield traces.some_lines(chance)
     if old.index:
         yield write(PORT, *old.index)
 

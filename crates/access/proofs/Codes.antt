@@ -10,10 +10,10 @@ use Rattle.file.specs.declared.answer.Answer.the-variants.{Done, Locked, Palett
 use Rattle.file.specs.declared.registers.File.{File}
 use Rattle.file.specs.Answers.{refused}
 use Rattle.places.specs.declared.place.Place.{Place}
-use Rattle.places.specs.Profile.{Reading, givesHeld, givesFixed, givesDeviceId, givesToggle, givesPaletteState, givesVPortState, givesDacState, givesAddress, givesPixel, resetsToggle, namesNothing, Writing, storesTo, readOnly, setsAddress, writesPixel, storesNothing, profile}
+use Rattle.places.specs.Profile.{Reading, givesHeld, givesFixed, givesDeviceId, givesToggle, givesPaletteState, givesVPortState, givesDacState, givesAddress, givesPixel, resetsToggle, givesLine, namesNothing, Writing, storesTo, readOnly, setsAddress, writesPixel, storesNothing, passesLines, profile}
 use Rattle.access.specs.declared.record.Record.{Record}
 use Rattle.access.specs.Access.{placeOf, lockedOut, paletteUp, shownIn, readAnswer, writeAnswer, answerAt, answer}
-use Rattle.access.specs.Checks.{Check, isWrite, checks, firstRefusal}
+use Rattle.access.specs.Checks.{Check, carries, checks, firstRefusal}
 use Rattle.access.specs.Promises.{accessCode}
 use Rattle.access.proofs.SeenDecisions.{allRefuse, checks-refuse}
 
@@ -42,6 +42,7 @@ read-code f givesDacState = tt
 read-code f givesAddress = tt
 read-code f givesPixel = chosen accessCode (paletteUp f) (Done (shownIn f)) PaletteDown tt tt
 read-code f resetsToggle = tt
+read-code f givesLine = tt
 read-code f namesNothing = tt
 
 write-code : (f : File) (writing : Writing) → T (accessCode (writeAnswer f writing))
@@ -51,6 +52,7 @@ write-code f readOnly = tt
 write-code f (setsAddress reading) = tt
 write-code f writesPixel = chosen accessCode (paletteUp f) (Done 0) PaletteDown tt tt
 write-code f (storesNothing flips) = tt
+write-code f passesLines = tt
 
 place-code : (write : Bool) (f : File) (place : Place) → T (accessCode (answerAt write f place))
 unfolding answerAt
@@ -61,7 +63,7 @@ place-code write f place =
 pub access-code : (f : File) (r : Record) → T (accessCode (answer f r))
 unfolding answer checks accessCode passed-on
 access-code f r =
-    first-passes accessCode checks f r (answerAt (isWrite r) f (placeOf f r)) tt (place-code (isWrite r) f (placeOf f r))
+    first-passes accessCode checks f r (answerAt (carries r) f (placeOf f r)) tt (place-code (carries r) f (placeOf f r))
 
 -- where no check refuses, the answer is what stands behind them
 first-refused : (cs : List Check) (f : File) (r : Record) (otherwise : Answer)
@@ -73,6 +75,6 @@ first-refused (c ∷ cs) f r otherwise t n =
     (λ e. absurd (true≢false (sym (is-true (refused (c .answer)) (left (refused (c .answer)) (allRefuse cs) t)) ∙ (rw e at n))))
     (λ e. rw e (first-refused cs f r otherwise (right (refused (c .answer)) (allRefuse cs) t) (rw e at n)))
 
-pub place-answers : (f : File) (r : Record) → refused (answer f r) ≡ false → answer f r ≡ answerAt (isWrite r) f (placeOf f r)
+pub place-answers : (f : File) (r : Record) → refused (answer f r) ≡ false → answer f r ≡ answerAt (carries r) f (placeOf f r)
 unfolding answer
-place-answers f r n = first-refused checks f r (answerAt (isWrite r) f (placeOf f r)) checks-refuse n
+place-answers f r n = first-refused checks f r (answerAt (carries r) f (placeOf f r)) checks-refuse n

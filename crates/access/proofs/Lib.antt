@@ -1,3 +1,4 @@
+pub mod LineRead
 pub mod SeenFiles
 pub mod PassedChecks
 pub mod EntriesNamed
@@ -12,3 +13,4 @@ pub mod Lock
 pub mod StaticSync
 pub mod IndicesAndToggle
 pub mod HandsBack
+pub mod Lines

@@ -21,7 +21,7 @@ use Rattle.places.specs.Places.{places}
 use Rattle.places.specs.Profile.{Writing, storesTo, profile}
 use Rattle.access.specs.declared.record.Record.{Record}
 use Rattle.access.specs.Access.{placeOf, lockedOut, lockedReach, reachIn, writeAnswer, answerAt, effectAt, answer, effect, reach, access}
-use Rattle.access.specs.Checks.{isWrite, isPort, isMmio, checks, firstRefusal, notSound, malformed, spaceOff, notHeld, noRow, otherDirection, insideWider, otherHalf, wrongWidth, otherWidth}
+use Rattle.access.specs.Checks.{isWrite, isPort, isMmio, checks, firstRefusal, notSound, malformed, spaceOff, notHeld, noRow, otherDirection, insideWider, otherHalf, wrongWidth, otherWidth, badAccess, isPassing, carries}
 use Rattle.access.specs.Promises.{seventh}
 use Rattle.access.proofs.Codes.{place-answers}
 use Rattle.access.proofs.Reach.{Spares, outside-reach, nothing-spares, read-spares, write-spares}
@@ -85,10 +85,10 @@ module _ (f : File) (lock : crtcLocked f ≡ true) (number i : ℕ) (low : CR0 �
 module _ (f : File) (value : ℕ) (s : T (sound f)) (on : bit 1 (register f PCI04) ≡ 1) (byte : value < 256) (lock : crtcLocked f ≡ true) where
   -- the lock does not refuse it
   pub seventh-accepted : answer f (seventh value) ≡ Done 0
-  unfolding answer checks firstRefusal notSound malformed spaceOff notHeld otherDirection insideWider otherHalf wrongWidth isWrite isPort isMmio isOneOf noRow otherWidth answerAt lockedOut placeOf placeAt rowAt placeOfRow first matches selects places
+  unfolding answer checks firstRefusal notSound malformed badAccess isPassing carries spaceOff notHeld otherDirection insideWider otherHalf wrongWidth isWrite isPort isMmio isOneOf noRow otherWidth answerAt lockedOut placeOf placeAt rowAt placeOfRow first matches selects places
   seventh-accepted = simp (is-true (sound f) s, lt-leb 256 value byte, on, lock)
 
   -- and it stores bit 4 alone
   pub seventh-stores : effect f (seventh value) ≡ Store false CR7 0x10 value
-  unfolding effect effectAt refused codeOf isWrite reachIn lockedReach placeOf placeAt rowAt placeOfRow first matches selects places
+  unfolding effect effectAt refused codeOf isWrite isPassing carries reachIn lockedReach placeOf placeAt rowAt placeOfRow first matches selects places
   seventh-stores = simp (seventh-accepted, lock)

@@ -9,7 +9,7 @@ use Rattle.bits.specs.Store.{bit}
 use Rattle.bits.proofs.Bit.{bit-of-zero, by-bits}
 use Rattle.bits.proofs.Test.{right}
 use Rattle.file.specs.declared.effect.Effect.{Effect}
-use Rattle.file.specs.declared.effect.Effect.the-variants.{Nothing, Store, Toggle, Move, Step, Paint}
+use Rattle.file.specs.declared.effect.Effect.the-variants.{Nothing, Store, Toggle, Move, Step, Paint, Pass}
 use Rattle.file.specs.declared.registers.File.{File}
 use Rattle.file.specs.Effects.{apply, reachOf}
 use Rattle.file.specs.File.{register}
@@ -51,7 +51,7 @@ module _ (number i : ℕ) where
   unfolding reachOf
   write-spares f writing value stored =
       by-write (Spares number i) (reachIn f) f writing value (λ h. bit-of-zero i) stored (λ reading h. bit-of-zero i) (λ h. bit-of-zero i)
-      (λ h. bit-of-zero i) (λ e h. bit-of-zero i)
+      (λ h. bit-of-zero i) (λ e h. bit-of-zero i) (λ e h. bit-of-zero i)
 
 -- the register after an access whose effect spares each of its bits
 pub spared : (f : File) (r : Record) (number : ℕ) → ((i : ℕ) → Spares number i (effect f r)) → register (access f r .file) number ≡ register f number
@@ -64,7 +64,7 @@ pub write-leaves-toggle : (f : File) (writing : Writing) (value : ℕ) → flips
 unfolding reachOf flips
 write-leaves-toggle f writing value h =
     by-write (λ (e : Effect). reachOf e .toggle ≡ false) (reachIn f) f writing value refl
-    (λ number flip e. sym (ap flips e) ∙ h) (λ reading. refl) refl refl (λ e. sym (ap flips e) ∙ h)
+    (λ number flip e. sym (ap flips e) ∙ h) (λ reading. refl) refl refl (λ e. sym (ap flips e) ∙ h) (λ e. refl)
 
 pub read-leaves-toggle : (f : File) (reading : Reading) → resets reading ≡ false → reachOf (readEffect f reading) .toggle ≡ false
 unfolding reachOf resets
@@ -90,7 +90,7 @@ module _ (f : File) (value i : ℕ) where
     written writing t =
         by-write Lands (reachIn f) f writing value (none Nothing refl)
         (λ number flip e. stored number (reachIn f number) flip (ltb→lt number registerCount (subst (λ (w : Writing). T (writesFile w)) e t)))
-        (λ reading. none (Move _) refl) (none (Step _ _) refl) (none (Paint _ _ _ _ _) refl) (λ e. none (Toggle _) refl)
+        (λ reading. none (Move _) refl) (none (Step _ _) refl) (none (Paint _ _ _ _ _) refl) (λ e. none (Toggle _) refl) (λ e. none (Pass _) refl)
 
   read : (reading : Reading) → reachOf (readEffect f reading) .bits ≡ 0
   unfolding reachOf

@@ -6,16 +6,16 @@ use lib.Dec.{T}
 use Rattle.bits.proofs.Test.{by-test, is-true}
 use Rattle.file.specs.declared.answer.Answer.the-variants.{NotSound}
 use Rattle.file.specs.declared.effect.Effect.{Effect}
-use Rattle.file.specs.declared.effect.Effect.the-variants.{Nothing, Store, Toggle, Move, Step, Paint}
+use Rattle.file.specs.declared.effect.Effect.the-variants.{Nothing, Store, Toggle, Move, Step, Paint, Pass}
 use Rattle.file.specs.declared.registers.File.{File}
 use Rattle.file.specs.Answers.{codeOf, refused}
 use Rattle.file.specs.Effects.{apply}
 use Rattle.file.specs.Palette.{addressed, afterWrite, afterRead, stores, mixed, marksFrom}
 use Rattle.file.specs.Sound.{sound}
-use Rattle.places.specs.Profile.{Reading, givesHeld, givesFixed, givesDeviceId, givesToggle, givesPaletteState, givesVPortState, givesDacState, givesAddress, givesPixel, resetsToggle, namesNothing, Writing, storesTo, readOnly, setsAddress, writesPixel, storesNothing, profile}
+use Rattle.places.specs.Profile.{Reading, givesHeld, givesFixed, givesDeviceId, givesToggle, givesPaletteState, givesVPortState, givesDacState, givesAddress, givesPixel, resetsToggle, givesLine, namesNothing, Writing, storesTo, readOnly, setsAddress, writesPixel, storesNothing, passesLines, profile}
 use Rattle.access.specs.declared.record.Record.{Record}
-use Rattle.access.specs.Access.{placeOf, reachIn, inBank, entryNumber, pixelWrite, writeEffect, readEffect, effectAt, answer, effect, access}
-use Rattle.access.specs.Checks.{isWrite, checks, firstRefusal, notSound}
+use Rattle.access.specs.Access.{placeOf, reachIn, lineAfter, inBank, entryNumber, pixelWrite, writeEffect, readEffect, effectAt, answer, effect, access}
+use Rattle.access.specs.Checks.{carries, checks, firstRefusal, notSound}
 
 pub refusal-does-nothing : (f : File) (r : Record) → refused (answer f r) ≡ true → effect f r ≡ Nothing
 unfolding effect
@@ -51,28 +51,31 @@ by-read P f givesDacState none move toggle = none
 by-read P f givesAddress none move toggle = none
 by-read P f givesPixel none move toggle = move
 by-read P f resetsToggle none move toggle = toggle refl
+by-read P f givesLine none move toggle = none
 by-read P f namesNothing none move toggle = none
 
--- what a write does is nothing, a store, an address, a pixel's byte held or stored, or the toggle flipped
+-- what a write does is nothing, a store, an address, a pixel's byte held or stored, the toggle flipped, or lines that pass
 pub by-write : (P : Effect → Type 0) (reach : ℕ → ℕ) (f : File) (writing : Writing) (value : ℕ)
     → P Nothing → ((number : ℕ) (flips : Bool) → writing ≡ storesTo number flips → P (Store flips number (reach number) value))
     → ((reading : Bool) → P (Move (addressed reading value))) → P (Step (afterWrite (f .state .pointer) value) (marksFrom false (f .state .pointer)))
     → P (Paint (inBank f) (entryNumber f) (afterWrite (f .state .pointer) value) (mixed (f .state .pointer) value) (marksFrom false (f .state .pointer)))
-    → (writing ≡ storesNothing true → P (Toggle (not (f .state .toggle)))) → P (writeEffect reach f writing value)
+    → (writing ≡ storesNothing true → P (Toggle (not (f .state .toggle)))) → (writing ≡ passesLines → P (Pass (lineAfter f value)))
+    → P (writeEffect reach f writing value)
 unfolding writeEffect pixelWrite
-by-write P reach f (storesTo number flips) value none store addresses held paint toggle = store number flips refl
-by-write P reach f readOnly value none store addresses held paint toggle = none
-by-write P reach f (setsAddress reading) value none store addresses held paint toggle = addresses reading
-by-write P reach f writesPixel value none store addresses held paint toggle =
+by-write P reach f (storesTo number flips) value none store addresses held paint toggle pass = store number flips refl
+by-write P reach f readOnly value none store addresses held paint toggle pass = none
+by-write P reach f (setsAddress reading) value none store addresses held paint toggle pass = addresses reading
+by-write P reach f writesPixel value none store addresses held paint toggle pass =
     by-test (stores (f .state .pointer)) (λ e. rw e paint) (λ e. rw e held)
-by-write P reach f (storesNothing true) value none store addresses held paint toggle = toggle refl
-by-write P reach f (storesNothing false) value none store addresses held paint toggle = none
+by-write P reach f (storesNothing true) value none store addresses held paint toggle pass = toggle refl
+by-write P reach f (storesNothing false) value none store addresses held paint toggle pass = none
+by-write P reach f passesLines value none store addresses held paint toggle pass = pass refl
 
--- what an access does, by whether it is refused, a write or a read
+-- what an access does, by whether it is refused, brings a value or reads
 pub by-effect : (P : Effect → Type 0) (f : File) (r : Record) → P Nothing
-    → (refused (answer f r) ≡ false → isWrite r ≡ true → P (writeEffect (reachIn f) f (profile (placeOf f r) .writing) (r .value)))
+    → (refused (answer f r) ≡ false → carries r ≡ true → P (writeEffect (reachIn f) f (profile (placeOf f r) .writing) (r .value)))
     → P (readEffect f (profile (placeOf f r) .reading)) → P (effect f r)
 unfolding effect effectAt
 by-effect P f r nothing write read =
     by-test (refused (answer f r)) (λ e. rw e nothing)
-    (λ e. rw e (by-test (isWrite r) (λ w. rw w (write e w)) (λ w. rw w read)))
+    (λ e. rw e (by-test (carries r) (λ w. rw w (write e w)) (λ w. rw w read)))

@@ -17,12 +17,14 @@ use Rattle.file.specs.Sound.{sound}
 use Rattle.places.specs.declared.place.Place.{Place}
 use Rattle.places.specs.Lookup.{rowAt, placeOfRow, placeAt, otherWay, heldIn, insideIn}
 use Rattle.places.specs.Places.{Row, places}
-use Rattle.places.specs.Profile.{Reading, givesHeld, givesFixed, givesDeviceId, givesToggle, givesPaletteState, givesVPortState, givesDacState, givesAddress, givesPixel, resetsToggle, namesNothing, Writing, storesTo, readOnly, setsAddress, writesPixel, storesNothing, profile, readsPixel}
+use Rattle.places.specs.Profile.{Reading, givesHeld, givesFixed, givesDeviceId, givesToggle, givesPaletteState, givesVPortState, givesDacState, givesAddress, givesPixel, resetsToggle, givesLine, namesNothing, Writing, storesTo, readOnly, setsAddress, writesPixel, storesNothing, passesLines, profile, readsPixel}
 use Rattle.places.proofs.SeenRows.{row-seen}
+use Rattle.timing.specs.Table.{wide}
+use Rattle.timing.specs.Timing.{timingIn}
 use Rattle.access.specs.declared.engine.Decision.{Decision}
 use Rattle.access.specs.declared.record.Record.{Record}
-use Rattle.access.specs.Access.{placeOf, lockedOut, reachIn, paletteUp, inBank, entryNumber, shownIn, vPortState, readAnswer, writeAnswer, answerAt, pixelWrite, readEffect, writeEffect, effectAt, answer, effect}
-use Rattle.access.specs.Checks.{Check, isWrite, checks, firstRefusal, notSound, malformed, spaceOff, notHeld, noRow, otherDirection, insideWider, otherHalf, otherWidth, wrongWidth}
+use Rattle.access.specs.Access.{placeOf, lockedOut, reachIn, paletteUp, inBank, entryNumber, shownIn, vPortState, vTotal, vDisplay, vSyncStart, vSyncEnd, lineShown, lineAfter, inSync, pastDisplay, displayState, readAnswer, writeAnswer, answerAt, pixelWrite, readEffect, writeEffect, effectAt, answer, effect}
+use Rattle.access.specs.Checks.{Check, carries, checks, firstRefusal, notSound, malformed, spaceOff, notHeld, noRow, otherDirection, insideWider, otherHalf, otherWidth, wrongWidth}
 use Rattle.access.specs.Engine.{asksPixel, decision}
 
 -- a decision by its parts
@@ -45,7 +47,7 @@ module _ (f : File) where
   Seen = seen (f .registers) (f .state)
 
   read-effect : (reading : Reading) → readEffect f reading ≡ readEffect Seen reading
-  unfolding readEffect seen
+  unfolding readEffect lineShown vTotal timingIn wide seen register
   read-effect (givesHeld number) = refl
   read-effect (givesFixed value) = refl
   read-effect givesDeviceId = refl
@@ -56,15 +58,17 @@ module _ (f : File) where
   read-effect givesAddress = refl
   read-effect givesPixel = refl
   read-effect resetsToggle = refl
+  read-effect givesLine = refl
   read-effect namesNothing = refl
 
   write-effect : (writing : Writing) (value : ℕ) → writeEffect (reachIn f) f writing value ≡ writeEffect (reachIn Seen) Seen writing value
-  unfolding writeEffect pixelWrite inBank entryNumber reachIn crtcLocked seen register
+  unfolding writeEffect pixelWrite inBank entryNumber reachIn lineAfter lineShown vTotal timingIn wide crtcLocked seen register
   write-effect (storesTo number flips) value = refl
   write-effect readOnly value = refl
   write-effect (setsAddress reading) value = refl
   write-effect writesPixel value = refl
   write-effect (storesNothing flips) value = refl
+  write-effect passesLines value = refl
 
   write-answer : (writing : Writing) → writeAnswer f writing ≡ writeAnswer Seen writing
   unfolding writeAnswer lockedOut crtcLocked paletteUp seen register
@@ -73,13 +77,14 @@ module _ (f : File) where
   write-answer (setsAddress reading) = refl
   write-answer writesPixel = refl
   write-answer (storesNothing flips) = refl
+  write-answer passesLines = refl
 
   -- a read's answer is the same but for a pixel's component
   abbrev Shown : Bool → Answer → Answer
   Shown pixel a = cond (not (refused a) && pixel) (Done (shownIn f)) a
 
   read-answer : (reading : Reading) → readAnswer f reading ≡ Shown (readsPixel reading) (readAnswer Seen reading)
-  unfolding readAnswer readsPixel paletteUp vPortState refused codeOf seen register
+  unfolding readAnswer readsPixel paletteUp vPortState displayState inSync pastDisplay lineShown vTotal vDisplay vSyncStart vSyncEnd timingIn wide refused codeOf seen register
   read-answer (givesHeld number) = refl
   read-answer (givesFixed value) = refl
   read-answer givesDeviceId = refl
@@ -90,6 +95,7 @@ module _ (f : File) where
   read-answer givesAddress = refl
   read-answer givesPixel = by-test (paletteUp Seen) (λ e. rw e refl) (λ e. rw e refl)
   read-answer resetsToggle = refl
+  read-answer givesLine = refl
   read-answer namesNothing = refl
 
   -- the checks, with a row found by either file
@@ -98,8 +104,8 @@ module _ (f : File) where
       cond (not (sound Seen)) NotSound
       (cond (malformed Seen r) Malformed
       (cond (spaceOff Seen r) SpaceOff
-      (cond (noRow row && heldIn places (otherWay (r .kind)) (r .address)) OtherDirection
-      (cond (noRow row && insideIn places (r .kind) (r .address)) InsideWider
+      (cond (noRow row && heldIn (places (f .state .chip)) (otherWay (r .kind)) (r .address)) OtherDirection
+      (cond (noRow row && insideIn (places (f .state .chip)) (r .kind) (r .address)) InsideWider
       (cond (noRow row) NotHeld
       (cond (otherHalf Seen r) OtherHalf (cond (otherWidth (r .width) row) WrongWidth otherwise)))))))
 
@@ -113,21 +119,21 @@ module _ (f : File) where
 
   -- what a place answers
   abbrev Pixel : Record → Bool
-  Pixel r = not (isWrite r) && readsPixel (profile (placeOf Seen r) .reading)
+  Pixel r = not (carries r) && readsPixel (profile (placeOf Seen r) .reading)
 
-  answer-there : (r : Record) → answerAt (isWrite r) f (placeOf f r) ≡ Shown (Pixel r) (answerAt (isWrite r) Seen (placeOf Seen r))
+  answer-there : (r : Record) → answerAt (carries r) f (placeOf f r) ≡ Shown (Pixel r) (answerAt (carries r) Seen (placeOf Seen r))
   unfolding answerAt
   answer-there r =
-      ap (λ (p : Place). answerAt (isWrite r) f p) (place-seen r)
-      ∙ by-test (isWrite r)
+      ap (λ (p : Place). answerAt (carries r) f p) (place-seen r)
+      ∙ by-test (carries r)
       (λ w. rw (w, and-false) (write-answer (profile (placeOf Seen r) .writing)))
       (λ w. rw w (read-answer (profile (placeOf Seen r) .reading)))
 
-  effect-there : (r : Record) → effectAt (isWrite r) f (placeOf f r) (r .value) ≡ effectAt (isWrite r) Seen (placeOf Seen r) (r .value)
+  effect-there : (r : Record) → effectAt (carries r) f (placeOf f r) (r .value) ≡ effectAt (carries r) Seen (placeOf Seen r) (r .value)
   unfolding effectAt
   effect-there r =
-      ap (λ (p : Place). effectAt (isWrite r) f p (r .value)) (place-seen r)
-      ∙ ap₂ (λ (a b : Effect). cond (isWrite r) a b) (write-effect (profile (placeOf Seen r) .writing) (r .value)) (read-effect (profile (placeOf Seen r) .reading))
+      ap (λ (p : Place). effectAt (carries r) f p (r .value)) (place-seen r)
+      ∙ ap₂ (λ (a b : Effect). cond (carries r) a b) (write-effect (profile (placeOf Seen r) .writing) (r .value)) (read-effect (profile (placeOf Seen r) .reading))
 
   -- a refusal shows no pixel
   shown-refused : (pixel : Bool) (a : Answer) → refused a ≡ true → Shown pixel a ≡ a
@@ -158,8 +164,8 @@ module _ (f : File) where
   unfolding answer asksPixel
   answer-seen r =
       ap (firstRefusal checks f r) (answer-there r)
-      ∙ checks-seen r (Shown (Pixel r) (answerAt (isWrite r) Seen (placeOf Seen r)))
-      ∙ shown-behind (Pixel r) checks r (answerAt (isWrite r) Seen (placeOf Seen r)) checks-refuse
+      ∙ checks-seen r (Shown (Pixel r) (answerAt (carries r) Seen (placeOf Seen r)))
+      ∙ shown-behind (Pixel r) checks r (answerAt (carries r) Seen (placeOf Seen r)) checks-refuse
 
   refused-seen : (r : Record) → refused (answer f r) ≡ refused (answer Seen r)
   unfolding asksPixel
@@ -171,7 +177,7 @@ module _ (f : File) where
 
   pub asks-seen : (r : Record) → asksPixel f r ≡ asksPixel Seen r
   unfolding asksPixel
-  asks-seen r = ap₂ (λ (b : Bool) (p : Place). not b && (not (isWrite r) && readsPixel (profile p .reading))) (refused-seen r) (place-seen r)
+  asks-seen r = ap₂ (λ (b : Bool) (p : Place). not b && (not (carries r) && readsPixel (profile p .reading))) (refused-seen r) (place-seen r)
 
   -- the decision, where the pixel's component is put in
   pub decision-seen : (r : Record)

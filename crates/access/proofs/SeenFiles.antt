@@ -12,11 +12,11 @@ use Rattle.file.specs.File.{register, seen, black}
 use Rattle.file.specs.Palette.{byColour, component}
 use Rattle.file.specs.State.{unasked}
 use Rattle.places.specs.EngineCells.{cellPlace}
-use Rattle.places.specs.Profile.{profile}
-use Rattle.access.specs.declared.engine.Looked.the-variants.{Refused, At}
+use Rattle.places.specs.Profile.{passesLines, profile}
+use Rattle.access.specs.declared.engine.Looked.the-variants.{Refused, At, Lines}
 use Rattle.access.specs.declared.record.Record.{Record}
 use Rattle.access.specs.Access.{inBank, entry, shownIn}
-use Rattle.access.specs.Checks.{isWrite, malformed, spaceOff}
+use Rattle.access.specs.Checks.{isWrite, spaceOff}
 use Rattle.access.specs.Engine.{otherRow, lookedBy, decidedWrite, decidedRead, decidedAt, decidedFrom, decidedBy}
 
 all-black : (n : ℕ) → component black n ≡ 0
@@ -32,7 +32,7 @@ none-shown registers state =
 
 -- the checks don't look at the state
 pub looked-alike : (cells registers : List ℕ) (state : State) (r : Record) → lookedBy cells (seen registers unasked) r ≡ lookedBy cells (seen registers state) r
-unfolding lookedBy malformed spaceOff otherRow seen register
+unfolding lookedBy spaceOff otherRow seen register
 looked-alike cells registers state r = refl
 
 -- ---- what the engine decides, by what the checks say
@@ -41,6 +41,11 @@ module _ (cells stored : List ℕ) (f : File) (r : Record) where
   pub decided-refused : (a : Answer) → lookedBy cells f r ≡ Refused a → decidedBy cells stored f r ≡ record { answer = a; effect = Nothing; pixel = false }
   unfolding decidedBy decidedFrom
   decided-refused a e = ap (decidedFrom cells stored f r) e
+
+  -- 02, 10/13
+  pub decided-lines : lookedBy cells f r ≡ Lines → decidedBy cells stored f r ≡ decidedWrite stored f passesLines (r .value)
+  unfolding decidedBy decidedFrom
+  decided-lines e = ap (decidedFrom cells stored f r) e
 
   module _ (cell : ℕ) (e : lookedBy cells f r ≡ At cell) where
     decided-there : decidedBy cells stored f r ≡ decidedAt stored (isWrite r) f (cellPlace cells f cell) (r .value)

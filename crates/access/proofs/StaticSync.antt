@@ -17,10 +17,10 @@ use Rattle.file.specs.Answers.{codeOf, refused}
 use Rattle.file.specs.Effects.{apply}
 use Rattle.file.specs.File.{register}
 use Rattle.file.specs.Names.{CR1A, B0}
-use Rattle.places.specs.Profile.{Reading, givesHeld, givesFixed, givesDeviceId, givesToggle, givesPaletteState, givesVPortState, givesDacState, givesAddress, givesPixel, resetsToggle, namesNothing, Writing, storesTo, readOnly, setsAddress, writesPixel, storesNothing, profile}
+use Rattle.places.specs.Profile.{Reading, givesHeld, givesFixed, givesDeviceId, givesToggle, givesPaletteState, givesVPortState, givesDacState, givesAddress, givesPixel, resetsToggle, givesLine, namesNothing, Writing, storesTo, readOnly, setsAddress, writesPixel, storesNothing, passesLines, profile}
 use Rattle.access.specs.declared.record.Record.{Record}
 use Rattle.access.specs.Access.{placeOf, reachIn, paletteUp, readAnswer, writeAnswer, answerAt, readEffect, writeEffect, effectAt, answer, effect, access}
-use Rattle.access.specs.Checks.{isWrite}
+use Rattle.access.specs.Checks.{carries}
 use Rattle.access.specs.Promises.{Stopped, SameColours}
 use Rattle.access.proofs.Codes.{place-answers}
 
@@ -64,6 +64,7 @@ module _ (f : File) (down : paletteUp f ≡ false) where
   read-keeps givesAddress n = nothing-keeps
   read-keeps givesPixel n = absurd (true≢false (rw down at n))
   read-keeps resetsToggle n = record { palette = refl; bank = refl; marks = refl }
+  read-keeps givesLine n = nothing-keeps
   read-keeps namesNothing n = nothing-keeps
 
   write-keeps : (writing : Writing) (value : ℕ) → refused (writeAnswer f writing) ≡ false → Keeps (writeEffect (reachIn f) f writing value)
@@ -74,6 +75,7 @@ module _ (f : File) (down : paletteUp f ≡ false) where
   write-keeps writesPixel value n = absurd (true≢false (rw down at n))
   write-keeps (storesNothing true) value n = record { palette = refl; bank = refl; marks = refl }
   write-keeps (storesNothing false) value n = nothing-keeps
+  write-keeps passesLines value n = record { palette = refl; bank = refl; marks = refl }
 
   effect-keeps : (r : Record) → Keeps (effect f r)
   unfolding effect effectAt answerAt
@@ -82,7 +84,7 @@ module _ (f : File) (down : paletteUp f ≡ false) where
       (λ e.
       let there = sym (ap refused (place-answers f r e)) ∙ e in
       rw e
-      (by-test (isWrite r)
+      (by-test (carries r)
       (λ w. rw w (write-keeps (profile (placeOf f r) .writing) (r .value) (rw w at there)))
       (λ w. rw w (read-keeps (profile (placeOf f r) .reading) (rw w at there)))))
 

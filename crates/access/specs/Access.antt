@@ -1,14 +1,14 @@
 -- One access: its answer and its effect, computed from the file by what its place is; the effect applied.
 -- Assumes nothing.
-use Prim.Native.Nat.{ℕ, _%_}
+use Prim.Native.Nat.{ℕ, _+_, _%_}
 use mathlib.Core.Bool.{Bool, true, false, cond, not, _&&_}
-use lib.Dec.{eqb, leb}
+use lib.Dec.{eqb, leb, ltb}
 use lib.ListN.{getD}
 use Rattle.bits.specs.Store.{bit, store}
 use Rattle.file.specs.declared.answer.Answer.{Answer}
 use Rattle.file.specs.declared.answer.Answer.the-variants.{Done, NoRegister, Malformed, ReadOnly, Locked, PaletteDown, NotSound}
 use Rattle.file.specs.declared.effect.Effect.{Effect}
-use Rattle.file.specs.declared.effect.Effect.the-variants.{Nothing, Store, Toggle, Move, Step, Paint}
+use Rattle.file.specs.declared.effect.Effect.the-variants.{Nothing, Store, Toggle, Move, Step, Paint, Pass}
 use Rattle.file.specs.declared.effect.Reach.{Reach}
 use Rattle.file.specs.declared.palette.Colour.{Colour}
 use Rattle.file.specs.declared.registers.File.{File}
@@ -22,14 +22,15 @@ use Rattle.file.specs.Registers.{storedBits}
 use Rattle.file.specs.Sound.{sound}
 use Rattle.places.specs.declared.place.Place.{Place}
 use Rattle.places.specs.Lookup.{placeAt}
-use Rattle.places.specs.Profile.{Reading, givesHeld, givesFixed, givesDeviceId, givesToggle, givesPaletteState, givesVPortState, givesDacState, givesAddress, givesPixel, resetsToggle, namesNothing, Writing, storesTo, readOnly, setsAddress, writesPixel, storesNothing, profile}
+use Rattle.timing.specs.Timing.{timingIn}
+use Rattle.places.specs.Profile.{Reading, givesHeld, givesFixed, givesDeviceId, givesToggle, givesPaletteState, givesVPortState, givesDacState, givesAddress, givesPixel, resetsToggle, givesLine, namesNothing, Writing, storesTo, readOnly, setsAddress, writesPixel, storesNothing, passesLines, profile}
 use Rattle.access.specs.declared.access.Accessed.{Accessed}
 use Rattle.access.specs.declared.access.ReachRead.{ReachRead}
 use Rattle.access.specs.declared.record.Item.{Item}
 use Rattle.access.specs.declared.record.Item.the-variants.{Whole, Fragment}
 use Rattle.access.specs.declared.record.Record.{Record}
 use Rattle.access.specs.declared.record.Reply.{Reply}
-use Rattle.access.specs.Checks.{isWrite, checks, firstRefusal}
+use Rattle.access.specs.Checks.{carries, checks, firstRefusal}
 
 -- the place that a record finds in a file
 unfoldable pub placeOf : File → Record → Place
@@ -74,6 +75,39 @@ shownState = 0x07
 unfoldable pub vPortState : File → ℕ
 vPortState f = store (vPortShown (f .state .chip)) (register f captureYStart) (vPortShown (f .state .chip))
 
+-- 02, 10/13, 'the V total of that moment', and the other numbers that a line is held to: those that timing reads
+unfoldable pub vTotal : File → ℕ
+vTotal f = timingIn f .«v_total» .0
+
+unfoldable pub vDisplay : File → ℕ
+vDisplay f = timingIn f .«v_display» .0
+
+unfoldable pub vSyncStart : File → ℕ
+vSyncStart f = timingIn f .«v_sync_start» .0
+
+unfoldable pub vSyncEnd : File → ℕ
+vSyncEnd f = timingIn f .«v_sync_end» .0
+
+-- 02, 10/13, 'Both reads show the line reduced by the total'
+unfoldable pub lineShown : File → ℕ
+lineShown f = f .state .line % vTotal f
+
+-- 02, 10/13, 'The line rises modulo the V total of that moment; a line beyond a shortened total is first reduced by it'
+unfoldable pub lineAfter : File → ℕ → ℕ
+lineAfter f lines = (lineShown f + lines) % vTotal f
+
+-- 02, 10/13, 'bit 3 while the line is at or past V sync start and before V sync end'
+unfoldable pub inSync : File → Bool
+inSync f = leb (vSyncStart f) (lineShown f) && ltb (lineShown f) (vSyncEnd f)
+
+-- 'and bit 0 while it is at or past V display'
+unfoldable pub pastDisplay : File → Bool
+pastDisplay f = leb (vDisplay f) (lineShown f)
+
+-- 02, 10/13: what 3?Ah reads, where 01's base 'gives 0'
+unfoldable pub displayState : File → ℕ
+displayState f = cond (inSync f) 0x08 0x00 + cond (pastDisplay f) 0x01 0x00
+
 -- what a read answers: 'then 1 or .. 9', or done with what was read
 unfoldable pub readAnswer : File → Reading → Answer
 readAnswer f (givesHeld number) = Done (register f number)
@@ -85,18 +119,20 @@ readAnswer f givesVPortState = Done (vPortState f)
 readAnswer f givesDacState = Done (dacState (f .state .pointer))
 readAnswer f givesAddress = Done (f .state .pointer .address)
 readAnswer f givesPixel = cond (paletteUp f) (Done (shownIn f)) PaletteDown
-readAnswer f resetsToggle = Done 0
+readAnswer f resetsToggle = Done (displayState f)
+readAnswer f givesLine = Done (lineShown f)
 readAnswer f namesNothing = NoRegister
 
--- what a write answers: 'then 1 or 7 or 8 or 9', or done
+-- what a write answers: 'then 1 or 7 or 8 or 9', or done; 02, 10/13: 'Kind 6 replies 0 with value 0'
 unfoldable pub writeAnswer : File → Writing → Answer
 writeAnswer f (storesTo number flips) = cond (lockedOut f number) Locked (Done 0)
 writeAnswer f readOnly = ReadOnly
 writeAnswer f (setsAddress reading) = Done 0
 writeAnswer f writesPixel = cond (paletteUp f) (Done 0) PaletteDown
 writeAnswer f (storesNothing flips) = NoRegister
+writeAnswer f passesLines = Done 0
 
--- what a place answers to a write (true) or a read
+-- what a place answers to a record that brings a value (true) or to a read
 unfoldable pub answerAt : Bool → File → Place → Answer
 unfolding profile writeAnswer readAnswer
 answerAt write f place = cond write (writeAnswer f (profile place .writing)) (readAnswer f (profile place .reading))
@@ -108,16 +144,17 @@ pixelWrite f byte =
     (Paint (inBank f) (entryNumber f) (afterWrite (f .state .pointer) byte) (mixed (f .state .pointer) byte) (marksFrom false (f .state .pointer)))
     (Step (afterWrite (f .state .pointer) byte) (marksFrom false (f .state .pointer)))
 
--- what a write does, given the bits of each register that it may change
+-- what a write does, given the bits of each register that it may change; 02, 10/13: and lines that pass
 unfoldable pub writeEffect : (ℕ → ℕ) → File → Writing → ℕ → Effect
 writeEffect reach f (storesTo number flips) value = Store flips number (reach number) value
 writeEffect reach f readOnly value = Nothing
 writeEffect reach f (setsAddress reading) value = Move (addressed reading value)
 writeEffect reach f writesPixel value = pixelWrite f value
 writeEffect reach f (storesNothing flips) value = cond flips (Toggle (not (f .state .toggle))) Nothing
+writeEffect reach f passesLines value = Pass (lineAfter f value)
 
 -- what a read does: '3?Ah read (.. sets the toggle to index)', and a 3C9h read moves the pointer and becomes the last 3C9h access
--- (02, 1/13)
+-- (02, 1/13); reads that show the line 'store nothing of it' (02, 10/13)
 unfoldable pub readEffect : File → Reading → Effect
 readEffect f (givesHeld number) = Nothing
 readEffect f (givesFixed value) = Nothing
@@ -129,6 +166,7 @@ readEffect f givesDacState = Nothing
 readEffect f givesAddress = Nothing
 readEffect f givesPixel = Step (afterRead (f .state .pointer)) (marksFrom true (f .state .pointer))
 readEffect f resetsToggle = Toggle false
+readEffect f givesLine = Nothing
 readEffect f namesNothing = Nothing
 
 -- what an access to a place does
@@ -139,11 +177,11 @@ effectAt write f place value =
 
 -- the answer to a record
 unfoldable pub answer : File → Record → Answer
-answer f r = firstRefusal checks f r (answerAt (isWrite r) f (placeOf f r))
+answer f r = firstRefusal checks f r (answerAt (carries r) f (placeOf f r))
 
 -- 'Codes from 2 up leave the file as given'
 unfoldable pub effect : File → Record → Effect
-effect f r = cond (refused (answer f r)) Nothing (effectAt (isWrite r) f (placeOf f r) (r .value))
+effect f r = cond (refused (answer f r)) Nothing (effectAt (carries r) f (placeOf f r) (r .value))
 
 -- what a record may change in the file
 unfoldable pub reach : File → Record → Reach

@@ -1,4 +1,5 @@
--- 01, the table of codes and 'Access checks run 12, 2, 3, 4, 5, 6, then 1 or 7 or 8 or 9'; 02, 2/13, 'Code 4 is too coarse'.
+-- 01, the table of codes and 'Access checks run 12, 2, 3, 4, 5, 6, then 1 or 7 or 8 or 9'; 02, 2/13, 'Code 4 is too coarse', and 10/13, 'Let lines pass in a
+-- trace'.
 -- Assumes nothing.
 use Prim.Native.Nat.{ℕ, _/_, _%_, _^_}
 use mathlib.Core.Bool.{Bool, true, false, cond, not, _&&_, _||_}
@@ -20,6 +21,18 @@ use Rattle.places.specs.Places.{Row, places}
 unfoldable pub isWrite : Record → Bool
 isWrite r = eqb (r .kind % 2) 1
 
+-- 02, 10/13, 'Add kind 6: .. that many scanlines pass'
+unfoldable pub isPassing : Record → Bool
+isPassing r = eqb (r .kind) 6
+
+-- 01's kinds, 0 to 5: an ordinary access, as demand 3 has it of a plan
+unfoldable pub ordinary : Record → Bool
+ordinary r = ltb (r .kind) 6
+
+-- a record that brings its place a value: a write, or lines that pass
+unfoldable pub carries : Record → Bool
+carries r = isWrite r || isPassing r
+
 unfoldable pub isPort : Record → Bool
 isPort r = eqb (r .kind / 2) 1
 
@@ -30,14 +43,20 @@ isMmio r = eqb (r .kind / 2) 2
 unfoldable pub notSound : File → Record → Bool
 notSound f r = not (sound f)
 
--- code 2: 'kind over 5; width not 1 or 2; a write's value that doesn't fit the width; a read's value not 0'
-unfoldable pub malformed : File → Record → Bool
-malformed f r =
-    ltb 5 (r .kind)
-    || not (eqb (r .width) 1 || eqb (r .width) 2)
-    || cond (isWrite r) (leb (256 ^ r .width) (r .value)) (not (eqb (r .value) 0))
+-- 'width not 1 or 2; a write's value that doesn't fit the width; a read's value not 0'
+unfoldable pub badAccess : Record → Bool
+badAccess r =
+    not (eqb (r .width) 1 || eqb (r .width) 2) || cond (isWrite r) (leb (256 ^ r .width) (r .value)) (not (eqb (r .value) 0))
 
--- code 3: 'port access with PCI04[0]=0, or MMIO access with PCI04[1]=0'
+-- 02, 10/13: other than 'kind 6: width 2, address 0, value 1 to 65,535'
+unfoldable pub badPassing : Record → Bool
+badPassing r = not (eqb (r .width) 2 && eqb (r .address) 0 && leb 1 (r .value) && leb (r .value) 65535)
+
+-- code 2: 'kind over 5', by 02, 10/13 '2 for a kind 6 record of another form, and for kinds over 6'
+unfoldable pub malformed : File → Record → Bool
+malformed f r = ltb 6 (r .kind) || cond (isPassing r) (badPassing r) (badAccess r)
+
+-- code 3: 'port access with PCI04[0]=0, or MMIO access with PCI04[1]=0'; 02, 10/13: kind 6 'needs no space enabled'
 unfoldable pub spaceOff : File → Record → Bool
 spaceOff f r =
     isPort r && eqb (bit 0 (register f PCI04)) 0 || isMmio r && eqb (bit 1 (register f PCI04)) 0
@@ -52,10 +71,10 @@ notHeld f r = noRow (rowAt f (r .kind) (r .address))
 
 -- codes 16 and 17, of addresses that are not held; 02, 2/13: 'the address is held in the other direction only; it falls inside a wider register'
 unfoldable pub otherDirection : File → Record → Bool
-otherDirection f r = notHeld f r && heldIn places (otherWay (r .kind)) (r .address)
+otherDirection f r = notHeld f r && heldIn (places (f .state .chip)) (otherWay (r .kind)) (r .address)
 
 unfoldable pub insideWider : File → Record → Bool
-insideWider f r = notHeld f r && insideIn places (r .kind) (r .address)
+insideWider f r = notHeld f r && insideIn (places (f .state .chip)) (r .kind) (r .address)
 
 -- code 5: '3B4h/3B5h/3BAh while MISC[0]=1, or 3D4h/3D5h/3DAh while it is 0'
 unfoldable pub otherHalf : File → Record → Bool

@@ -4,7 +4,7 @@
 use Prim.Native.Nat.{ℕ, _/_}
 use mathlib.Core.Bool.{Bool, true, false, cond, not, _&&_, _||_}
 use mathlib.Core.List.{List}
-use lib.Dec.{eqb}
+use lib.Dec.{eqb, ltb}
 use lib.ListN.{getD}
 use Rattle.bits.specs.Store.{bit}
 use Rattle.file.specs.declared.answer.Answer.{Answer}
@@ -17,13 +17,13 @@ use Rattle.file.specs.File.{register, crtcLocked}
 use Rattle.file.specs.Names.{MISC, CR7}
 use Rattle.places.specs.declared.place.Place.{Place}
 use Rattle.places.specs.EngineCells.{otherWayHeld, widerHeld, isNothing, cellIn, cellWidth, cellPlace, taken}
-use Rattle.places.specs.Profile.{Reading, Writing, profile, readsPixel}
+use Rattle.places.specs.Profile.{Reading, Writing, passesLines, profile, readsPixel}
 use Rattle.access.specs.declared.engine.Decision.{Decision}
 use Rattle.access.specs.declared.engine.Looked.{Looked}
-use Rattle.access.specs.declared.engine.Looked.the-variants.{Refused, At}
+use Rattle.access.specs.declared.engine.Looked.the-variants.{Refused, At, Lines}
 use Rattle.access.specs.declared.record.Record.{Record}
 use Rattle.access.specs.Access.{lockedReach, paletteUp, readAnswer, writeAnswer, readEffect, writeEffect, answer, effect, placeOf}
-use Rattle.access.specs.Checks.{isWrite, isPort, malformed, spaceOff}
+use Rattle.access.specs.Checks.{isWrite, isPassing, carries, isPort, badAccess, badPassing, spaceOff}
 
 -- code 5, of an address that is held: of the ports, 3B?h and 3D?h are the CRTC's
 unfoldable pub otherRow : File → Record → Bool
@@ -35,11 +35,19 @@ otherRow f r =
 unfoldable pub nothingTold : ℕ → Answer
 nothingTold cell = cond (eqb cell otherWayHeld) OtherDirection (cond (eqb cell widerHeld) InsideWider NotHeld)
 
--- 'Access checks run .. 2, 3, 4, 5, 6', by the cell of the record's kind and address
+-- a record that is no ordinary access in good form
+unfoldable pub noAccess : Record → Bool
+noAccess r = ltb 5 (r .kind) || badAccess r
+
+-- 02, 10/13: a record of kind 6 in good form
+unfoldable pub linesPass : Record → Bool
+linesPass r = isPassing r && not (badPassing r)
+
+-- 'Access checks run .. 2, 3, 4, 5, 6', by the cell of the record's kind and address; lines that pass are told among what is no access, and have no cell
 unfoldable pub lookedBy : List ℕ → File → Record → Looked
 lookedBy cells f r =
     let cell = cellIn cells (r .kind) (r .address) in
-    cond (malformed f r) (Refused Malformed)
+    cond (noAccess r) (cond (linesPass r) Lines (Refused Malformed))
     (cond (spaceOff f r) (Refused SpaceOff)
     (cond (isNothing cell) (Refused (nothingTold cell))
     (cond (otherRow f r) (Refused OtherHalf) (cond (eqb (cellWidth cell) (r .width)) (At cell) (Refused WrongWidth)))))
@@ -66,13 +74,14 @@ decidedAt stored write f place value =
 unfoldable pub decidedFrom : List ℕ → List ℕ → File → Record → Looked → Decision
 decidedFrom cells stored f r (Refused a) = record { answer = a; effect = Nothing; pixel = false }
 decidedFrom cells stored f r (At cell) = decidedAt stored (isWrite r) f (cellPlace cells f cell) (r .value)
+decidedFrom cells stored f r Lines = decidedWrite stored f passesLines (r .value)
 
 unfoldable pub decidedBy : List ℕ → List ℕ → File → Record → Decision
 decidedBy cells stored f r = decidedFrom cells stored f r (lookedBy cells f r)
 
 -- a record that is answered with a pixel's component
 unfoldable pub asksPixel : File → Record → Bool
-asksPixel f r = not (refused (answer f r)) && (not (isWrite r) && readsPixel (profile (placeOf f r) .reading))
+asksPixel f r = not (refused (answer f r)) && (not (carries r) && readsPixel (profile (placeOf f r) .reading))
 
 -- the answer and the effect of a record by the rules
 unfoldable pub decision : File → Record → Decision

@@ -27,6 +27,10 @@ turned r = record { kind = otherWay (r .kind); width = r .width; address = r .ad
 abbrev pub seventh : ℕ → Record
 seventh value = record { kind = 5; width = 1; address = 0x1C; value = value }
 
+-- 02, 10/13, 'kind 6: width 2, address 0': so many lines pass
+abbrev pub passing : ℕ → Record
+passing lines = record { kind = 6; width = 2; address = 0; value = lines }
+
 -- 02, 7/13: 'B0[7], CR1A[3] or CR1A[2] is 1'
 abbrev pub Stopped : File → Type 0
 Stopped f = (bit 7 (register f B0) ≡ 1) ⊎ ((bit 3 (register f CR1A) ≡ 1) ⊎ (bit 2 (register f CR1A) ≡ 1))

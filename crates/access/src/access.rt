@@ -65,9 +65,9 @@ fn decide_in(asked: Record, whole: File) -> engine::Decision
     ensures { λ r. ⌜ r ≡ decision whole asked ⌝ }
 {
     let registers = whole.registers;
-    let cells = places::cells();
     let state = whole.state;
     let chip = state.chip;
+    let cells = places::cells(chip);
     let stored = File::stored(chip);
     let decision = engine::decide(&cells, &stored, &registers, state, asked);
     if decision.pixel {

@@ -1,24 +1,23 @@
 // One access in parts: the common checks, then answer and effect by place. Nothing here changes a file; whatever tables are lent, each function answers.
 ghost use mathlib.Core.Path.{_≡_};
 ghost use Prim.Native.Nat.{_%_, _<_};
-ghost use mathlib.Core.Bool.{false, cond};
-ghost use lib.Dec.{T};
+ghost use mathlib.Core.Bool.{false, cond, _&&_};
+ghost use lib.Dec.{T, leb, ltb};
 ghost use lib.ListN.{getD};
 ghost use mathlib.Core.List.{[]};
 ghost use Rattle.file.specs.Chips.{pci02};
-ghost use Rattle.file.specs.File.{seen, crtcLocked, powerOn, bankCount};
+ghost use Rattle.file.specs.File.{seen, crtcLocked, bankCount};
 ghost use Rattle.file.specs.Registers.{registerCount};
 ghost use Rattle.file.specs.State.{unasked};
 ghost use Rattle.file.specs.declared.answer.Answer.the-variants.{Done as DoneAnswer};
-ghost use Rattle.file.specs.declared.chip.Chip.the-variants.{Gd5464};
 ghost use Rattle.file.specs.declared.effect.Effect.the-variants.{Nothing};
 ghost use Rattle.places.specs.EngineCells.{inFile};
-ghost use Rattle.places.specs.Profile.{profile, storesTo, writesPixel, givesPixel};
-ghost use Rattle.access.specs.Access.{lockedOut, paletteUp, inBank, pixelWrite, shownState, vPortState};
+ghost use Rattle.places.specs.Profile.{profile, storesTo, writesPixel, passesLines, givesPixel};
+ghost use Rattle.access.specs.Access.{lockedOut, paletteUp, inBank, pixelWrite, shownState, vPortState, vSyncStart, vSyncEnd, lineShown, lineAfter, displayState};
 ghost use Rattle.bits.specs.Store.{store as storeBits};
 ghost use Rattle.file.specs.Names.{B0 as B0Number};
-ghost use Rattle.access.specs.Checks.{malformed, spaceOff};
-ghost use Rattle.access.specs.Engine.{otherRow, nothingTold, lookedBy, reachBy, decidedWrite, decidedRead, decidedBy};
+ghost use Rattle.access.specs.Checks.{spaceOff};
+ghost use Rattle.access.specs.Engine.{noAccess, linesPass, otherRow, nothingTold, lookedBy, reachBy, decidedWrite, decidedRead, decidedBy};
 use crate::record::Record;
 use file::ARX;
 use file::Answer;
@@ -41,15 +40,16 @@ use places::OTHER_WAY_HELD;
 use places::Place;
 use places::WIDER_HELD;
 
-// What the common checks say: a refusal, or the cell of the place to be asked.
+// What the common checks say: a refusal, the cell of the place to be asked, or that lines pass.
 pub enum Looked {
     Refused(Answer),
     At(u8),
+    Lines,
 }
 
-// Code 2.
-fn is_malformed(asked: Record) -> bool
-    ensures { λ r. ⌜ r ≡ malformed (powerOn Gd5464) asked ⌝ }
+// No ordinary access in good form.
+fn is_no_access(asked: Record) -> bool
+    ensures { λ r. ⌜ r ≡ noAccess asked ⌝ }
 {
     let kind = asked.kind;
     let width = asked.width;
@@ -73,6 +73,29 @@ fn is_malformed(asked: Record) -> bool
         return value != 0;
     }
     true
+}
+
+// Kind 6 in good form: lines pass.
+fn is_passing(asked: Record) -> bool
+    ensures { λ r. ⌜ r ≡ linesPass asked ⌝ }
+{
+    let kind = asked.kind;
+    let width = asked.width;
+    let address = asked.address;
+    let value = asked.value;
+    if kind != 6 {
+        return false;
+    }
+    if width != 2 {
+        return false;
+    }
+    if address != 0 {
+        return false;
+    }
+    if value < 1 {
+        return false;
+    }
+    value <= 65535
 }
 
 // Code 3.
@@ -121,11 +144,14 @@ fn nothing_held(cell: u8) -> Answer
     Answer::NotHeld
 }
 
-// The checks that every record passes before its place is asked, in 01's order.
+// The checks that every record passes before its place is asked, in 01's order. Lines that pass are told among what is no access.
 fn look(cells: &[u8; CELLS], registers: &[u16; REGISTERS], asked: Record) -> Looked
     ensures { λ r. ⌜ r ≡ lookedBy (now (cells .entry)) (seen (now (registers .entry)) unasked) asked ⌝ }
 {
-    if is_malformed(asked) {
+    if is_no_access(asked) {
+        if is_passing(asked) {
+            return Looked::Lines;
+        }
         return Looked::Refused(Answer::Malformed);
     }
     if is_space_off(registers, asked) {
@@ -301,6 +327,35 @@ fn write_pixel(registers: &[u16; REGISTERS], state: State, value: u16) -> Decisi
     }
 }
 
+// The line that the display is at, reduced by the total.
+fn line_shown(registers: &[u16; REGISTERS], state: State) -> u16
+    ensures { λ r. ⌜ r ≡ lineShown (seen (now (registers .entry)) state) ⌝ }
+{
+    state.line % timing::v_total(registers).0
+}
+
+// The line after some more. The sum may pass 16 bits.
+fn line_after(registers: &[u16; REGISTERS], state: State, lines: u16) -> u16
+    ensures { λ r. ⌜ r ≡ lineAfter (seen (now (registers .entry)) state) lines ⌝ }
+{
+    let total = timing::v_total(registers).0;
+    let sum = wide(state.line % total) + wide(lines);
+    (sum % wide(total)) as u16
+}
+
+fn wide(number: u16) -> u32
+    ensures { λ r. ⌜ r ≡ number ⌝ }
+{
+    number as u32
+}
+
+// Lines pass.
+fn pass_lines(registers: &[u16; REGISTERS], state: State, lines: u16) -> Decision
+    ensures { λ r. ⌜ r ≡ decidedWrite [] (seen (now (registers .entry)) state) passesLines lines ⌝ }
+{
+    done(Effect::Pass(line_after(registers, state, lines)))
+}
+
 // A write at a place.
 fn write_at(
     stored: &[u16; REGISTERS],
@@ -331,6 +386,8 @@ fn write_at(
         Place::ToggleReset => only(Answer::ReadOnly),
         Place::DeviceId => only(Answer::ReadOnly),
         Place::VPortState => write_register(stored, registers, CAPTURE_Y_START, false, value),
+        Place::CurrentLine => only(Answer::ReadOnly),
+        Place::Passing => pass_lines(registers, state, value),
     }
 }
 
@@ -376,6 +433,33 @@ fn v_port_state(registers: &[u16; REGISTERS], state: State) -> u16
     bits::store(shown, registers[CAPTURE_Y_START], shown)
 }
 
+// A line is in vertical sync.
+fn is_in_sync(registers: &[u16; REGISTERS], line: u16) -> bool
+    ensures { λ r. ⌜ r ≡ (leb (vSyncStart (seen (now (registers .entry)) unasked)) line && ltb line (vSyncEnd (seen (now (registers .entry)) unasked))) ⌝ }
+{
+    if line < timing::v_sync_start(registers).0 {
+        return false;
+    }
+    line < timing::v_sync_end(registers).0
+}
+
+// What 3?Ah reads: bit 3 in vertical sync, bit 0 past the display.
+fn display_state(registers: &[u16; REGISTERS], state: State) -> u16
+    ensures { λ r. ⌜ r ≡ displayState (seen (now (registers .entry)) state) ⌝ }
+{
+    let line = line_shown(registers, state);
+    let sync = is_in_sync(registers, line);
+    let past = timing::v_display(registers).0 <= line;
+    shown(sync, 0x08) + shown(past, 0x01)
+}
+
+// A bit that reads 1 or not.
+fn shown(on: bool, bit: u16) -> u16
+    ensures { λ r. ⌜ r ≡ cond on bit 0 ⌝ }
+{
+    if on { bit } else { 0 }
+}
+
 // A read at a place.
 fn read_at(registers: &[u16; REGISTERS], state: State, place: Place) -> Decision
     requires { ⌜ T (inFile place) ⌝ }
@@ -392,11 +476,17 @@ fn read_at(registers: &[u16; REGISTERS], state: State, place: Place) -> Decision
         Place::ReadAddress => only(Answer::Done(pointer.dac_state())),
         Place::WriteAddress => only(Answer::Done(pointer.address as u16)),
         Place::PixelData => read_pixel(registers, state),
-        Place::ToggleReset => done(Effect::Toggle(false)),
+        Place::ToggleReset => Decision {
+            answer: Answer::Done(display_state(registers, state)),
+            effect: Effect::Toggle(false),
+            pixel: false,
+        },
         Place::Unnamed => only(Answer::NoRegister),
         Place::UnnamedAttribute => only(Answer::NoRegister),
         Place::DeviceId => only(Answer::Done(device_id(state))),
         Place::VPortState => only(Answer::Done(v_port_state(registers, state))),
+        Place::CurrentLine => only(Answer::Done(line_shown(registers, state))),
+        Place::Passing => only(Answer::NoRegister),
     }
 }
 
@@ -419,6 +509,7 @@ pub fn decide(
 {
     match look(cells, registers, asked) {
         Looked::Refused(answer) => only(answer),
+        Looked::Lines => pass_lines(registers, state, word(asked.value)),
         Looked::At(cell) => {
             let place = places::place_of(cells, registers, state, cell);
             if asked.kind % 2 == 1 {

@@ -1,4 +1,5 @@
-// A record of a trace: 8 bytes, little-endian. The kind is 0 or 1 config read or write, 2 or 3 port, 4 or 5 MMIO.
+// A record of a trace: 8 bytes, little-endian. The kind is 0 or 1 config read or write, 2 or 3 port, 4 or 5 MMIO; 6 lets so many lines pass as the value
+// says.
 pub struct Record {
     pub kind: u8,
     pub width: u8,

@@ -9,7 +9,7 @@ use Rattle.bits.specs.Store.{bit, store}
 use Rattle.bits.proofs.Piece.{stored-outside}
 use Rattle.bits.proofs.Stored.{inside}
 use Rattle.file.specs.declared.effect.Effect.{Effect}
-use Rattle.file.specs.declared.effect.Effect.the-variants.{Nothing, Store, Toggle, Move, Step, Paint}
+use Rattle.file.specs.declared.effect.Effect.the-variants.{Nothing, Store, Toggle, Move, Step, Paint, Pass}
 use Rattle.file.specs.declared.registers.File.{File}
 use Rattle.file.specs.Effects.{apply, reachOf, storeIn}
 use Rattle.file.specs.File.{register, black}
@@ -27,7 +27,7 @@ stored-inside f number reach value i h e =
 pub same-outside : (e : Effect) (f : File) → SameOutside (reachOf e) f (apply e f)
 unfolding reachOf apply register
 same-outside Nothing f =
-    record { registers = λ n i h. refl; palette = λ n h. refl; bank = λ n h. refl; pointer = λ h. refl; marks = λ h. refl; toggle = λ h. refl; chip = refl }
+    record { registers = λ n i h. refl; palette = λ n h. refl; bank = λ n h. refl; pointer = λ h. refl; marks = λ h. refl; toggle = λ h. refl; line = λ h. refl; chip = refl }
 same-outside (Store flips number reach value) f =
     record {
       registers = stored-outside (f .registers) number reach value;
@@ -36,12 +36,13 @@ same-outside (Store flips number reach value) f =
       pointer = λ h. refl;
       marks = λ h. refl;
       toggle = λ h. rw h refl;
+      line = λ h. refl;
       chip = refl;
     }
 same-outside (Toggle toggle) f =
-    record { registers = λ n i h. refl; palette = λ n h. refl; bank = λ n h. refl; pointer = λ h. refl; marks = λ h. refl; toggle = λ h. absurd (true≢false h); chip = refl }
+    record { registers = λ n i h. refl; palette = λ n h. refl; bank = λ n h. refl; pointer = λ h. refl; marks = λ h. refl; toggle = λ h. absurd (true≢false h); line = λ h. refl; chip = refl }
 same-outside (Move pointer) f =
-    record { registers = λ n i h. refl; palette = λ n h. refl; bank = λ n h. refl; pointer = λ h. absurd (true≢false h); marks = λ h. refl; toggle = λ h. refl; chip = refl }
+    record { registers = λ n i h. refl; palette = λ n h. refl; bank = λ n h. refl; pointer = λ h. absurd (true≢false h); marks = λ h. refl; toggle = λ h. refl; line = λ h. refl; chip = refl }
 same-outside (Step pointer marks) f =
     record {
       registers = λ n i h. refl;
@@ -50,6 +51,7 @@ same-outside (Step pointer marks) f =
       pointer = λ h. absurd (true≢false h);
       marks = λ h. absurd (true≢false h);
       toggle = λ h. refl;
+      line = λ h. refl;
       chip = refl;
     }
 same-outside (Paint true entry pointer colour marks) f =
@@ -60,6 +62,7 @@ same-outside (Paint true entry pointer colour marks) f =
       pointer = λ h. absurd (true≢false h);
       marks = λ h. absurd (true≢false h);
       toggle = λ h. refl;
+      line = λ h. refl;
       chip = refl;
     }
 same-outside (Paint false entry pointer colour marks) f =
@@ -70,5 +73,17 @@ same-outside (Paint false entry pointer colour marks) f =
       pointer = λ h. absurd (true≢false h);
       marks = λ h. absurd (true≢false h);
       toggle = λ h. refl;
+      line = λ h. refl;
+      chip = refl;
+    }
+same-outside (Pass line) f =
+    record {
+      registers = λ n i h. refl;
+      palette = λ n h. refl;
+      bank = λ n h. refl;
+      pointer = λ h. refl;
+      marks = λ h. refl;
+      toggle = λ h. refl;
+      line = λ h. absurd (true≢false h);
       chip = refl;
     }

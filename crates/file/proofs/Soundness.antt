@@ -17,7 +17,7 @@ use Rattle.bits.proofs.Test.{left, right, both, by-test, and-assoc, and-true}
 use Rattle.file.specs.declared.chip.Chip.{Chip}
 use Rattle.file.specs.declared.chip.Chip.the-variants.{Gd5462, Gd5464}
 use Rattle.file.specs.declared.effect.Effect.{Effect}
-use Rattle.file.specs.declared.effect.Effect.the-variants.{Nothing, Store, Toggle, Move, Step, Paint}
+use Rattle.file.specs.declared.effect.Effect.the-variants.{Nothing, Store, Toggle, Move, Step, Paint, Pass}
 use Rattle.file.specs.declared.palette.Colour.{Colour}
 use Rattle.file.specs.declared.palette.Pointer.{Pointer}
 use Rattle.file.specs.declared.registers.File.{File}
@@ -28,7 +28,7 @@ use Rattle.file.specs.File.{register, powerOn}
 use Rattle.file.specs.Palette.{byColour, addressed, moved, afterWrite, afterRead, marksOf, markedRead, markedColour, marksFrom, marksSound, pointerSound}
 use Rattle.file.specs.Registers.{registerCount, storedBits, storedTable}
 use Rattle.file.specs.Sound.{allWithin, sound, keeps}
-use Rattle.file.specs.State.{pointing, stepping, toggling, stateSound}
+use Rattle.file.specs.State.{pointing, stepping, toggling, passing, lastLine, stateSound}
 
 -- a register of a sound file is within its row
 pub at : (table values : List ℕ) (number : ℕ) → T (allWithin table values) → T (within (getD table number 0) (getD values number 0))
@@ -146,26 +146,51 @@ pub sound-by : (f : File) → T (allWithin (storedTable (f .state .chip)) (f .re
 unfolding sound
 sound-by f = both (allWithin (storedTable (f .state .chip)) (f .registers)) (stateSound (f .state))
 
+-- the three parts of a sound state
+marks-of : (s : State) → T (stateSound s) → T (marksSound (s .marks))
+unfolding stateSound
+marks-of s h =
+    left (marksSound (s .marks)) (pointerSound (s .pointer)) (left (marksSound (s .marks) && pointerSound (s .pointer)) (leb (s .line) lastLine) h)
+
+pointer-of : (s : State) → T (stateSound s) → T (pointerSound (s .pointer))
+unfolding stateSound
+pointer-of s h =
+    right (marksSound (s .marks)) (pointerSound (s .pointer)) (left (marksSound (s .marks) && pointerSound (s .pointer)) (leb (s .line) lastLine) h)
+
+line-of : (s : State) → T (stateSound s) → T (leb (s .line) lastLine)
+unfolding stateSound
+line-of s h = right (marksSound (s .marks) && pointerSound (s .pointer)) (leb (s .line) lastLine) h
+
+of-parts : (s : State) → T (marksSound (s .marks) && pointerSound (s .pointer)) → T (leb (s .line) lastLine) → T (stateSound s)
+unfolding stateSound
+of-parts s t l = both (marksSound (s .marks) && pointerSound (s .pointer)) (leb (s .line) lastLine) t l
+
 -- a state with a part anew
 pub pointing-sound : (p : Pointer) (s : State) → T (pointerSound p) → T (stateSound s) → T (stateSound (pointing p s))
-unfolding stateSound pointing
-pointing-sound p s t h = both (marksSound (s .marks)) (pointerSound p) (left (marksSound (s .marks)) (pointerSound (s .pointer)) h) t
+unfolding pointing
+pointing-sound p s t h = of-parts (pointing p s) (both (marksSound (s .marks)) (pointerSound p) (marks-of s h) t) (line-of s h)
 
-pub stepping-sound : (p : Pointer) (m : ℕ) (s : State) → T (marksSound m && pointerSound p) → T (stateSound (stepping p m s))
-unfolding stateSound stepping
-stepping-sound p m s t = t
+pub stepping-sound : (p : Pointer) (m : ℕ) (s : State) → T (marksSound m && pointerSound p) → T (stateSound s) → T (stateSound (stepping p m s))
+unfolding stepping
+stepping-sound p m s t h = of-parts (stepping p m s) t (line-of s h)
+
+pub passing-sound : (line : ℕ) (s : State) → T (leb line lastLine) → T (stateSound s) → T (stateSound (passing line s))
+unfolding passing
+passing-sound line s t h = of-parts (passing line s) (both (marksSound (s .marks)) (pointerSound (s .pointer)) (marks-of s h) (pointer-of s h)) t
 
 pub toggling-sound : (toggle : Bool) (s : State) → T (stateSound s) → T (stateSound (toggling toggle s))
 unfolding stateSound toggling
 toggling-sound toggle s h = h
 
 pub pointer-sound : (f : File) → T (sound f) → T (pointerSound (f .state .pointer))
-unfolding stateSound
-pointer-sound f s = right (marksSound (f .state .marks)) (pointerSound (f .state .pointer)) (state-sound f s)
+pointer-sound f s = pointer-of (f .state) (state-sound f s)
 
 pub marks-sound : (f : File) → T (sound f) → T (marksSound (f .state .marks))
-unfolding stateSound
-marks-sound f s = left (marksSound (f .state .marks)) (pointerSound (f .state .pointer)) (state-sound f s)
+marks-sound f s = marks-of (f .state) (state-sound f s)
+
+-- 02, 10/13: 'sound up to 2,048'
+pub line-sound : (f : File) → T (sound f) → f .state .line ≤ lastLine
+line-sound f s = leb→le (f .state .line) lastLine (line-of (f .state) (state-sound f s))
 
 -- the marks of an access from any pointer
 marks-by : (reading : Bool) (next : ℕ) → T (marksSound (marksOf reading (byColour next 0 1 2)))
@@ -226,11 +251,12 @@ apply-sound (Store flips number reach value) f k s =
     (toggling-sound (cond flips (not (f .state .toggle)) (f .state .toggle)) (f .state) (state-sound f s))
 apply-sound (Toggle toggle) f k s = sound-by (apply (Toggle toggle) f) (registers-sound f s) (toggling-sound toggle (f .state) (state-sound f s))
 apply-sound (Move pointer) f k s = sound-by (apply (Move pointer) f) (registers-sound f s) (pointing-sound pointer (f .state) k (state-sound f s))
-apply-sound (Step pointer marks) f k s = sound-by (apply (Step pointer marks) f) (registers-sound f s) (stepping-sound pointer marks (f .state) k)
+apply-sound (Step pointer marks) f k s = sound-by (apply (Step pointer marks) f) (registers-sound f s) (stepping-sound pointer marks (f .state) k (state-sound f s))
 apply-sound (Paint bank entry pointer colour marks) f k s =
     sound-by (apply (Paint bank entry pointer colour marks) f)
     (subst (λ (l : List ℕ). T (allWithin (storedTable (f .state .chip)) l)) (sym (paint-keeps f bank entry colour)) (registers-sound f s))
-    (stepping-sound pointer marks (f .state) k)
+    (stepping-sound pointer marks (f .state) k (state-sound f s))
+apply-sound (Pass line) f k s = sound-by (apply (Pass line) f) (registers-sound f s) (passing-sound line (f .state) k (state-sound f s))
 
 -- 02, 6/13: no effect changes the chip
 pub apply-chip : (e : Effect) (f : File) → apply e f .state .chip ≡ f .state .chip
@@ -241,10 +267,11 @@ apply-chip (Toggle toggle) f = refl
 apply-chip (Move pointer) f = refl
 apply-chip (Step pointer marks) f = refl
 apply-chip (Paint bank entry pointer colour marks) f = refl
+apply-chip (Pass line) f = refl
 
 -- the file at power-on is sound
 pub powerOn-sound : (chip : Chip) → T (sound (powerOn chip))
-unfolding sound stateSound powerOn vPortAtPowerOn allWithin storedTable within store marksSound pointerSound
+unfolding sound stateSound lastLine powerOn vPortAtPowerOn allWithin storedTable within store marksSound pointerSound
 powerOn-sound Gd5462 = tt
 powerOn-sound Gd5464 = tt
 

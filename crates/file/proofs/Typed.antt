@@ -23,4 +23,4 @@ bank-count f vs g = sym (length-map (f .bank) _) ∙ g .1 .1 .1 .1 .0 .1 .0 .1
 
 -- and the pointer's address is a byte
 pub address-byte : (f : File) (vs : List Val) → Is (row the-type) f vs → f .state .pointer .address < 256
-address-byte f vs g = g .1 .1 .1 .1 .1 .0 .1 .1 .0 .1 .1 .0 .1
+address-byte f vs g = g .1 .1 .1 .1 .1 .0 .1 .1 .1 .0 .1 .1 .0 .1

@@ -28,7 +28,7 @@ codeOf OtherChip = 15
 codeOf OtherDirection = 16
 codeOf InsideWider = 17
 
--- 'The reply's value is what was read if the code is 0 and it is a read, else 0': a write's `Done` has 0
+-- 'The reply's value is what was read if the code is 0 and it is a read, else 0': a write's `Done` has 0, and so has that of lines that pass (02, 10/13)
 unfoldable pub valueOf : Answer → ℕ
 valueOf (Done value) = value
 valueOf NoRegister = 0

@@ -1,6 +1,7 @@
 -- The file as a whole: its parts one at a time, a file of which only parts are looked at, and power-on.
 -- Assumes nothing.
 use Prim.Native.Nat.{ℕ}
+use mathlib.Core.Path.{_≡_}
 use mathlib.Core.Bool.{Bool}
 use mathlib.Core.List.{List, []}
 use lib.ListN.{getD, set, replicate}
@@ -14,7 +15,7 @@ use Rattle.file.specs.declared.state.State.{State}
 use Rattle.file.specs.Chips.{vPortAtPowerOn}
 use Rattle.file.specs.Names.{CR11, captureYStart}
 use Rattle.file.specs.Registers.{registerCount}
-use Rattle.file.specs.State.{initial, pointing, toggling}
+use Rattle.file.specs.State.{initial, pointing, toggling, passing}
 
 -- what a register holds
 unfoldable pub register : File → ℕ → ℕ
@@ -45,6 +46,14 @@ unfoldable pub withToggle : Bool → File → File
 unfolding withState toggling
 withToggle new f = withState (toggling new (f .state)) f
 
+unfoldable pub withLine : ℕ → File → File
+unfolding withState passing
+withLine new f = withState (passing new (f .state)) f
+
+-- 02, 10/13: the line 'is outside demand 3's sameness'. Two files are the same if all but the line is
+unfoldable pub Same : File → File → Type 0
+Same f g = f ≡ withLine (f .state .line) g
+
 -- a file of which no more is looked at than these registers and this state: it has no colours
 unfoldable pub seen : List ℕ → State → File
 seen registers state = record { registers = registers; palette = []; bank = []; state = state }
@@ -60,7 +69,8 @@ abbrev pub bankCount : ℕ
 bankCount = 16
 
 -- 01, end of 'Places': 'At power-on all stored bits and entries are 0, the toggle is index, and the pointer is at address 0, write mode, red, nothing held.'
--- 02, 1/13: 'power-on is write, blue'; 02, 6/13: 10Ch of the 5462 is the one register that starts with a stored bit set
+-- 02, 1/13: 'power-on is write, blue'; 02, 6/13: 10Ch of the 5462 is the one register that starts with a stored bit set; 02, 10/13:
+-- 'The line starts at 0'
 unfoldable pub powerOn : Chip → File
 unfolding initial black
 powerOn chip =

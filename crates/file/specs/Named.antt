@@ -44,7 +44,7 @@ allNamed (n ∷ ns) = eqt (nameOf (n .number)) (n .name) && allNamed ns
 
 -- the names that code has a constant for, and the numbers that they have in the table
 unfoldable pub inCode : List String
-inCode = "MISC" ∷ "SRX" ∷ "CRX" ∷ "GRX" ∷ "ARX" ∷ "PCI04" ∷ "CR0" ∷ "CR6" ∷ "CR7" ∷ "CR11" ∷ "CR1A" ∷ "CR1B" ∷ "B0" ∷ "CC" ∷ "CE" ∷ "D0" ∷ "D2" ∷ "D4" ∷ "D5" ∷ "E0" ∷ "E2" ∷ "E4" ∷ "E6" ∷ "E8" ∷ "108" ∷ "10A" ∷ "10C" ∷ "10E" ∷ []
+inCode = "MISC" ∷ "SRX" ∷ "CRX" ∷ "GRX" ∷ "ARX" ∷ "PCI04" ∷ "CR0" ∷ "CR6" ∷ "CR7" ∷ "CR10" ∷ "CR11" ∷ "CR12" ∷ "CR1A" ∷ "CR1B" ∷ "CR1E" ∷ "B0" ∷ "CC" ∷ "CE" ∷ "D0" ∷ "D2" ∷ "D4" ∷ "D5" ∷ "E0" ∷ "E2" ∷ "E4" ∷ "E6" ∷ "E8" ∷ "108" ∷ "10A" ∷ "10C" ∷ "10E" ∷ []
 
 unfoldable pub numbersInCode : List ℕ
 numbersInCode = map (λ (name : String). numberOf (ascii name)) inCode

@@ -38,15 +38,18 @@ pub enum Effect {
         colour: Colour,
         marks: u8,
     },
+    // lines pass: the line that the display is at then
+    Pass(u16),
 }
 
-// What an access may change: bits of one register, the toggle, the pointer, the marks, an entry of the bank or the palette.
+// What an access may change: bits of one register, the toggle, the pointer, the marks, the line, an entry of the bank or the palette.
 pub struct Reach {
     pub register: usize,
     pub bits: u16,
     pub toggle: bool,
     pub pointer: bool,
     pub marks: bool,
+    pub line: bool,
     pub palette: bool,
     pub bank: bool,
     pub entry: usize,
@@ -118,6 +121,7 @@ impl Effect {
                 painted(file, bank, entry, colour),
                 file.state.stepping(pointer, marks),
             ),
+            Effect::Pass(line) => stated(file, file.state.passing(line)),
         }
     }
 
@@ -146,6 +150,7 @@ impl Effect {
                 colour: _,
                 marks: _,
             } => Reach::colours(true, !bank, bank, entry),
+            Effect::Pass(_) => Reach::of_line(),
         }
     }
 }
@@ -160,7 +165,7 @@ impl Reach {
 
     // Bits of a register, and perhaps the toggle.
     fn bits_of(register: usize, bits: u16, toggle: bool) -> Reach
-        ensures { λ r. ⌜ r ≡ record { register = register; bits = bits; toggle = toggle; pointer = false; marks = false; palette = false; bank = false; entry = 0 } ⌝ }
+        ensures { λ r. ⌜ r ≡ record { register = register; bits = bits; toggle = toggle; pointer = false; marks = false; line = false; palette = false; bank = false; entry = 0 } ⌝ }
     {
         Reach {
             register,
@@ -168,6 +173,24 @@ impl Reach {
             toggle,
             pointer: false,
             marks: false,
+            line: false,
+            palette: false,
+            bank: false,
+            entry: 0,
+        }
+    }
+
+    // The line alone.
+    fn of_line() -> Reach
+        ensures { λ r. ⌜ r ≡ record { register = 0; bits = 0; toggle = false; pointer = false; marks = false; line = true; palette = false; bank = false; entry = 0 } ⌝ }
+    {
+        Reach {
+            register: 0,
+            bits: 0,
+            toggle: false,
+            pointer: false,
+            marks: false,
+            line: true,
             palette: false,
             bank: false,
             entry: 0,
@@ -176,7 +199,7 @@ impl Reach {
 
     // The pointer, and perhaps the marks and an entry.
     fn colours(marks: bool, palette: bool, bank: bool, entry: usize) -> Reach
-        ensures { λ r. ⌜ r ≡ record { register = 0; bits = 0; toggle = false; pointer = true; marks = marks; palette = palette; bank = bank; entry = entry } ⌝ }
+        ensures { λ r. ⌜ r ≡ record { register = 0; bits = 0; toggle = false; pointer = true; marks = marks; line = false; palette = palette; bank = bank; entry = entry } ⌝ }
     {
         Reach {
             register: 0,
@@ -184,6 +207,7 @@ impl Reach {
             toggle: false,
             pointer: true,
             marks,
+            line: false,
             palette,
             bank,
             entry,

@@ -20,11 +20,17 @@ pub const CR6: usize = 31;
 
 pub const CR7: usize = 32;
 
+pub const CR10: usize = 41;
+
 pub const CR11: usize = 42;
+
+pub const CR12: usize = 43;
 
 pub const CR1A: usize = 51;
 
 pub const CR1B: usize = 52;
+
+pub const CR1E: usize = 54;
 
 pub const B0: usize = 85;
 
@@ -60,7 +66,7 @@ pub const CAPTURE_Y_START: usize = 106;
 pub const CAPTURE_Y_STOP: usize = 107;
 
 // All of them in the order above: each is the number that its name has in 01's table.
-pub fn named_numbers() -> [usize; 28]
+pub fn named_numbers() -> [usize; 31]
     ensures { λ r. ⌜ r ≡ numbersInCode ⌝ }
 {
     [
@@ -73,9 +79,12 @@ pub fn named_numbers() -> [usize; 28]
         CR0,
         CR6,
         CR7,
+        CR10,
         CR11,
+        CR12,
         CR1A,
         CR1B,
+        CR1E,
         B0,
         CC,
         CE,

@@ -27,14 +27,17 @@ pub fn is_sound(file: File) -> bool
     }
 }
 
-// The marks name a direction and a colour, and the pointer is one that its steps can reach.
+// The marks name a direction and a colour, the pointer is one that its steps can reach, and the line one that lines pass to.
 fn state_sound(state: State) -> bool
     ensures { λ r. ⌜ r ≡ stateSound state ⌝ }
 {
     if !marks_sound(state.marks) {
         return false;
     }
-    pointer_sound(state.pointer)
+    if !pointer_sound(state.pointer) {
+        return false;
+    }
+    state.line <= 2048
 }
 
 // Direction 0 or 1, colour 0 to 2.

@@ -1,11 +1,12 @@
 ghost use mathlib.Core.Path.{_≡_};
-ghost use Rattle.file.specs.State.{initial, pointing as pointingTo, stepping as steppingTo, toggling as togglingTo, flipped as flippedState};
+ghost use Rattle.file.specs.State.{initial, pointing as pointingTo, stepping as steppingTo, toggling as togglingTo, flipped as flippedState, passing as passingTo};
 use crate::chip::Chip;
 use crate::palette::Pointer;
 
 // The small parts of a file beside its registers and colours. The toggle says whether the next 3C0h write is data; the marks of the last pixel
-// data access are what B0[2:0] reads; the chip stays what it was made.
+// data access are what B0[2:0] reads; the chip stays what it was made; the line is the one that the display is at.
 pub struct State {
+    pub line: u16,
     pub pointer: Pointer,
     pub marks: u8,
     pub toggle: bool,
@@ -13,7 +14,7 @@ pub struct State {
 }
 
 impl State {
-    // The pointer at address 0, write mode, red, nothing held; the toggle at index; the marks at write, blue.
+    // The pointer at address 0, write mode, red, nothing held; the toggle at index; the marks at write, blue; line 0.
     pub fn power_on(chip: Chip) -> State
         ensures { λ r. ⌜ r ≡ initial chip ⌝ }
     {
@@ -22,6 +23,7 @@ impl State {
             marks: 2,
             toggle: false,
             chip,
+            line: 0,
         }
     }
 
@@ -47,6 +49,14 @@ impl State {
         ensures { λ r. ⌜ r ≡ togglingTo toggle self ⌝ }
     {
         self.toggle = toggle;
+        self
+    }
+
+    // The state after lines have passed: another line.
+    pub fn passing(mut self, line: u16) -> State
+        ensures { λ r. ⌜ r ≡ passingTo line self ⌝ }
+    {
+        self.line = line;
         self
     }
 

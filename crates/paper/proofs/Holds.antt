@@ -13,11 +13,11 @@ use Rattle.file.specs.File.{register, crtcLocked, withRegisters, powerOn}
 use Rattle.file.specs.Palette.{component, addressed, moved, afterWrite, afterRead, stores, mixed, dacState, marksFrom, marksSound, pointerSound}
 use Rattle.file.specs.Registers.{storedBits}
 use Rattle.file.specs.Sound.{allWithin, sound}
-use Rattle.file.specs.State.{stateSound}
+use Rattle.file.specs.State.{lastLine, stateSound}
 use Rattle.places.specs.Lookup.{isOneOf, selects, matches, first, rowAt, placeOfRow, placeAt, otherWay, someRow, heldIn, isWider, insideIn}
 use Rattle.places.specs.Places.{places}
-use Rattle.access.specs.Access.{placeOf, lockedOut, lockedReach, reachIn, paletteUp, inBank, entryNumber, entry, shownIn, shownState, vPortState, answerAt, pixelWrite, answer, effectAt, effect, access}
-use Rattle.access.specs.Checks.{isWrite, isPort, isMmio, notSound, malformed, spaceOff, noRow, notHeld, otherDirection, insideWider, otherHalf, otherWidth, wrongWidth, checks, firstRefusal}
+use Rattle.access.specs.Access.{placeOf, lockedOut, lockedReach, reachIn, paletteUp, inBank, entryNumber, entry, shownIn, shownState, vPortState, vTotal, vDisplay, vSyncStart, vSyncEnd, lineShown, lineAfter, inSync, pastDisplay, displayState, answerAt, pixelWrite, answer, effectAt, effect, access}
+use Rattle.access.specs.Checks.{isWrite, isPassing, carries, isPort, isMmio, notSound, badAccess, badPassing, malformed, spaceOff, noRow, notHeld, otherDirection, insideWider, otherHalf, otherWidth, wrongWidth, checks, firstRefusal}
 use Rattle.timing.specs.Table.{wide, table}
 use Rattle.timing.specs.Timing.{timingOf, numbersOf, timingIn, readTiming, withTiming, timingAnswer, writtenFile, writeTiming}
 use Rattle.geometry.specs.Geometry.{mark, cursorIn, bottom, windowIn, readGeometry}
@@ -25,7 +25,7 @@ use Rattle.paper.specs.Examples.{setRegister, started, mode12, examples,
 
 -- computed on the one chip and on the other
 both-hold : T (allHold Gd5462 (examples Gd5462)) × T (allHold Gd5464 (examples Gd5464))
-unfolding endAfter meant storedFor inRange readFrom readNumbers rangesFrom allInRange writeNumbers width held gather pieceReach put scatter bits bit store within codeOf valueOf refused storeIn apply register crtcLocked withRegisters pci02 vPortShown vPortAtPowerOn powerOn component addressed moved afterWrite afterRead stores mixed dacState marksFrom marksSound pointerSound storedBits allWithin sound stateSound isOneOf selects matches first rowAt placeOfRow placeAt otherWay someRow heldIn isWider insideIn places placeOf lockedOut lockedReach reachIn paletteUp inBank entryNumber entry shownIn shownState vPortState answerAt pixelWrite answer effectAt effect access isWrite isPort isMmio notSound malformed spaceOff noRow notHeld otherDirection insideWider otherHalf otherWidth wrongWidth checks firstRefusal wide table timingOf numbersOf timingIn readTiming withTiming timingAnswer writtenFile writeTiming mark cursorIn bottom windowIn readGeometry setRegister started mode12 examples sameNumbers sameInteger stepsHold afterSteps colourIs writingHolds lookHolds holds allHold
+unfolding endAfter meant storedFor inRange readFrom readNumbers rangesFrom allInRange writeNumbers width held gather pieceReach put scatter bits bit store within codeOf valueOf refused storeIn apply register crtcLocked withRegisters pci02 vPortShown vPortAtPowerOn powerOn component addressed moved afterWrite afterRead stores mixed dacState marksFrom marksSound pointerSound storedBits allWithin sound lastLine stateSound isOneOf selects matches first rowAt placeOfRow placeAt otherWay someRow heldIn isWider insideIn places placeOf lockedOut lockedReach reachIn paletteUp inBank entryNumber entry shownIn shownState vPortState vTotal vDisplay vSyncStart vSyncEnd lineShown lineAfter inSync pastDisplay displayState answerAt pixelWrite answer effectAt effect access isWrite isPassing carries isPort isMmio notSound badAccess badPassing malformed spaceOff noRow notHeld otherDirection insideWider otherHalf otherWidth wrongWidth checks firstRefusal wide table timingOf numbersOf timingIn readTiming withTiming timingAnswer writtenFile writeTiming mark cursorIn bottom windowIn readGeometry setRegister started mode12 examples sameNumbers sameInteger stepsHold afterSteps colourIs writingHolds lookHolds holds allHold
 both-hold = (tt, tt)
 
 pub examples-hold : (chip : Chip) → T (allHold chip (examples chip))

@@ -16,7 +16,7 @@ use Rattle.file.specs.declared.registers.File.{File}
 use Rattle.file.specs.Answers.{codeOf, valueOf}
 use Rattle.file.specs.Effects.{storeIn}
 use Rattle.file.specs.File.{powerOn, black}
-use Rattle.file.specs.Names.{MISC, PCI04, CR0, CR1, CR2, CR3, CR4, CR5, CR6, CR7, CR9, CR10, CR11, CR12, CR13, CR15, CR16, CR18, CR1B, E0, E4}
+use Rattle.file.specs.Names.{MISC, PCI04, CR0, CR1, CR2, CR3, CR4, CR5, CR6, CR7, CR9, CR10, CR11, CR12, CR13, CR15, CR16, CR18, CR1B, CR1E, E0, E4}
 use Rattle.file.specs.Registers.{storedBits}
 use Rattle.geometry.specs.Geometry.{readGeometry}
 use Rattle.timing.specs.Timing.{timingOf, numbersOf, readTiming, writeTiming}
@@ -65,6 +65,10 @@ mmioReadWord address = asking 4 2 address 0
 
 abbrev mmioWriteWord : ℕ → ℕ → Record
 mmioWriteWord address value = asking 5 2 address value
+
+-- 02, 10/13: so many lines pass
+abbrev passes : ℕ → Record
+passes lines = asking 6 2 0x00 lines
 
 -- a record, and the code and value that it gets
 pub record Step : Type 0 where
@@ -170,20 +174,59 @@ common =
     nothing
     ∷ example "02, 7/13" opened (syncSteps 0x08) nothing
     ∷ example "02, 7/13" opened (syncSteps 0x04) nothing
+    -- at power-on V total is 2, V display 1, V sync start 0 and V sync end 16
+    ∷ example "02, 10/13" opened
+    (portRead 0x3BA reads 0x08 ∷ passes 1 gives 0 ∷ portRead 0x3BA reads 0x09 ∷ portRead 0x3DA gives 5 ∷ portWrite 0x3C2 0x01 gives 0 ∷ portRead 0x3DA reads 0x09
+    ∷ passes 65535 gives 0 ∷ portRead 0x3DA reads 0x08 ∷ [])
+    nothing
+    -- V sync goes from line 1 to 16, past the total: it doesn't come round to line 0
+    ∷ example "02, 10/13" (CR10 ≔ 0x01 ∷ opened)
+    (portRead 0x3BA reads 0x00 ∷ passes 1 gives 0 ∷ portRead 0x3BA reads 0x09 ∷ [])
+    nothing
+    ∷ example "02, 10/13" mode12
+    (passes 479 gives 0 ∷ portRead 0x3BA reads 0x00 ∷ passes 1 gives 0 ∷ portRead 0x3BA reads 0x01 ∷ passes 9 gives 0 ∷ portRead 0x3BA reads 0x01
+    ∷ passes 1 gives 0 ∷ portRead 0x3BA reads 0x09 ∷ passes 1 gives 0 ∷ portRead 0x3BA reads 0x09 ∷ passes 1 gives 0 ∷ portRead 0x3BA reads 0x01
+    ∷ passes 32 gives 0 ∷ portRead 0x3BA reads 0x01 ∷ passes 1 gives 0 ∷ portRead 0x3BA reads 0x00 ∷ [])
+    nothing
+    -- the total shortened to 13 by CR7[5] and back, while the line stands at 490: 9, and 490 again; a line passes at 13: 10
+    ∷ example "02, 10/13" (CR11 ≔ 0x0C ∷ mode12)
+    (passes 490 gives 0 ∷ portRead 0x3BA reads 0x09 ∷ mmioWrite 0x1C 0x1E gives 0 ∷ portRead 0x3BA reads 0x00 ∷ mmioWrite 0x1C 0x3E gives 0 ∷ portRead 0x3BA reads 0x09
+    ∷ mmioWrite 0x1C 0x1E gives 0 ∷ passes 1 gives 0 ∷ mmioWrite 0x1C 0x3E gives 0 ∷ portRead 0x3BA reads 0x00
+    ∷ passes 469 gives 0 ∷ portRead 0x3BA reads 0x00 ∷ passes 1 gives 0 ∷ portRead 0x3BA reads 0x01 ∷ [])
+    nothing
+    ∷ example "02, 10/13" opened
+    (portWrite 0x3C0 0x15 gives 0 ∷ portWrite 0x3B4 0x24 gives 0 ∷ portRead 0x3B5 reads 0x80 ∷ portRead 0x3BA reads 0x08 ∷ portRead 0x3B5 reads 0x00 ∷ [])
+    nothing
+    ∷ example "02, 10/13" (PCI04 ≔ 0x0000 ∷ [])
+    (passes 1 gives 0 ∷ portRead 0x3BA gives 3 ∷ configWrite 0x04 0x0001 gives 0 ∷ portRead 0x3BA reads 0x09
+    ∷ asking 6 1 0x00 1 gives 2 ∷ asking 6 2 0x01 1 gives 2 ∷ passes 0 gives 2 ∷ passes 65536 gives 2 ∷ asking 7 2 0x00 1 gives 2 ∷ portRead 0x3BA reads 0x09 ∷ [])
+    nothing
     ∷ []
 
--- 02, 6/13: those that the two chips answer differently: PCI02, and 10Ch at power-on, with every bit written and with none
+-- 02, 6/13: those that the two chips answer differently: PCI02, and 10Ch at power-on, with every bit written and with none; 02, 10/13: 140h, and with it
+-- the line itself, at its longest total, where line and count together pass 16 bits
 unfoldable pub own : Chip → List Example
 own Gd5462 =
     example "02, 6/13" opened
     (configRead 0x02 reads 0x00D0 ∷ mmioReadWord 0x302 reads 0x00D0
     ∷ mmioReadWord 0x10C reads 0x0C90 ∷ mmioWriteWord 0x10C 0xFFFF gives 0 ∷ mmioReadWord 0x10C reads 0xFFDF ∷ mmioWriteWord 0x10C 0x0000 gives 0 ∷ mmioReadWord 0x10C reads 0x0C00 ∷ [])
     nothing
+    ∷ example "02, 10/13" opened
+    (mmioReadWord 0x140 gives 4 ∷ mmioWriteWord 0x140 0x0000 gives 4 ∷ mmioRead 0x140 gives 4 ∷ mmioRead 0x141 gives 4 ∷ mmioWrite 0x141 0x00 gives 4 ∷ [])
+    nothing
     ∷ []
 own Gd5464 =
     example "02, 6/13" opened
     (configRead 0x02 reads 0x00D4 ∷ mmioReadWord 0x302 reads 0x00D4
     ∷ mmioReadWord 0x10C reads 0x0000 ∷ mmioWriteWord 0x10C 0xFFFF gives 0 ∷ mmioReadWord 0x10C reads 0x01FF ∷ [])
+    nothing
+    ∷ example "02, 10/13" opened
+    (mmioReadWord 0x140 reads 0x0000 ∷ passes 3 gives 0 ∷ mmioReadWord 0x140 reads 0x0001 ∷ mmioRead 0x140 gives 6 ∷ mmioWriteWord 0x140 0x0000 gives 16 ∷ mmioWrite 0x140 0x00 gives 16
+    ∷ mmioRead 0x141 gives 17 ∷ mmioWrite 0x141 0x00 gives 17 ∷ mmioRead 0x142 gives 4 ∷ [])
+    nothing
+    ∷ example "02, 10/13" (CR6 ≔ 0xFF ∷ CR7 ≔ 0x21 ∷ CR1E ≔ 0x08 ∷ opened)
+    (passes 2048 gives 0 ∷ mmioReadWord 0x140 reads 0x0800 ∷ passes 65535 gives 0 ∷ mmioReadWord 0x140 reads 0x07DF
+    ∷ mmioWrite 0x1C 0x00 gives 0 ∷ mmioReadWord 0x140 reads 0x02DE ∷ mmioWrite 0x1C 0x21 gives 0 ∷ mmioReadWord 0x140 reads 0x07DF ∷ [])
     nothing
     ∷ []
 

@@ -49,6 +49,7 @@ fn same_states(a: File, b: File) -> bool {
         && same_pointer(a.state.pointer, b.state.pointer)
         && a.state.marks == b.state.marks
         && device_id(a) == device_id(b)
+        && a.state.line == b.state.line
 }
 
 pub fn same_files(a: File, b: File) -> bool {

@@ -11,15 +11,17 @@ use native.Mathlib.Omega.{arith}
 use borrow.Author.Tests.{not-true}
 use Rattle.bits.specs.Store.{bits}
 use Rattle.bits.proofs.Test.{left, right, both, either, second, and-false, by-test, passes, is-true, everyBelow, below}
+use Rattle.file.specs.declared.chip.Chip.{Chip}
+use Rattle.file.specs.declared.chip.Chip.the-variants.{Gd5462, Gd5464}
 use Rattle.file.specs.declared.registers.File.{File}
 use Rattle.file.specs.File.{register, seen}
 use Rattle.file.specs.Names.{SRX, CRX, GRX, ARX}
 use Rattle.places.specs.declared.place.Place.{Place}
 use Rattle.places.specs.declared.place.Place.the-variants.{Unnamed, UnnamedAttribute}
-use Rattle.places.specs.EngineCells.{firstIndexed, nothingHeld, wider, plainPlace, plainCell, indexedCell, ofKind, ofAddress, rowsAt, cellOf, heldCell, isNothing, cellWidth, chosen}
+use Rattle.places.specs.EngineCells.{firstIndexed, nothingHeld, wider, plainPlace, plainCell, indexedCell, ofKind, ofAddress, rowsIn, rowsAt, cellOf, heldCell, isNothing, cellWidth, chosen}
 use Rattle.places.specs.Lookup.{selects, matches, first, rowAt, placeOfRow, placeAt, someRow, heldIn}
 use Rattle.places.specs.Places.{Index, any, sr, cr, gr, ar, indexDue, dataDue, Row, places}
-use Rattle.places.proofs.Rows.{every, Passes, found}
+use Rattle.places.proofs.Rows.{every, on-chips, Passes, found}
 use Rattle.places.proofs.SamePlace.{samePlace}
 
 -- ---- the rows of a kind and an address
@@ -44,9 +46,10 @@ of-address f address (row ∷ rows) =
     (λ e. rw e (ap (cond (selects f (row .index)) (some row)) (of-address f address rows)))
     (λ e. rw e (of-address f address rows))
 
-pub place-chosen : (f : File) (kind address : ℕ) → placeAt f kind address ≡ chosen f (rowsAt kind address)
-unfolding placeAt rowAt chosen rowsAt
-place-chosen f kind address = ap placeOfRow (of-kind f kind address places ∙ of-address f address (ofKind kind places))
+pub place-chosen : (f : File) (kind address : ℕ) → placeAt f kind address ≡ chosen f (rowsAt (f .state .chip) kind address)
+unfolding placeAt rowAt chosen rowsAt rowsIn
+place-chosen f kind address =
+    ap placeOfRow (of-kind f kind address (places (f .state .chip)) ∙ of-address f address (ofKind kind (places (f .state .chip))))
 
 -- ---- one computed test over all rows
 
@@ -99,15 +102,16 @@ says row cell =
 unfoldable pub told : List Row → Row → Bool
 told rows row = says row (cellOf (ofAddress (row .address) rows)) && someAny (ofAddress (row .address) rows)
 
-rows-told : (kind : ℕ) → kind < 6 → T (every (told (ofKind kind places)) (ofKind kind places))
-unfolding every told someAny isAny says isNothing cellWidth doors sameDoor isDoor samePlace plainPlace plainCell indexedCell ofKind ofAddress cellOf places
-rows-told zero h = tt
-rows-told (suc zero) h = tt
-rows-told (suc (suc zero)) h = tt
-rows-told (suc (suc (suc zero))) h = tt
-rows-told (suc (suc (suc (suc zero)))) h = tt
-rows-told (suc (suc (suc (suc (suc zero))))) h = tt
-rows-told (suc (suc (suc (suc (suc (suc kind)))))) h = absurd (omega arith)
+unfoldable pub toldOf : Chip → ℕ → Bool
+toldOf chip kind = every (told (ofKind kind (places chip))) (ofKind kind (places chip))
+
+all-told : T (everyBelow (toldOf Gd5462) 6) × T (everyBelow (toldOf Gd5464) 6)
+unfolding everyBelow toldOf every told someAny isAny says isNothing cellWidth doors sameDoor isDoor samePlace plainPlace plainCell indexedCell ofKind ofAddress cellOf places
+all-told = (tt, tt)
+
+rows-told : (chip : Chip) (kind : ℕ) → kind < 6 → T (every (told (ofKind kind (places chip))) (ofKind kind (places chip)))
+unfolding toldOf
+rows-told chip kind h = below (toldOf chip) 6 (on-chips (λ (c : Chip). everyBelow (toldOf c) 6) all-told chip) kind h
 
 -- ---- what a record finds, and what its cell says
 
@@ -144,20 +148,20 @@ rows-of all (row ∷ rows) address t =
 
 -- a record finds nothing, and its cell is 127; or a row of which its cell speaks
 pub data Outcome (f : File) (kind address : ℕ) : Type 0 where
-  nothing : rowAt f kind address ≡ none → heldCell kind address ≡ nothingHeld → Outcome f kind address
+  nothing : rowAt f kind address ≡ none → heldCell (f .state .chip) kind address ≡ nothingHeld → Outcome f kind address
   held : (row : Row) → rowAt f kind address ≡ some row → row .kind ≡ kind → row .address ≡ address
-      → T (says row (heldCell kind address)) → Outcome f kind address
+      → T (says row (heldCell (f .state .chip) kind address)) → Outcome f kind address
 
 module _ (f : File) (kind address : ℕ) where
   abbrev All : List Row
-  All = ofKind kind places
+  All = ofKind kind (places (f .state .chip))
 
   abbrev Here : Row → Bool
   Here row = eqb address (row .address) && selects f (row .index)
 
   row-found : rowAt f kind address ≡ first (λ (row : Row). selects f (row .index)) (ofAddress address All)
   unfolding rowAt
-  row-found = of-kind f kind address places ∙ of-address f address All
+  row-found = of-kind f kind address (places (f .state .chip)) ∙ of-address f address All
 
   -- every row of a kind has that kind
   pub kinds : (rows : List Row) → T (every (λ (row : Row). eqb kind (row .kind)) (ofKind kind rows))
@@ -171,7 +175,7 @@ module _ (f : File) (kind address : ℕ) where
 
   outcome-of : (o : Option Row) → rowAt f kind address ≡ o → T (someAny (ofAddress address All))
       → Passes (λ (row : Row). told All row && Here row) o → Passes (λ (row : Row). eqb kind (row .kind) && Here row) o → Outcome f kind address
-  unfolding told heldCell rowsAt
+  unfolding told heldCell rowsAt rowsIn
   outcome-of none e t p k = absurd (finds f (ofAddress address All) t (sym row-found ∙ e))
   outcome-of (some row) e t p k =
       let here : address ≡ row .address =
@@ -181,15 +185,15 @@ module _ (f : File) (kind address : ℕ) where
       (left (says row (cellOf (ofAddress (row .address) All))) (someAny (ofAddress (row .address) All)) (left (told All row) (Here row) p)))
 
   pub outcome : kind < 6 → Outcome f kind address
-  unfolding rowAt heldCell rowsAt cellOf first
+  unfolding rowAt heldCell rowsAt rowsIn cellOf first
   outcome h =
       ⊎-elim
       (λ e. nothing (row-found ∙ ap (first (λ (row : Row). selects f (row .index))) e) (ap cellOf e))
       (λ t. outcome-of (rowAt f kind address) refl t
-      (subst (Passes (λ (row : Row). told All row && Here row)) (sym (of-kind f kind address places)) (found (told All) Here All (rows-told kind h)))
-      (subst (Passes (λ (row : Row). eqb kind (row .kind) && Here row)) (sym (of-kind f kind address places))
-      (found (λ (row : Row). eqb kind (row .kind)) Here All (kinds places))))
-      (rows-of All All address (rows-told kind h))
+      (subst (Passes (λ (row : Row). told All row && Here row)) (sym (of-kind f kind address (places (f .state .chip)))) (found (told All) Here All (rows-told (f .state .chip) kind h)))
+      (subst (Passes (λ (row : Row). eqb kind (row .kind) && Here row)) (sym (of-kind f kind address (places (f .state .chip))))
+      (found (λ (row : Row). eqb kind (row .kind)) Here All (kinds (places (f .state .chip))))))
+      (rows-of All All address (rows-told (f .state .chip) kind h))
 
   -- an address is held for a kind of record, whatever the index, where a file finds a row, and nowhere else
   found-held : (rows : List Row) (row : Row) → first (matches f kind address) rows ≡ some row → T (heldIn rows kind address)
@@ -215,13 +219,13 @@ module _ (f : File) (kind address : ℕ) where
       (λ a. rw (k, a) (no-rows-held rows (rw (k, a) at e))))
       (λ k. rw (k, and-false) (no-rows-held rows (rw k at e)))
 
-  pub some-held : (row : Row) → rowAt f kind address ≡ some row → heldIn places kind address ≡ true
+  pub some-held : (row : Row) → rowAt f kind address ≡ some row → heldIn (places (f .state .chip)) kind address ≡ true
   unfolding rowAt
-  some-held row e = is-true (heldIn places kind address) (found-held places row e)
+  some-held row e = is-true (heldIn (places (f .state .chip)) kind address) (found-held (places (f .state .chip)) row e)
 
-  pub none-held : kind < 6 → rowAt f kind address ≡ none → heldIn places kind address ≡ false
+  pub none-held : kind < 6 → rowAt f kind address ≡ none → heldIn (places (f .state .chip)) kind address ≡ false
   none-held h e =
-      ⊎-elim (no-rows-held places) (λ t. absurd (finds f (ofAddress address All) t (sym row-found ∙ e))) (rows-of All All address (rows-told kind h))
+      ⊎-elim (no-rows-held (places (f .state .chip))) (λ t. absurd (finds f (ofAddress address All) t (sym row-found ∙ e))) (rows-of All All address (rows-told (f .state .chip) kind h))
 
 -- what a cell says of a row, part by part
 pub record Spoken (row : Row) (cell : ℕ) : Type 0 where
@@ -244,10 +248,10 @@ spoken row cell t =
     }
 
 -- an address is held for a kind of record where its rows' cell is not one of nothing
-pub told-held : (f : File) (kind address : ℕ) → kind < 6 → heldIn places kind address ≡ not (isNothing (heldCell kind address))
+pub told-held : (f : File) (kind address : ℕ) → kind < 6 → heldIn (places (f .state .chip)) kind address ≡ not (isNothing (heldCell (f .state .chip) kind address))
 unfolding isNothing
 told-held f kind address low = by (outcome f kind address low)
   where
-    by : Outcome f kind address → heldIn places kind address ≡ not (isNothing (heldCell kind address))
+    by : Outcome f kind address → heldIn (places (f .state .chip)) kind address ≡ not (isNothing (heldCell (f .state .chip) kind address))
     by (nothing e c) = rw c (none-held f kind address low e)
-    by (held row e k a s) = some-held f kind address row e ∙ ap not (sym (spoken row (heldCell kind address) s .something))
+    by (held row e k a s) = some-held f kind address row e ∙ ap not (sym (spoken row (heldCell (f .state .chip) kind address) s .something))

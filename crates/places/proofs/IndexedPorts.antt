@@ -1,17 +1,19 @@
 -- The place that a file selects behind an indexed port is what its cell names. Assumes nothing.
-use Prim.Native.Nat.{ℕ, zero, suc, _+_, _-_, _%_, _≤_, _<_}
+use Prim.Native.Nat.{ℕ, zero, suc, _+_, _-_, _/_, _%_, _≤_, _<_}
 use mathlib.Core.Path.{_≡_, refl, sym, ap, ap₂, _∙_, subst, subst₂, subst₃}
 use mathlib.Core.Bool.{Bool, true, false, cond, true≢false, not, _&&_, _||_}
-use mathlib.Core.List.{List, [], _∷_}
+use mathlib.Core.List.{List, [], _∷_, _++_}
 use mathlib.Core.Logic.{_⊎_, inl, inr, ⊎-elim}
 use mathlib.Core.Option.{Option, none, some, Option·none-ne-some}
 use lib.Dec.{T, eqb, leb, ltb, eqb→eq, leb→le, ltb→lt, lit≤}
 use lib.ListN.{getD}
 use native.Mathlib.Omega.{arith}
-use borrow.Author.Tests.{le-ltb}
+use borrow.Author.Tests.{le-ltb, ne-eqb, eqb-true}
 use native.Mathlib.Nat.{mod-eq-of-lt}
 use Rattle.bits.specs.Store.{bits}
 use Rattle.bits.proofs.Test.{left, right, both, either, by-test, passes, is-true, everyBelow, below}
+use Rattle.file.specs.declared.chip.Chip.{Chip}
+use Rattle.file.specs.declared.chip.Chip.the-variants.{Gd5462, Gd5464}
 use Rattle.file.specs.declared.registers.File.{File}
 use Rattle.file.specs.declared.state.State.{State}
 use Rattle.file.specs.File.{register, seen}
@@ -19,9 +21,9 @@ use Rattle.file.specs.State.{initial, unasked, toggling}
 use Rattle.file.specs.Names.{SRX, CRX, GRX, ARX}
 use Rattle.places.specs.declared.place.Place.{Place}
 use Rattle.places.specs.declared.place.Place.the-variants.{Unnamed, UnnamedAttribute}
-use Rattle.places.specs.EngineCells.{firstIndexed, nothingHeld, wider, plainPlace, plainCell, ofKind, ofAddress, rowsAt, heldCell, chosen, indicesAt, cellsFrom, behindPort, behindSRX, countSRX, behindCRX, countCRX, behindGRX, countGRX, behindARX, countARX, cellCount, tableCell, cellTable, attributePlace, indexedPlaces, cellPlace}
+use Rattle.places.specs.EngineCells.{firstIndexed, nothingHeld, wider, plainPlace, plainCell, ofKind, ofAddress, rowsIn, rowsAt, heldCell, chosen, indicesAt, cellsFrom, behindPort, behindSRX, countSRX, behindCRX, countCRX, behindGRX, countGRX, behindARX, countARX, cellCount, tableCell, cellTable, attributePlace, indexedPlaces, cellPlace}
 use Rattle.places.specs.Lookup.{attributeIndex, selects, matches, first, rowAt, placeOfRow, placeAt}
-use Rattle.places.specs.Places.{Index, any, sr, cr, gr, ar, indexDue, dataDue, Row, places}
+use Rattle.places.specs.Places.{Index, any, sr, cr, gr, ar, indexDue, dataDue, Row, sharedPlaces, ownPlaces, places}
 use Rattle.places.proofs.CellsOfRows.{Door, door, doors, sameDoor, isDoor, Outcome, nothing, held, outcome, spoken, place-chosen}
 use Rattle.places.proofs.Rows.{every}
 use Rattle.places.proofs.TableOfCells.{at-cell, sequencer-cells, crtc-cells, graphics-cells, attribute-cells}
@@ -119,10 +121,16 @@ opens state rows c n = samePlace (chosen (seen (indicesAt n) state) rows) (behin
 
 module _ (d : Door) where
   abbrev Rows : List Row
-  Rows = rowsAt (d .kind) (d .address)
+  Rows = rowsIn sharedPlaces (d .kind) (d .address)
+
+  abbrev Port : Bool
+  Port = eqb (d .kind / 2) 1
+
+  abbrev Among : Bool
+  Among = leb firstIndexed (d .cell) && ltb (d .cell) (firstIndexed + 5)
 
   abbrev Within : Bool
-  Within = leb firstIndexed (d .cell) && ltb (d .cell) (firstIndexed + 5)
+  Within = Port && Among
 
   abbrev ByKind : Bool
   ByKind = every (λ (row : Row). isBy (d .cell - firstIndexed) (row .index)) Rows
@@ -138,7 +146,7 @@ allOpened [] = true
 allOpened (d ∷ ds) = opened d && allOpened ds
 
 doors-opened : T (allOpened doors)
-unfolding allOpened opened opens everyBelow count doors every isBy samePlace plainCell ofKind ofAddress rowsAt chosen cellsFrom behindPort behindOf seen initial toggling selects first placeOfRow places
+unfolding allOpened opened opens everyBelow count doors every isBy samePlace plainCell ofKind ofAddress rowsIn chosen cellsFrom behindPort behindOf seen initial toggling selects first placeOfRow sharedPlaces
 doors-opened = tt
 
 -- the index registers hold what their stored bits can hold
@@ -153,10 +161,14 @@ module _ (f : File) (bound : Indexed f) (d : Door) (t : T (opened d)) where
   within : (firstIndexed ≤ d .cell) × (d .cell < firstIndexed + 5)
   unfolding opened
   within =
-      let w : T (Within d) = left (Within d) (ByKind d && (Opens d true && Opens d false)) t in (
+      let w : T (Among d) = right (Port d) (Among d) (left (Within d) (ByKind d && (Opens d true && Opens d false)) t) in (
         leb→le firstIndexed (d .cell) (left (leb firstIndexed (d .cell)) (ltb (d .cell) (firstIndexed + 5)) w),
         ltb→lt (d .cell) (firstIndexed + 5) (right (leb firstIndexed (d .cell)) (ltb (d .cell) (firstIndexed + 5)) w),
       )
+
+  pub is-port : eqb (d .kind / 2) 1 ≡ true
+  unfolding opened
+  is-port = is-true (Port d) (left (Port d) (Among d) (left (Within d) (ByKind d && (Opens d true && Opens d false)) t))
 
   by-kind : T (ByKind d)
   unfolding opened
@@ -180,6 +192,23 @@ module _ (f : File) (bound : Indexed f) (d : Door) (t : T (opened d)) where
       (below (opens state (Rows d) C) (count C) (opens-at (f .state .toggle)) (decider f C) (bound C low))
       ∙ sym (same-behind f g refl C low same)
 
+-- the rows of a port are those of both chips
+shared-kind : (kind : ℕ) → eqb kind 4 ≡ false → (rows : List Row) (chip : Chip) → ofKind kind (rows ++ ownPlaces chip) ≡ ofKind kind rows
+unfolding ofKind ownPlaces
+shared-kind kind e [] Gd5462 = refl
+shared-kind kind e [] Gd5464 = rw e refl
+shared-kind kind e (row ∷ rows) chip =
+    by-test (eqb kind (row .kind))
+    (λ t. rw t (ap (λ (l : List Row). row ∷ l) (shared-kind kind e rows chip)))
+    (λ t. rw t (shared-kind kind e rows chip))
+
+port-rows : (chip : Chip) (kind address : ℕ) → eqb (kind / 2) 1 ≡ true → rowsAt chip kind address ≡ rowsIn sharedPlaces kind address
+unfolding rowsAt rowsIn places
+port-rows chip kind address e = ap (ofAddress address) (shared-kind kind (ne-eqb kind 4 (λ (n : kind ≡ 4). four n)) sharedPlaces chip)
+  where
+    four : kind ≡ 4 → ⊥
+    four n = absurd (omega (arith, n, eqb-true (kind / 2) 1 e))
+
 -- an indexed port of the list is open
 door-of : (ds : List Door) (kind address cell : ℕ) → T (allOpened ds) → T (isDoor ds kind address cell) → T (opened (door kind address cell))
 unfolding allOpened isDoor sameDoor
@@ -200,50 +229,50 @@ door-of (d ∷ ds) kind address cell t i =
 -- behind an indexed port the table has what stands there by the list of places
 module _ (f : File) (bound : Indexed f) where
   -- a section's entry, by a number that the index register may hold
-  entry : (base n limit : ℕ) (section : List ℕ) → n < limit → base + limit ≤ cellCount → tableCell (base + n) ≡ getD section n 0
-      → getD section n 0 ≡ getD cellTable (base + n) 0
-  entry base n limit section low fits there = sym (at-cell (base + n) (omega (arith, low, fits)) ∙ there)
+  entry : (base n limit : ℕ) (section : List ℕ) → n < limit → base + limit ≤ cellCount → tableCell (f .state .chip) (base + n) ≡ getD section n 0
+      → getD section n 0 ≡ getD (cellTable (f .state .chip)) (base + n) 0
+  entry base n limit section low fits there = sym (at-cell (f .state .chip) (base + n) (omega (arith, low, fits)) ∙ there)
 
   -- the same, where the engine takes the number's rest
-  rest-entry : (base n limit : ℕ) (section : List ℕ) → n < limit → base + limit ≤ cellCount → tableCell (base + n) ≡ getD section n 0
-      → getD section n 0 ≡ getD cellTable (base + n % limit) 0
+  rest-entry : (base n limit : ℕ) (section : List ℕ) → n < limit → base + limit ≤ cellCount → tableCell (f .state .chip) (base + n) ≡ getD section n 0
+      → getD section n 0 ≡ getD (cellTable (f .state .chip)) (base + n % limit) 0
   rest-entry base n limit section low fits there =
-      entry base n limit section low fits there ∙ ap (λ (m : ℕ). getD cellTable (base + m) 0) (sym (mod-eq-of-lt low))
+      entry base n limit section low fits there ∙ ap (λ (m : ℕ). getD (cellTable (f .state .chip)) (base + m) 0) (sym (mod-eq-of-lt low))
 
-  pub behind-true : (c : ℕ) → c < 5 → behindOf f c ≡ getD (indexedPlaces cellTable f) c Unnamed
+  pub behind-true : (c : ℕ) → c < 5 → behindOf f c ≡ getD (indexedPlaces (cellTable (f .state .chip)) f) c Unnamed
   unfolding behindOf indexedPlaces decider count
   behind-true zero h =
       let low = bound 0 h in
-      ap plainPlace (rest-entry behindSRX (register f SRX) countSRX (behindPort 0x3C5 countSRX) low (lit≤ tt) (sequencer-cells (register f SRX) low))
+      ap plainPlace (rest-entry behindSRX (register f SRX) countSRX (behindPort 0x3C5 countSRX) low (lit≤ tt) (sequencer-cells (f .state .chip) (register f SRX) low))
   behind-true (suc zero) h =
       let low = bound 1 h in
-      ap plainPlace (rest-entry behindCRX (register f CRX) countCRX (behindPort 0x3B5 countCRX) low (lit≤ tt) (crtc-cells (register f CRX) low))
+      ap plainPlace (rest-entry behindCRX (register f CRX) countCRX (behindPort 0x3B5 countCRX) low (lit≤ tt) (crtc-cells (f .state .chip) (register f CRX) low))
   behind-true (suc (suc zero)) h =
       let low = bound 2 h in
-      ap plainPlace (rest-entry behindGRX (register f GRX) countGRX (behindPort 0x3CF countGRX) low (lit≤ tt) (graphics-cells (register f GRX) low))
+      ap plainPlace (rest-entry behindGRX (register f GRX) countGRX (behindPort 0x3CF countGRX) low (lit≤ tt) (graphics-cells (f .state .chip) (register f GRX) low))
   behind-true (suc (suc (suc zero))) h =
       let low = bound 3 h in
-      ap plainPlace (entry behindARX (attributeIndex f) countARX (behindPort 0x3C1 countARX) low (lit≤ tt) (attribute-cells (attributeIndex f) low))
+      ap plainPlace (entry behindARX (attributeIndex f) countARX (behindPort 0x3C1 countARX) low (lit≤ tt) (attribute-cells (f .state .chip) (attributeIndex f) low))
   behind-true (suc (suc (suc (suc zero)))) h =
       let low = bound 4 h in
-      ap (attributePlace (f .state .toggle)) (entry behindARX (attributeIndex f) countARX (behindPort 0x3C1 countARX) low (lit≤ tt) (attribute-cells (attributeIndex f) low))
+      ap (attributePlace (f .state .toggle)) (entry behindARX (attributeIndex f) countARX (behindPort 0x3C1 countARX) low (lit≤ tt) (attribute-cells (f .state .chip) (attributeIndex f) low))
   behind-true (suc (suc (suc (suc (suc c))))) h = absurd (omega arith)
 
 -- the place of an access that finds something is what its cell names
 module _ (f : File) (bound : Indexed f) (kind address : ℕ) where
   abbrev Cell : ℕ
-  Cell = heldCell kind address
+  Cell = heldCell (f .state .chip) kind address
 
   abbrev Direct : Row → Bool
   Direct row = ltb (Cell % wider) firstIndexed && samePlace (row .place) (plainPlace (Cell % wider))
 
-  direct : (row : Row) → rowAt f kind address ≡ some row → T (Direct row) → placeAt f kind address ≡ cellPlace cellTable f Cell
+  direct : (row : Row) → rowAt f kind address ≡ some row → T (Direct row) → placeAt f kind address ≡ cellPlace (cellTable (f .state .chip)) f Cell
   unfolding placeAt placeOfRow cellPlace
   direct row e t =
       rw (e, is-true (ltb (Cell % wider) firstIndexed) (left (ltb (Cell % wider) firstIndexed) (samePlace (row .place) (plainPlace (Cell % wider))) t))
       (same-place (row .place) (plainPlace (Cell % wider)) (right (ltb (Cell % wider) firstIndexed) (samePlace (row .place) (plainPlace (Cell % wider))) t))
 
-  indexed : T (isDoor doors kind address Cell) → placeAt f kind address ≡ cellPlace cellTable f Cell
+  indexed : T (isDoor doors kind address Cell) → placeAt f kind address ≡ cellPlace (cellTable (f .state .chip)) f Cell
   unfolding cellPlace
   indexed i =
       let t : T (opened (door kind address Cell)) = door-of doors kind address Cell doors-opened i in
@@ -252,14 +281,14 @@ module _ (f : File) (bound : Indexed f) (kind address : ℕ) where
       let small : Cell % wider ≡ Cell = mod-eq-of-lt (omega (arith, to)) in
       let high : firstIndexed ≤ Cell % wider = omega (arith, small, from) in
       rw (le-ltb (Cell % wider) firstIndexed high)
-      (place-chosen f kind address ∙ door-place f bound (door kind address Cell) t
+      (place-chosen f kind address ∙ ap (chosen f) (port-rows (f .state .chip) kind address (is-port f bound (door kind address Cell) t)) ∙ door-place f bound (door kind address Cell) t
       ∙ behind-true f bound (Cell - firstIndexed) (omega (arith, from, to))
-      ∙ ap (λ (n : ℕ). getD (indexedPlaces cellTable f) (n - firstIndexed) Unnamed) (sym small))
+      ∙ ap (λ (n : ℕ). getD (indexedPlaces (cellTable (f .state .chip)) f) (n - firstIndexed) Unnamed) (sym small))
 
-  pub cell-names : kind < 6 → (Cell ≡ nothingHeld → ⊥) → placeAt f kind address ≡ cellPlace cellTable f Cell
+  pub cell-names : kind < 6 → (Cell ≡ nothingHeld → ⊥) → placeAt f kind address ≡ cellPlace (cellTable (f .state .chip)) f Cell
   cell-names h some-cell = by (outcome f kind address h)
     where
-      by : Outcome f kind address → placeAt f kind address ≡ cellPlace cellTable f Cell
+      by : Outcome f kind address → placeAt f kind address ≡ cellPlace (cellTable (f .state .chip)) f Cell
       by (nothing e c) = absurd (some-cell c)
       by (held row e k a s) =
           by-test (Direct row) (λ d. direct row e (passes (Direct row) d))

@@ -7,8 +7,9 @@ use native.Mathlib.Omega.{arith}
 use borrow.Author.Tests.{eq-eqb, ne-eqb, eqb-true, eqb-false}
 use lib.Dec.{T, eqb, leb, ltb}
 use Rattle.bits.proofs.Test.{by-test}
-use Rattle.file.specs.declared.chip.Chip.the-variants.{Gd5464}
+use Rattle.file.specs.declared.chip.Chip.{Chip}
 use Rattle.file.specs.File.{powerOn}
+use Rattle.file.specs.State.{initial}
 use Rattle.places.specs.EngineCells.{otherWayHeld, widerHeld, nothingHeld, heldCell, nothingAt, cellAt, isNothing}
 use Rattle.places.specs.Lookup.{otherWay, someRow, heldIn, isWider, insideIn}
 use Rattle.places.specs.Places.{Row, places}
@@ -32,43 +33,44 @@ either-way rows kind address =
     ap (λ (space : ℕ). someRow (λ (row : Row). eqb address (row .address + 1) && (eqb space (row .kind / 2) && ltb 1 (row .width))) rows) (same-space kind)
 
 -- a cell of nothing is told as one
-pub nothing-there : (kind address : ℕ) → isNothing (nothingAt kind address) ≡ true
+pub nothing-there : (chip : Chip) (kind address : ℕ) → isNothing (nothingAt chip kind address) ≡ true
 unfolding isNothing nothingAt
-nothing-there kind address =
-    by-test (heldIn places (otherWay kind) address) (λ e. rw e refl)
-    (λ e. rw e (by-test (insideIn places kind address) (λ w. rw w refl) (λ w. rw w refl)))
+nothing-there chip kind address =
+    by-test (heldIn (places chip) (otherWay kind) address) (λ e. rw e refl)
+    (λ e. rw e (by-test (insideIn (places chip) kind address) (λ w. rw w refl) (λ w. rw w refl)))
 
 -- where an address's rows have a cell it is theirs, and else one of nothing
-module _ (kind address : ℕ) where
-  pub cell-nothing : heldCell kind address ≡ nothingHeld → cellAt kind address ≡ nothingAt kind address
+module _ (chip : Chip) (kind address : ℕ) where
+  pub cell-nothing : heldCell chip kind address ≡ nothingHeld → cellAt chip kind address ≡ nothingAt chip kind address
   unfolding cellAt
   cell-nothing n = rw (eq-eqb _ _ n) refl
 
-  pub cell-spoken : isNothing (heldCell kind address) ≡ false → cellAt kind address ≡ heldCell kind address
+  pub cell-spoken : isNothing (heldCell chip kind address) ≡ false → cellAt chip kind address ≡ heldCell chip kind address
   unfolding cellAt isNothing
-  cell-spoken s = rw (ne-eqb (heldCell kind address) nothingHeld (λ n. true≢false (ap isNothing (sym n) ∙ s))) refl
+  cell-spoken s = rw (ne-eqb (heldCell chip kind address) nothingHeld (λ n. true≢false (ap isNothing (sym n) ∙ s))) refl
 
 -- a cell that isn't one of nothing is theirs
-module _ (kind address : ℕ) (e : isNothing (cellAt kind address) ≡ false) where
-  pub something-held : heldCell kind address ≡ nothingHeld → ⊥
-  something-held n = true≢false (sym (ap isNothing (cell-nothing kind address n) ∙ nothing-there kind address) ∙ e)
+module _ (chip : Chip) (kind address : ℕ) (e : isNothing (cellAt chip kind address) ≡ false) where
+  pub something-held : heldCell chip kind address ≡ nothingHeld → ⊥
+  something-held n = true≢false (sym (ap isNothing (cell-nothing chip kind address n) ∙ nothing-there chip kind address) ∙ e)
 
-  pub cell-held : cellAt kind address ≡ heldCell kind address
+  pub cell-held : cellAt chip kind address ≡ heldCell chip kind address
   unfolding cellAt
-  cell-held = by-test (eqb (heldCell kind address) nothingHeld) (λ n. absurd (something-held (eqb-true _ _ n))) (λ n. rw n refl)
+  cell-held = by-test (eqb (heldCell chip kind address) nothingHeld) (λ n. absurd (something-held (eqb-true _ _ n))) (λ n. rw n refl)
 
 -- where the rows of both directions have the same cell, so has the address
-module _ (kind address : ℕ) (low : kind < 6) (other : otherWay kind < 6) (back : otherWay (otherWay kind) ≡ kind)
-    (same : heldCell kind address ≡ heldCell (otherWay kind) address) where
-  alike-held : heldIn places (otherWay kind) address ≡ heldIn places (otherWay (otherWay kind)) address
+module _ (chip : Chip) (kind address : ℕ) (low : kind < 6) (other : otherWay kind < 6) (back : otherWay (otherWay kind) ≡ kind)
+    (same : heldCell chip kind address ≡ heldCell chip (otherWay kind) address) where
+  alike-held : heldIn (places chip) (otherWay kind) address ≡ heldIn (places chip) (otherWay (otherWay kind)) address
+  unfolding powerOn initial
   alike-held =
-      told-held (powerOn Gd5464) (otherWay kind) address other
+      told-held (powerOn chip) (otherWay kind) address other
       ∙ ap (λ (cell : ℕ). not (isNothing cell)) (sym same)
-      ∙ sym (told-held (powerOn Gd5464) kind address low)
-      ∙ ap (λ (k : ℕ). heldIn places k address) (sym back)
+      ∙ sym (told-held (powerOn chip) kind address low)
+      ∙ ap (λ (k : ℕ). heldIn (places chip) k address) (sym back)
 
-  pub both-ways : cellAt kind address ≡ cellAt (otherWay kind) address
+  pub both-ways : cellAt chip kind address ≡ cellAt chip (otherWay kind) address
   unfolding cellAt nothingAt
   both-ways =
       ap₂ (λ (cell nothing : ℕ). cond (eqb cell nothingHeld) nothing cell) same
-      (ap₂ (λ (held inside : Bool). cond held otherWayHeld (cond inside widerHeld nothingHeld)) alike-held (sym (either-way places kind address)))
+      (ap₂ (λ (held inside : Bool). cond held otherWayHeld (cond inside widerHeld nothingHeld)) alike-held (sym (either-way (places chip) kind address)))

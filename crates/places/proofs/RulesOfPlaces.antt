@@ -11,10 +11,10 @@ use Rattle.file.specs.Names.{SRX, ARX}
 use Rattle.places.specs.declared.place.Place.{Place}
 use Rattle.places.specs.EngineCells.{nothingHeld, heldCell, inFile, takesBytes}
 use Rattle.places.specs.Lookup.{isOneOf, ofToggle, matches, rowAt, placeAt}
-use Rattle.places.specs.Places.{Row, places}
-use Rattle.places.specs.Profile.{profile, storesInto, flips, resets}
+use Rattle.places.specs.Places.{Row, sharedPlaces, ownPlaces}
+use Rattle.places.specs.Profile.{profile, storesInto, flips, letsPass, resets}
 use Rattle.places.proofs.CellsOfRows.{Outcome, nothing, held, outcome}
-use Rattle.places.proofs.Rows.{every, Passes, row-passes, place-passes}
+use Rattle.places.proofs.Rows.{every, everywhere, Passes, row-passes, place-passes}
 
 -- 'An MMIO access moves no index register': none of its places stores into one
 unfoldable pub mmioRule : ℕ → ℕ → Place → Bool
@@ -23,7 +23,7 @@ mmioRule kind address place =
     not (eqb (kind / 2) 2) || not (leb SRX (storesInto (profile place .writing)) && leb (storesInto (profile place .writing)) ARX)
 
 pub mmio-rule : (f : File) (kind address : ℕ) → T (mmioRule kind address (placeAt f kind address))
-unfolding every places mmioRule
+unfolding everywhere every sharedPlaces ownPlaces mmioRule
 mmio-rule f kind address = place-passes f kind address mmioRule tt (second (not (eqb (kind / 2) 2)) true tt)
 
 -- no other place moves the toggle
@@ -32,12 +32,21 @@ unfolding profile flips resets
 toggleRule kind address place = ofToggle kind address || not (flips (profile place .writing) || resets (profile place .reading))
 
 pub toggle-rule : (f : File) (kind address : ℕ) → T (toggleRule kind address (placeAt f kind address))
-unfolding every places toggleRule ofToggle isOneOf
+unfolding everywhere every sharedPlaces ownPlaces toggleRule ofToggle isOneOf
 toggle-rule f kind address = place-passes f kind address toggleRule tt (second (ofToggle kind address) true tt)
+
+-- 02, 10/13: of kinds 0 to 5 no place lets lines pass
+unfoldable pub lineRule : ℕ → ℕ → Place → Bool
+unfolding profile letsPass
+lineRule kind address place = leb 6 kind || not (letsPass (profile place .writing))
+
+pub line-rule : (f : File) (kind address : ℕ) → T (lineRule kind address (placeAt f kind address))
+unfolding everywhere every sharedPlaces ownPlaces lineRule
+line-rule f kind address = place-passes f kind address lineRule tt (second (leb 6 kind) true tt)
 
 -- the registers that places name are the file's
 pub place-in-file : (f : File) (kind address : ℕ) → T (inFile (placeAt f kind address))
-unfolding every places inFile
+unfolding everywhere every sharedPlaces ownPlaces inFile
 place-in-file f kind address = place-passes f kind address (λ (kind address : ℕ) (place : Place). inFile place) tt tt
 
 -- the pointer's places are one byte wide
@@ -45,8 +54,8 @@ unfoldable pub narrow : Row → Bool
 unfolding profile takesBytes
 narrow row = eqb (row .width) 1 || not (takesBytes (profile (row .place) .writing))
 
-pub all-narrow : T (every narrow places)
-unfolding every narrow places
+pub all-narrow : T (everywhere narrow)
+unfolding everywhere every narrow sharedPlaces ownPlaces
 all-narrow = tt
 
 -- ---- of the ports that are held, those of the CRTC are 3B?h and 3D?h
@@ -74,11 +83,11 @@ halved row =
     not (eqb (row .kind / 2) 1)
     || agree (Mono (row .address)) (eqb (row .address / 16) 0x3B) && agree (Colour (row .address)) (eqb (row .address / 16) 0x3D)
 
-all-halved : T (every halved places)
-unfolding every halved agree isOneOf places
+all-halved : T (everywhere halved)
+unfolding everywhere every halved agree isOneOf sharedPlaces ownPlaces
 all-halved = tt
 
-pub halves : (f : File) (kind address : ℕ) → kind < 6 → (heldCell kind address ≡ nothingHeld → ⊥) → eqb (kind / 2) 1 ≡ true
+pub halves : (f : File) (kind address : ℕ) → kind < 6 → (heldCell (f .state .chip) kind address ≡ nothingHeld → ⊥) → eqb (kind / 2) 1 ≡ true
     → (Mono address ≡ eqb (address / 16) 0x3B) × (Colour address ≡ eqb (address / 16) 0x3D)
 unfolding halved
 halves f kind address h some-cell port = by (outcome f kind address h)

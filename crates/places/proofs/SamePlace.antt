@@ -7,7 +7,7 @@ use lib.Dec.{T, eqb, eqb→eq}
 use lib.ListN.{getD}
 use Rattle.bits.proofs.Test.{left, right}
 use Rattle.places.specs.declared.place.Place.{Place}
-use Rattle.places.specs.declared.place.Place.the-variants.{Register, Attribute, Fixed, DeviceId, ToggleState, AttributeIndex, PaletteState, VPortState, ReadAddress, WriteAddress, PixelData, ToggleReset, Unnamed, UnnamedAttribute}
+use Rattle.places.specs.declared.place.Place.the-variants.{Register, Attribute, Fixed, DeviceId, ToggleState, AttributeIndex, PaletteState, VPortState, ReadAddress, WriteAddress, PixelData, ToggleReset, Unnamed, UnnamedAttribute, CurrentLine, Passing}
 
 unfoldable pub tag : Place → ℕ
 tag (Register n) = 0
@@ -24,6 +24,8 @@ tag Unnamed = 10
 tag UnnamedAttribute = 11
 tag DeviceId = 12
 tag VPortState = 13
+tag CurrentLine = 14
+tag Passing = 15
 
 unfoldable pub number : Place → ℕ
 number (Register n) = n
@@ -40,10 +42,12 @@ number Unnamed = 0
 number UnnamedAttribute = 0
 number DeviceId = 0
 number VPortState = 0
+number CurrentLine = 0
+number Passing = 0
 
 tagged : ℕ → ℕ → Place
 tagged t n =
-    getD (Register n ∷ Attribute n ∷ Fixed n ∷ ToggleState ∷ AttributeIndex ∷ PaletteState ∷ ReadAddress ∷ WriteAddress ∷ PixelData ∷ ToggleReset ∷ Unnamed ∷ UnnamedAttribute ∷ DeviceId ∷ VPortState ∷ []) t Unnamed
+    getD (Register n ∷ Attribute n ∷ Fixed n ∷ ToggleState ∷ AttributeIndex ∷ PaletteState ∷ ReadAddress ∷ WriteAddress ∷ PixelData ∷ ToggleReset ∷ Unnamed ∷ UnnamedAttribute ∷ DeviceId ∷ VPortState ∷ CurrentLine ∷ Passing ∷ []) t Unnamed
 
 tag-number : (p : Place) → tagged (tag p) (number p) ≡ p
 unfolding tag number tagged
@@ -61,6 +65,8 @@ tag-number Unnamed = refl
 tag-number UnnamedAttribute = refl
 tag-number DeviceId = refl
 tag-number VPortState = refl
+tag-number CurrentLine = refl
+tag-number Passing = refl
 
 unfoldable pub samePlace : Place → Place → Bool
 unfolding tag number

@@ -29,5 +29,5 @@ first-seen f kind address (row ∷ rows) =
     (selects-seen f (row .index)) (first-seen f kind address rows)
 
 pub row-seen : (f : File) (kind address : ℕ) → rowAt f kind address ≡ rowAt (seen (f .registers) (f .state)) kind address
-unfolding rowAt
-row-seen f kind address = first-seen f kind address places
+unfolding rowAt seen
+row-seen f kind address = first-seen f kind address (places (f .state .chip))

@@ -1,11 +1,12 @@
 -- What the engine goes by, and nobody beside 01 needs: a cell is a number for what a kind and an address name, read off the list of places, or for
--- what an index names behind an indexed port. The engine's functions take whatever table of cells is lent; `cellTable` is that of the list.
+-- what an index names behind an indexed port. The engine's functions take whatever table of cells is lent; `cellTable` is that of a chip's list.
 -- Assumes nothing.
 use Prim.Native.Nat.{ℕ, zero, suc, _+_, _-_, _*_, _/_, _%_}
 use mathlib.Core.Bool.{Bool, true, false, cond, _&&_}
 use mathlib.Core.List.{List, [], _∷_}
 use lib.Dec.{eqb, leb, ltb}
 use lib.ListN.{getD}
+use Rattle.file.specs.declared.chip.Chip.{Chip}
 use Rattle.file.specs.declared.registers.File.{File}
 use Rattle.file.specs.declared.state.State.{State}
 use Rattle.file.specs.File.{register, seen}
@@ -13,15 +14,15 @@ use Rattle.file.specs.Names.{SRX, CRX, GRX, ARX}
 use Rattle.file.specs.Registers.{registerCount}
 use Rattle.file.specs.State.{unasked}
 use Rattle.places.specs.declared.place.Place.{Place}
-use Rattle.places.specs.declared.place.Place.the-variants.{Register, Attribute, Fixed, DeviceId, ToggleState, AttributeIndex, PaletteState, VPortState, ReadAddress, WriteAddress, PixelData, ToggleReset, Unnamed, UnnamedAttribute}
+use Rattle.places.specs.declared.place.Place.the-variants.{Register, Attribute, Fixed, DeviceId, ToggleState, AttributeIndex, PaletteState, VPortState, ReadAddress, WriteAddress, PixelData, ToggleReset, Unnamed, UnnamedAttribute, CurrentLine, Passing}
 use Rattle.places.specs.Lookup.{attributeIndex, selects, first, placeOfRow, otherWay, heldIn, insideIn}
-use Rattle.places.specs.Profile.{Reading, givesHeld, givesFixed, givesDeviceId, givesToggle, givesPaletteState, givesVPortState, givesDacState, givesAddress, givesPixel, resetsToggle, namesNothing, Writing, storesTo, readOnly, setsAddress, writesPixel, storesNothing, profile}
-use Rattle.places.specs.Places.{Index, any, sr, cr, gr, ar, indexDue, dataDue, Row, places, sr6, pci00}
+use Rattle.places.specs.Profile.{Reading, givesHeld, givesFixed, givesDeviceId, givesToggle, givesPaletteState, givesVPortState, givesDacState, givesAddress, givesPixel, resetsToggle, givesLine, namesNothing, Writing, storesTo, readOnly, setsAddress, writesPixel, storesNothing, passesLines, profile}
+use Rattle.places.specs.Places.{Index, any, sr, cr, gr, ar, indexDue, dataDue, Row, sharedPlaces, places, sr6, pci00}
 
 -- ---- the numbers of cells
 
 -- a register's cell is its number; the places that stand alone follow from 6Ch on, where the registers end, the indexed ports from 78h on, and from 7Dh
--- on the address is not held
+-- on the address is not held, or 7Fh stands behind an index that names no register
 abbrev pub firstAlone : ℕ
 firstAlone = 0x6C
 
@@ -49,10 +50,10 @@ alone =
     ∷ ToggleState
     ∷ AttributeIndex
     ∷ VPortState
-    ∷ Unnamed
+    ∷ CurrentLine
     ∷ []
 
--- what a cell names, whatever the file holds
+-- what a cell names, whatever the file holds: no register where it names none of these
 unfoldable pub plainPlace : ℕ → Place
 unfolding alone
 plainPlace cell = cond (ltb cell registerCount) (Register cell) (getD alone (cell - firstAlone) Unnamed)
@@ -70,8 +71,10 @@ plainCell DeviceId = 0x72
 plainCell ToggleState = 0x74
 plainCell AttributeIndex = 0x75
 plainCell VPortState = 0x76
-plainCell Unnamed = 0x77
-plainCell UnnamedAttribute = 0x77
+plainCell CurrentLine = 0x77
+plainCell Unnamed = nothingHeld
+plainCell UnnamedAttribute = nothingHeld
+plainCell Passing = nothingHeld
 
 -- the cell of an indexed port, by its rows' index
 unfoldable pub indexedCell : Index → ℕ
@@ -94,8 +97,11 @@ unfoldable pub ofAddress : ℕ → List Row → List Row
 ofAddress address [] = []
 ofAddress address (row ∷ rows) = cond (eqb address (row .address)) (row ∷ ofAddress address rows) (ofAddress address rows)
 
-unfoldable pub rowsAt : ℕ → ℕ → List Row
-rowsAt kind address = ofAddress address (ofKind kind places)
+unfoldable pub rowsIn : List Row → ℕ → ℕ → List Row
+rowsIn rows kind address = ofAddress address (ofKind kind rows)
+
+unfoldable pub rowsAt : Chip → ℕ → ℕ → List Row
+rowsAt chip kind address = rowsIn (places chip) kind address
 
 unfoldable pub cellOf : List Row → ℕ
 cellOf [] = nothingHeld
@@ -103,8 +109,8 @@ cellOf (row ∷ []) = plainCell (row .place) + wider * (row .width - 1)
 cellOf (row ∷ next ∷ rows) = indexedCell (row .index)
 
 -- the cell of an address's rows
-unfoldable pub heldCell : ℕ → ℕ → ℕ
-heldCell kind address = cellOf (rowsAt kind address)
+unfoldable pub heldCell : Chip → ℕ → ℕ → ℕ
+heldCell chip kind address = cellOf (rowsAt chip kind address)
 
 -- 02, 2/13: where an address is not held it is held in the other direction only, or inside a wider register, or there is nothing at all
 abbrev pub otherWayHeld : ℕ
@@ -114,12 +120,12 @@ abbrev pub widerHeld : ℕ
 widerHeld = 0x7E
 
 -- 02, 2/13, the cell of an address that has no row: '16 is tested before 17 and 17 before 4'
-unfoldable pub nothingAt : ℕ → ℕ → ℕ
-nothingAt kind address =
-    cond (heldIn places (otherWay kind) address) otherWayHeld (cond (insideIn places kind address) widerHeld nothingHeld)
+unfoldable pub nothingAt : Chip → ℕ → ℕ → ℕ
+nothingAt chip kind address =
+    cond (heldIn (places chip) (otherWay kind) address) otherWayHeld (cond (insideIn (places chip) kind address) widerHeld nothingHeld)
 
-unfoldable pub cellAt : ℕ → ℕ → ℕ
-cellAt kind address = cond (eqb (heldCell kind address) nothingHeld) (nothingAt kind address) (heldCell kind address)
+unfoldable pub cellAt : Chip → ℕ → ℕ → ℕ
+cellAt chip kind address = cond (eqb (heldCell chip kind address) nothingHeld) (nothingAt chip kind address) (heldCell chip kind address)
 
 -- the place that a file selects among rows
 unfoldable pub chosen : File → List Row → Place
@@ -134,9 +140,9 @@ unfoldable pub cellsFrom : List Row → ℕ → ℕ → List ℕ
 cellsFrom rows n zero = []
 cellsFrom rows n (suc count) = plainCell (chosen (seen (indicesAt n) unasked) rows) ∷ cellsFrom rows (n + 1) count
 
--- the cells behind an indexed port, by its index
+-- the cells behind an indexed port, by its index; the ports are those of both chips
 unfoldable pub behindPort : ℕ → ℕ → List ℕ
-behindPort address count = cellsFrom (rowsAt 2 address) 0 count
+behindPort address count = cellsFrom (rowsIn sharedPlaces 2 address) 0 count
 
 -- ---- the engine's one table, by sections: each begins where the one before it ends
 
@@ -192,26 +198,42 @@ mmioSpace = configSpace + configCount
 abbrev pub mmioCount : ℕ
 mmioCount = 0x110
 
+-- 02, 10/13, 'MMIO 140h gives the line, CSL': MMIO reads and MMIO writes from there on. All below is held both ways or not at all
+abbrev pub cslReads : ℕ
+cslReads = mmioSpace + mmioCount
+
+abbrev pub cslAddress : ℕ
+cslAddress = 0x140
+
+abbrev pub cslCount : ℕ
+cslCount = 2
+
+abbrev pub cslWrites : ℕ
+cslWrites = cslReads + cslCount
+
 abbrev pub cellCount : ℕ
-cellCount = mmioSpace + mmioCount
+cellCount = cslWrites + cslCount
 
 -- one section of a table: so many entries by a rule
 unfoldable pub tabled : ℕ → (ℕ → ℕ) → List ℕ
 tabled zero rule = []
 tabled (suc count) rule = rule 0 ∷ tabled count (λ (i : ℕ). rule (suc i))
 
-unfoldable pub tableCell : ℕ → ℕ
-tableCell n =
-    cond (ltb n portWrites) (cellAt 2 (firstPort + n))
-    (cond (ltb n behindSRX) (cellAt 3 (firstPort + (n - portWrites)))
+unfoldable pub tableCell : Chip → ℕ → ℕ
+tableCell chip n =
+    cond (ltb n portWrites) (cellAt chip 2 (firstPort + n))
+    (cond (ltb n behindSRX) (cellAt chip 3 (firstPort + (n - portWrites)))
     (cond (ltb n behindCRX) (getD (behindPort 0x3C5 countSRX) (n - behindSRX) 0)
     (cond (ltb n behindGRX) (getD (behindPort 0x3B5 countCRX) (n - behindCRX) 0)
     (cond (ltb n behindARX) (getD (behindPort 0x3CF countGRX) (n - behindGRX) 0)
     (cond (ltb n configSpace) (getD (behindPort 0x3C1 countARX) (n - behindARX) 0)
-    (cond (ltb n mmioSpace) (cellAt 0 (n - configSpace)) (cellAt 4 (n - mmioSpace))))))))
+    (cond (ltb n mmioSpace) (cellAt chip 0 (n - configSpace))
+    (cond (ltb n cslReads) (cellAt chip 4 (n - mmioSpace))
+    (cond (ltb n cslWrites) (cellAt chip 4 (cslAddress + (n - cslReads))) (cellAt chip 5 (cslAddress + (n - cslWrites)))))))))))
 
-unfoldable pub cellTable : List ℕ
-cellTable = tabled cellCount tableCell
+-- 02, 10/13: the table of a chip
+unfoldable pub cellTable : Chip → List ℕ
+cellTable chip = tabled cellCount (tableCell chip)
 
 -- ---- what the engine finds in whatever table is lent
 
@@ -224,16 +246,23 @@ portCell cells write address =
 unfoldable pub configCell : List ℕ → ℕ → ℕ
 configCell cells address = cond (ltb address configCount) (getD cells (configSpace + address) 0) nothingHeld
 
-unfoldable pub mmioCell : List ℕ → ℕ → ℕ
-mmioCell cells address =
+-- 02, 10/13: the cell of an MMIO address from 140h on
+unfoldable pub cslCell : List ℕ → Bool → ℕ → ℕ
+cslCell cells write address =
+    cond (leb cslAddress address && ltb address (cslAddress + cslCount))
+    (getD cells (cond write cslWrites cslReads + (address - cslAddress)) 0)
+    nothingHeld
+
+unfoldable pub mmioCell : List ℕ → Bool → ℕ → ℕ
+mmioCell cells write address =
     cond (ltb address mmioCount) (getD cells (mmioSpace + address) 0)
-    (cond (leb configInMmio address) (configCell cells (address - configInMmio)) nothingHeld)
+    (cond (leb configInMmio address) (configCell cells (address - configInMmio)) (cslCell cells write address))
 
 unfoldable pub cellIn : List ℕ → ℕ → ℕ → ℕ
 cellIn cells kind address =
     cond (eqb (kind / 2) 0) (configCell cells address)
     (cond (eqb (kind / 2) 1) (portCell cells (eqb (kind % 2) 1) address)
-    (cond (eqb (kind / 2) 2) (mmioCell cells address) nothingHeld))
+    (cond (eqb (kind / 2) 2) (mmioCell cells (eqb (kind % 2) 1) address) nothingHeld))
 
 -- 02, 2/13: the cell of an address that is not held, one of the three, whatever its bit 80h
 unfoldable pub isNothing : ℕ → Bool
@@ -279,6 +308,7 @@ readsFile givesDacState = true
 readsFile givesAddress = true
 readsFile givesPixel = true
 readsFile resetsToggle = true
+readsFile givesLine = true
 readsFile namesNothing = true
 
 unfoldable pub writesFile : Writing → Bool
@@ -287,6 +317,7 @@ writesFile readOnly = true
 writesFile (setsAddress reading) = true
 writesFile writesPixel = true
 writesFile (storesNothing flips) = true
+writesFile passesLines = true
 
 unfoldable pub inFile : Place → Bool
 unfolding profile readsFile writesFile
@@ -299,6 +330,7 @@ taken readOnly value = value
 taken (setsAddress reading) value = value % 256
 taken writesPixel value = value % 256
 taken (storesNothing flips) value = value
+taken passesLines value = value
 
 unfoldable pub takesBytes : Writing → Bool
 takesBytes (storesTo number flips) = false
@@ -306,3 +338,4 @@ takesBytes readOnly = false
 takesBytes (setsAddress reading) = true
 takesBytes writesPixel = true
 takesBytes (storesNothing flips) = false
+takesBytes passesLines = false

@@ -42,8 +42,9 @@ unfoldable pub first : (Row → Bool) → List Row → Option Row
 first test [] = none
 first test (row ∷ rows) = cond (test row) (some row) (first test rows)
 
+-- 02, 10/13: which places there are goes by the file's chip
 unfoldable pub rowAt : File → ℕ → ℕ → Option Row
-rowAt f kind address = first (matches f kind address) places
+rowAt f kind address = first (matches f kind address) (places (f .state .chip))
 
 unfoldable pub placeOfRow : Option Row → Place
 placeOfRow none = Unnamed

@@ -1,11 +1,14 @@
--- 01, 'Places', and 02, 6/13, as one flat list, on both chips: a row for each kind of record, address and index, with its width and what stands there.
+-- 01, 'Places', and 02, 6/13 and 10/13, as one flat list, for each chip: a row for each kind of record, address and index, with its width and what stands
+-- there.
 -- Assumes nothing.
 use Prim.Native.Nat.{ℕ, suc, _+_, _*_}
 use mathlib.Core.Bool.{cond}
 use mathlib.Core.List.{List, [], _∷_, _++_}
 use lib.Dec.{eqb}
 use Rattle.places.specs.declared.place.Place.{Place}
-use Rattle.places.specs.declared.place.Place.the-variants.{Register, Attribute, Fixed, DeviceId, ToggleState, AttributeIndex, PaletteState, VPortState, ReadAddress, WriteAddress, PixelData, ToggleReset, Unnamed, UnnamedAttribute}
+use Rattle.places.specs.declared.place.Place.the-variants.{Register, Attribute, Fixed, DeviceId, ToggleState, AttributeIndex, PaletteState, VPortState, ReadAddress, WriteAddress, PixelData, ToggleReset, Unnamed, UnnamedAttribute, CurrentLine, Passing}
+use Rattle.file.specs.declared.chip.Chip.{Chip}
+use Rattle.file.specs.declared.chip.Chip.the-variants.{Gd5462, Gd5464}
 use Rattle.file.specs.Registers.{Register as Stored, sequencer, crtc, graphics, attribute, pipeline, vPort}
 use Rattle.file.specs.Names.{MISC, SRX, CRX, GRX, ARX, pixelMask, PCI04, SR0, SR0E, SR1E, CR0, GR0, AR0, B0, buffer0X, captureYStart}
 
@@ -17,7 +20,7 @@ pub data Index : Type 0 where
   indexDue : Index
   dataDue : ℕ → Index
 
--- a row. The kind is a record's: 0 config read, 1 config write, 2 port read, 3 port write, 4 MMIO read, 5 MMIO write
+-- a row. The kind is a record's: 0 config read, 1 config write, 2 port read, 3 port write, 4 MMIO read, 5 MMIO write, 6 lines pass (02, 10/13)
 pub record Row : Type 0 where
   pub kind : ℕ
   pub address : ℕ
@@ -85,7 +88,7 @@ generalPorts =
     ++ each (λ (r : Stored) (n : ℕ). port 0x3CF (gr (r .index)) (Register n)) GR0 graphics
     ++ port 0x3CF any Unnamed
 
--- '3?4h/3?5h; 3?Ah read (gives 0, sets the toggle to index)', from 3?0h on
+-- '3?4h/3?5h; 3?Ah read (.. sets the toggle to index)', from 3?0h on; what 3?Ah gives is 02, 10/13's
 unfoldable pub crtcPorts : ℕ → List Row
 unfolding each crtc
 crtcPorts base =
@@ -133,7 +136,22 @@ pciPlaces =
     ++ mmio 0x302 2 DeviceId
     ++ mmio 0x304 2 (Register PCI04)
 
--- every place. An access's is the first row that fits
-unfoldable pub places : List Row
-unfolding attributePorts generalPorts crtcPorts mmioPlaces vPortPlaces pciPlaces
-places = attributePorts ++ generalPorts ++ crtcPorts 0x3B0 ++ crtcPorts 0x3D0 ++ mmioPlaces ++ vPortPlaces ++ pciPlaces
+-- 02, 10/13: 'kind 6: width 2, address 0'. It stands in no space
+unfoldable pub passingPlaces : List Row
+passingPlaces = row 6 0 any 2 Passing ∷ []
+
+-- the places of both chips
+unfoldable pub sharedPlaces : List Row
+unfolding attributePorts generalPorts crtcPorts mmioPlaces vPortPlaces pciPlaces passingPlaces
+sharedPlaces =
+    attributePorts ++ generalPorts ++ crtcPorts 0x3B0 ++ crtcPorts 0x3D0 ++ mmioPlaces ++ vPortPlaces ++ pciPlaces ++ passingPlaces
+
+-- those of one chip alone; 02, 10/13: 'On the 5464 a 16-bit read of MMIO 140h gives the line, CSL; a write gets 16'
+unfoldable pub ownPlaces : Chip → List Row
+ownPlaces Gd5462 = []
+ownPlaces Gd5464 = row 4 0x140 any 2 CurrentLine ∷ []
+
+-- every place of a chip. An access's is the first row that fits
+unfoldable pub places : Chip → List Row
+unfolding sharedPlaces ownPlaces
+places chip = sharedPlaces ++ ownPlaces chip

@@ -1,11 +1,13 @@
 // From a kind and an address to a place. A cell is a number for what they name: a register's number, from 6Ch on a place that stands alone, from 78h
-// on an indexed port, from 7Dh on nothing; 80h more at width 2. Whatever table of cells is lent, each function answers; `cells` is 01's.
+// on an indexed port, from 7Dh on nothing; 80h more at width 2. Whatever table of cells is lent, each function answers; `cells` is a chip's.
 ghost use mathlib.Core.Path.{_≡_};
+ghost use Rattle.file.specs.declared.chip.Chip.the-variants.{Gd5462, Gd5464};
 ghost use Rattle.file.specs.File.{seen};
-ghost use Rattle.places.specs.EngineCells.{cellTable, cellIn, portCell, mmioCell, configCell, isNothing, cellWidth, plainPlace, attributePlace, cellPlace};
+ghost use Rattle.places.specs.EngineCells.{cellTable, cellIn, portCell, cslCell, mmioCell, configCell, isNothing, cellWidth, plainPlace, attributePlace, cellPlace};
 use crate::place::Place;
 use file::ARX;
 use file::CRX;
+use file::Chip;
 use file::GRX;
 use file::REGISTERS;
 use file::SRX;
@@ -21,6 +23,9 @@ const NOTHING: u8 = 0x7F;
 // What is added at width 2.
 const WIDER: u8 = 0x80;
 
+// The line's cell.
+const CURRENT_LINE: u8 = 0x77;
+
 // What SR6 and PCI00 read.
 const SR6: u16 = 0x12;
 
@@ -30,7 +35,7 @@ const PCI00: u16 = 0x1013;
 const FIRST_INDEXED: u8 = 0x78;
 
 // The table's sections: port reads and port writes from 3B0h on; what stands behind SRX, CRX, GRX and ARX, by the numbers that these may hold;
-// config space, which stands at 300h of MMIO too; and MMIO.
+// config space, which stands at 300h of MMIO too; MMIO; and MMIO reads and MMIO writes from 140h on.
 const FIRST_PORT: usize = 0x3B0;
 
 const PORTS: usize = 48;
@@ -63,9 +68,17 @@ const MMIO_SPACE: usize = CONFIG_SPACE + CONFIG;
 
 const MMIO: usize = 0x110;
 
-pub const CELLS: usize = MMIO_SPACE + MMIO;
+const CSL_READS: usize = MMIO_SPACE + MMIO;
 
-// 01's cells, sixteen to a row, section by section.
+const CSL_ADDRESS: usize = 0x140;
+
+const CSL: usize = 2;
+
+const CSL_WRITES: usize = CSL_READS + CSL;
+
+pub const CELLS: usize = CSL_WRITES + CSL;
+
+// The cells of 01 and 02, sixteen to a row, section by section; those from 140h on are the 5462's.
 const TABLE: [u8; CELLS] = *b"\
 \x7F\x7F\x7F\x7F\x02\x79\x7F\x7F\x7F\x7F\x70\x7F\x7F\x7F\x7F\x7F\
 \x04\x7B\x7D\x7F\x01\x78\x05\x6D\x6E\x6F\x7F\x7F\x00\x7F\x03\x7A\
@@ -73,18 +86,18 @@ const TABLE: [u8; CELLS] = *b"\
 \x7F\x7F\x7F\x7F\x02\x79\x7F\x7F\x7F\x7F\x7D\x7F\x7F\x7F\x7F\x7F\
 \x7C\x7D\x00\x7F\x01\x78\x05\x6D\x6E\x6F\x7F\x7F\x7D\x7F\x03\x7A\
 \x7F\x7F\x7F\x7F\x02\x79\x7F\x7F\x7F\x7F\x7D\x7F\x7F\x7F\x7F\x7F\
-\x07\x08\x09\x0A\x0B\x77\x73\x0C\x77\x0D\x0E\x0F\x10\x11\x12\x77\
-\x77\x77\x77\x77\x13\x14\x77\x77\x77\x77\x77\x15\x16\x17\x18\x77\
+\x07\x08\x09\x0A\x0B\x7F\x73\x0C\x7F\x0D\x0E\x0F\x10\x11\x12\x7F\
+\x7F\x7F\x7F\x7F\x13\x14\x7F\x7F\x7F\x7F\x7F\x15\x16\x17\x18\x7F\
 \x19\x1A\x1B\x1C\x1D\x1E\x1F\x20\x21\x22\x23\x24\x25\x26\x27\x28\
-\x29\x2A\x2B\x2C\x2D\x2E\x2F\x30\x31\x32\x33\x34\x77\x35\x36\x77\
-\x77\x77\x77\x77\x74\x77\x75\x77\x77\x77\x77\x77\x77\x77\x77\x77\
-\x77\x77\x77\x77\x77\x77\x77\x77\x77\x77\x77\x77\x77\x77\x77\x77\
-\x37\x38\x39\x3A\x3B\x3C\x3D\x3E\x3F\x77\x77\x77\x77\x77\x77\x77\
-\x77\x77\x77\x77\x77\x77\x77\x77\x77\x77\x77\x77\x77\x77\x77\x77\
-\x77\x77\x77\x77\x77\x77\x77\x77\x77\x77\x77\x77\x77\x77\x77\x77\
-\x77\x77\x77\x77\x77\x77\x77\x77\x77\x77\x77\x77\x77\x77\x77\x77\
+\x29\x2A\x2B\x2C\x2D\x2E\x2F\x30\x31\x32\x33\x34\x7F\x35\x36\x7F\
+\x7F\x7F\x7F\x7F\x74\x7F\x75\x7F\x7F\x7F\x7F\x7F\x7F\x7F\x7F\x7F\
+\x7F\x7F\x7F\x7F\x7F\x7F\x7F\x7F\x7F\x7F\x7F\x7F\x7F\x7F\x7F\x7F\
+\x37\x38\x39\x3A\x3B\x3C\x3D\x3E\x3F\x7F\x7F\x7F\x7F\x7F\x7F\x7F\
+\x7F\x7F\x7F\x7F\x7F\x7F\x7F\x7F\x7F\x7F\x7F\x7F\x7F\x7F\x7F\x7F\
+\x7F\x7F\x7F\x7F\x7F\x7F\x7F\x7F\x7F\x7F\x7F\x7F\x7F\x7F\x7F\x7F\
+\x7F\x7F\x7F\x7F\x7F\x7F\x7F\x7F\x7F\x7F\x7F\x7F\x7F\x7F\x7F\x7F\
 \x40\x41\x42\x43\x44\x45\x46\x47\x48\x49\x4A\x4B\x4C\x4D\x4E\x4F\
-\x50\x51\x52\x53\x54\x77\x77\x77\x77\x77\x77\x77\x77\x77\x77\x77\
+\x50\x51\x52\x53\x54\x7F\x7F\x7F\x7F\x7F\x7F\x7F\x7F\x7F\x7F\x7F\
 \xF1\x7E\xF2\x7E\x86\x7E\
 \x19\x7F\x7F\x7F\x1A\x7F\x7F\x7F\x1B\x7F\x7F\x7F\x1C\x7F\x7F\x7F\
 \x1D\x7F\x7F\x7F\x1E\x7F\x7F\x7F\x1F\x7F\x7F\x7F\x20\x7F\x7F\x7F\
@@ -102,13 +115,35 @@ const TABLE: [u8; CELLS] = *b"\
 \xDB\x7E\xDC\x7E\x5D\x5E\x7F\x7F\x7F\x7F\x7F\x7F\x7F\x7F\x7F\x7F\
 \xDF\x7E\xE0\x7E\xE1\x7E\xE2\x7E\xE3\x7E\x7F\x7F\x7F\x7F\x7F\x7F\
 \x7F\x7F\x7F\x7F\x7F\x7F\x7F\x7F\x7F\x7F\x7F\x7F\x7F\x7F\x7F\x7F\
-\xE4\x7E\xE5\x7E\xE6\x7E\xE7\x7E\xE8\x7E\xE9\x7E\xF6\x7E\xEB\x7E";
+\xE4\x7E\xE5\x7E\xE6\x7E\xE7\x7E\xE8\x7E\xE9\x7E\xF6\x7E\xEB\x7E\
+\x7F\x7F\x7F\x7F";
 
-// The table of cells by value, for those who lend it: a constant that is indexed is copied first.
-pub fn cells() -> [u8; CELLS]
-    ensures { λ r. ⌜ r ≡ cellTable ⌝ }
+// The table of a chip's cells by value, for those who lend it: a constant that is indexed is copied first.
+pub fn cells(chip: Chip) -> [u8; CELLS]
+    ensures { λ r. ⌜ r ≡ cellTable chip ⌝ }
+{
+    match chip {
+        Chip::Gd5462 => without_line(),
+        Chip::Gd5464 => with_line(),
+    }
+}
+
+fn without_line() -> [u8; CELLS]
+    ensures { λ r. ⌜ r ≡ cellTable Gd5462 ⌝ }
 {
     TABLE
+}
+
+// On the 5464 the line is read at 140h, at width 2, and not written.
+fn with_line() -> [u8; CELLS]
+    ensures { λ r. ⌜ r ≡ cellTable Gd5464 ⌝ }
+{
+    let mut cells = TABLE;
+    cells[CSL_READS] = CURRENT_LINE + WIDER;
+    cells[CSL_READS + 1] = WIDER_HELD;
+    cells[CSL_WRITES] = OTHER_WAY_HELD;
+    cells[CSL_WRITES + 1] = WIDER_HELD;
+    cells
 }
 
 // The cell of a kind and an address.
@@ -124,7 +159,7 @@ pub fn cell_at(cells: &[u8; CELLS], kind: u8, address: u16) -> u8
         return port_cell(cells, kind % 2 == 1, at);
     }
     if space == 2 {
-        return mmio_cell(cells, at);
+        return mmio_cell(cells, kind % 2 == 1, at);
     }
     NOTHING
 }
@@ -145,16 +180,32 @@ fn port_cell(cells: &[u8; CELLS], write: bool, at: usize) -> u8
     }
 }
 
-fn mmio_cell(cells: &[u8; CELLS], at: usize) -> u8
-    ensures { λ r. ⌜ r ≡ mmioCell (now (cells .entry)) at ⌝ }
+fn mmio_cell(cells: &[u8; CELLS], write: bool, at: usize) -> u8
+    ensures { λ r. ⌜ r ≡ mmioCell (now (cells .entry)) write at ⌝ }
 {
     if at < MMIO {
         return cells[MMIO_SPACE + at];
     }
     if at < CONFIG_IN_MMIO {
-        return NOTHING;
+        return csl_cell(cells, write, at);
     }
     config_cell(cells, at - CONFIG_IN_MMIO)
+}
+
+fn csl_cell(cells: &[u8; CELLS], write: bool, at: usize) -> u8
+    ensures { λ r. ⌜ r ≡ cslCell (now (cells .entry)) write at ⌝ }
+{
+    if at < CSL_ADDRESS {
+        return NOTHING;
+    }
+    if CSL_ADDRESS + CSL <= at {
+        return NOTHING;
+    }
+    if write {
+        cells[CSL_WRITES + (at - CSL_ADDRESS)]
+    } else {
+        cells[CSL_READS + (at - CSL_ADDRESS)]
+    }
 }
 
 fn config_cell(cells: &[u8; CELLS], at: usize) -> u8
@@ -201,6 +252,7 @@ fn plain(cell: u8) -> Place
         0x74 => Place::ToggleState,
         0x75 => Place::AttributeIndex,
         0x76 => Place::VPortState,
+        CURRENT_LINE => Place::CurrentLine,
         _ => Place::Unnamed,
     }
 }

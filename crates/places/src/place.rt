@@ -22,10 +22,14 @@ pub enum Place {
     WriteAddress,
     // 3C9h
     PixelData,
-    // 3?Ah: a read sets the toggle to index
+    // 3?Ah: a read gives what the display is doing and sets the toggle to index
     ToggleReset,
     // an index that names no held register
     Unnamed,
     // the same at a data write of 3C0h, which still flips the toggle
     UnnamedAttribute,
+    // 140h on the 5464: the line that the display is at
+    CurrentLine,
+    // what a record of kind 6 finds: lines pass
+    Passing,
 }

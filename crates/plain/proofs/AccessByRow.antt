@@ -1,12 +1,13 @@
 -- By a list that says 01's places and stored bits, the checks and the row that is found give 01's answer and 01's file. Assumes nothing.
 use Prim.Native.Nat.{ℕ, _<_, _^_}
 use mathlib.Core.Path.{_≡_, refl, sym, ap, ap₂, _∙_, subst}
-use mathlib.Core.Bool.{Bool, true, false, cond, true≢false, not, _&&_, _||_}
+use mathlib.Core.Bool.{Bool, true, false, cond, true≢false, not, _&&_}
 use mathlib.Core.List.{List}
 use mathlib.Core.Option.{some}
 use lib.Dec.{T, eqb, eqb→eq}
+use native.Mathlib.Omega.{arith}
 use lib.ListN.{getD}
-use Rattle.bits.proofs.Test.{left, right, either, by-test, is-true, twice}
+use Rattle.bits.proofs.Test.{left, right, either, by-test, is-true}
 use Rattle.file.specs.declared.answer.Answer.{Answer}
 use Rattle.file.specs.declared.effect.Effect.{Effect}
 use Rattle.file.specs.declared.effect.Effect.the-variants.{Nothing}
@@ -18,18 +19,17 @@ use Rattle.places.specs.declared.place.Place.{Place}
 use Rattle.places.specs.EngineCells.{inFile, takesBytes}
 use Rattle.places.specs.Lookup.{matches, selects, rowAt, placeOfRow, placeAt}
 use Rattle.places.specs.Places.{Row as PlaceRow}
-use Rattle.places.specs.Profile.{Writing, storesTo, readOnly, setsAddress, writesPixel, storesNothing, profile, storesInto}
+use Rattle.places.specs.Profile.{Writing, storesTo, readOnly, setsAddress, writesPixel, storesNothing, passesLines, profile, storesInto}
 use Rattle.places.proofs.Rows.{Passes, row-passes}
 use Rattle.places.proofs.RulesOfPlaces.{narrow, all-narrow, place-in-file}
 use Rattle.access.specs.declared.record.Record.{Record}
 use Rattle.access.specs.Access.{placeOf, reachIn, answerAt, effectAt, writeEffect, answer, effect}
-use Rattle.access.specs.Checks.{isWrite}
-use Rattle.access.proofs.PassedChecks.{value-fits, word-fits}
+use Rattle.access.specs.Checks.{isWrite, carries, malformed}
+use Rattle.access.specs.Engine.{noAccess, linesPass}
+use Rattle.access.proofs.PassedChecks.{kind-below, value-fits, word-fits, carries-below, Passing, is-passing, malformed-told}
 use Rattle.plain.specs.declared.checks.Looked.{Looked}
 use Rattle.plain.specs.declared.checks.Looked.the-variants.{Refused, Means}
 use Rattle.plain.specs.declared.row.Row.{Row}
-use Rattle.plain.specs.declared.told.Told.{Told}
-use Rattle.plain.specs.declared.walk.Found.{Found}
 use Rattle.plain.specs.Looked.{lookedOver}
 use Rattle.plain.specs.Rows.{Listed, rowCount, rowsOf, ofChip, indexOf, said, bitsRight}
 use Rattle.plain.specs.Told.{told, readTold, rowReach, writeTold, accessTold}
@@ -47,6 +47,18 @@ same-effect f stored readOnly value e = refl
 same-effect f stored (setsAddress reading) value e = refl
 same-effect f stored writesPixel value e = refl
 same-effect f stored (storesNothing flips) value e = refl
+same-effect f stored passesLines value e = refl
+
+-- a record in good form is an ordinary access, or lets lines pass
+by-form : {P : Type 0} (f : File) (r : Record) → malformed f r ≡ false → (noAccess r ≡ false → P) → (Passing r → P) → P
+by-form f r m access lines =
+    by-test (noAccess r)
+    (λ n. by-test (linesPass r) (λ p. lines (is-passing r p)) (λ p. absurd (true≢false (rw (n, p) at (sym (malformed-told f r) ∙ m)))))
+    access
+
+-- of an access what brings a value is a write
+writes : (r : Record) → noAccess r ≡ false → carries r ≡ true → isWrite r ≡ true
+writes r n c = sym (carries-below r (kind-below r n)) ∙ c
 
 module _ (text : List ℕ) (listed : Listed text) (f : File) (r : Record) where
   abbrev Rows : List Row
@@ -55,17 +67,17 @@ module _ (text : List ℕ) (listed : Listed text) (f : File) (r : Record) where
   abbrev Looks : Looked
   Looks = lookedOver Rows f r
 
-  answer-settled : answer f r ≡ settled Looks (answerAt (isWrite r) f (placeOf f r))
+  answer-settled : answer f r ≡ settled Looks (answerAt (carries r) f (placeOf f r))
   unfolding answer
-  answer-settled = in-order Rows f r (listed .places (f .state .chip)) (answerAt (isWrite r) f (placeOf f r))
+  answer-settled = in-order Rows f r (listed .places (f .state .chip)) (answerAt (carries r) f (placeOf f r))
 
   -- what the checks refuse is answered so, and leaves the file
   pub refused-told : (a : Answer) → Looks ≡ Refused a → record { answer = a; file = f } ≡ accessTold f r
   unfolding accessTold effect apply settled
-  refused-told a e = sym (ap₂ (λ (x : Answer) (y : Bool). record { answer = x; file = apply (cond y Nothing (effectAt (isWrite r) f (placeOf f r) (r .value))) f }) same (ap refused same ∙ is-true (refused a) (is-refused Rows f r a e)))
+  refused-told a e = sym (ap₂ (λ (x : Answer) (y : Bool). record { answer = x; file = apply (cond y Nothing (effectAt (carries r) f (placeOf f r) (r .value))) f }) same (ap refused same ∙ is-true (refused a) (is-refused Rows f r a e)))
     where
       same : answer f r ≡ a
-      same = answer-settled ∙ ap (λ (l : Looked). settled l (answerAt (isWrite r) f (placeOf f r))) e
+      same = answer-settled ∙ ap (λ (l : Looked). settled l (answerAt (carries r) f (placeOf f r))) e
 
   -- past them the record's place is the row's
   module _ (row : Row) (e : Looks ≡ Means row) where
@@ -80,22 +92,24 @@ module _ (text : List ℕ) (listed : Listed text) (f : File) (r : Record) where
     unfolding placeOf placeAt placeOfRow said
     place-there = ap placeOfRow meant
 
-    answer-there : answer f r ≡ answerAt (isWrite r) f (placeOf f r)
+    answer-there : answer f r ≡ answerAt (carries r) f (placeOf f r)
     unfolding settled
-    answer-there = answer-settled ∙ ap (λ (l : Looked). settled l (answerAt (isWrite r) f (placeOf f r))) e
+    answer-there = answer-settled ∙ ap (λ (l : Looked). settled l (answerAt (carries r) f (placeOf f r))) e
 
     pub names-file : T (inFile (row .place))
     unfolding placeOf
     names-file = subst (λ (p : Place). T (inFile p)) place-there (place-in-file f (r .kind) (r .address))
 
-    pub fits-word : isWrite r ≡ true → r .value < 65536
-    fits-word = word-fits f r (through .formed)
+    pub fits-word : carries r ≡ true → r .value < 65536
+    fits-word c = by-form f r (through .formed) (λ n. word-fits r n (writes r n c)) (λ p. p .value)
 
     -- the pointer's places are one byte wide
-    pub fits-byte : isWrite r ≡ true → T (takesBytes (profile (row .place) .writing)) → r .value < 256
+    pub fits-byte : carries r ≡ true → T (takesBytes (profile (row .place) .writing)) → r .value < 256
     unfolding narrow said
-    fits-byte w t =
-        subst (λ (n : ℕ). r .value < 256 ^ n) (sym (through .width) ∙ eqb→eq (row .width) 1 one) (value-fits f r (through .formed) w)
+    fits-byte c t =
+        by-form f r (through .formed)
+        (λ n. subst (λ (k : ℕ). r .value < 256 ^ k) width (value-fits r n (writes r n c)))
+        (λ p. absurd (omega (arith, width, p .width)))
       where
         rule : T (narrow (said row (r .kind)) && matches f (r .kind) (r .address) (said row (r .kind)))
         rule = subst (Passes (λ (x : PlaceRow). narrow x && matches f (r .kind) (r .address) x)) meant (row-passes f (r .kind) (r .address) narrow all-narrow)
@@ -106,6 +120,9 @@ module _ (text : List ℕ) (listed : Listed text) (f : File) (r : Record) where
             (subst (λ (b : Bool). T b) (or-swapped (eqb (row .width) 1) (not (takesBytes (profile (row .place) .writing))))
             (left (narrow (said row (r .kind))) (matches f (r .kind) (r .address) (said row (r .kind))) rule))
             (λ n. true≢false (sym (is-true (not (takesBytes (profile (row .place) .writing))) n) ∙ ap not (is-true (takesBytes (profile (row .place) .writing)) t)))
+
+        width : r .width ≡ 1
+        width = sym (through .width) ∙ eqb→eq (row .width) 1 one
 
     -- its bits are the register's on the file's chip
     bits-there : row .stored ≡ getD (storedTable (f .state .chip)) (storesInto (profile (row .place) .writing)) 0
@@ -125,17 +142,17 @@ module _ (text : List ℕ) (listed : Listed text) (f : File) (r : Record) where
             (right (isAt (r .kind) (r .address) row) (selected f row) (right (bitsRight (f .state .chip) (storedTable (f .state .chip)) row) (fits f (r .kind) (r .address) row) passes))
 
     -- what is told there
-    told-there : (a : Answer) (does : Effect) → a ≡ answer f r → does ≡ effectAt (isWrite r) f (placeOf f r) (r .value) → told f a does ≡ accessTold f r
+    told-there : (a : Answer) (does : Effect) → a ≡ answer f r → does ≡ effectAt (carries r) f (placeOf f r) (r .value) → told f a does ≡ accessTold f r
     unfolding told accessTold effect
     told-there a does same-answer same-effect = λ i. told f (same-answer i) (same-effect i)
 
-    pub write-told : isWrite r ≡ true → writeTold f (row .stored) (profile (row .place) .writing) (r .value) ≡ accessTold f r
+    pub write-told : carries r ≡ true → writeTold f (row .stored) (profile (row .place) .writing) (r .value) ≡ accessTold f r
     unfolding writeTold answerAt effectAt
     write-told w =
         told-there _ _
         (sym (answer-there ∙ rw (w, place-there) refl))
         (same-effect f (row .stored) (profile (row .place) .writing) (r .value) bits-there ∙ sym (rw (w, place-there) refl))
 
-    pub read-told : isWrite r ≡ false → readTold f (profile (row .place) .reading) ≡ accessTold f r
+    pub read-told : carries r ≡ false → readTold f (profile (row .place) .reading) ≡ accessTold f r
     unfolding readTold answerAt effectAt
     read-told w = told-there _ _ (sym (answer-there ∙ rw (w, place-there) refl)) (sym (rw (w, place-there) refl))

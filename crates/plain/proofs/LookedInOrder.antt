@@ -31,7 +31,7 @@ unfoldable pub settled : Looked → Answer → Answer
 settled (Refused a) otherwise = a
 settled (Means row) otherwise = otherwise
 
-module _ (rows : List Row) (f : File) (r : Record) (says : sayAll (f .state .chip) rows ≡ places) where
+module _ (rows : List Row) (f : File) (r : Record) (says : sayAll (f .state .chip) rows ≡ places (f .state .chip)) where
   abbrev Meant : Found → Type 0
   Meant there = rowAt f (r .kind) (r .address) ≡ meantRow f (r .kind) (r .address) there
 
@@ -47,12 +47,12 @@ module _ (rows : List Row) (f : File) (r : Record) (says : sayAll (f .state .chi
       (cond (insideWider f r) InsideWider
       (cond (notHeld f r) NotHeld (cond (otherHalf f r) OtherHalf (cond (wrongWidth f r) WrongWidth otherwise))))
 
-  held : heldIn places (otherWay (r .kind)) (r .address) ≡ someOf (holds (f .state .chip) (otherWay (r .kind)) (r .address)) rows
+  held : heldIn (places (f .state .chip)) (otherWay (r .kind)) (r .address) ≡ someOf (holds (f .state .chip) (otherWay (r .kind)) (r .address)) rows
   held =
       ap (λ (l : List PlaceRow). heldIn l (otherWay (r .kind)) (r .address)) (sym says)
       ∙ held-found (f .state .chip) (otherWay (r .kind)) (r .address) rows
 
-  within : insideIn places (r .kind) (r .address) ≡ someOf (inside (f .state .chip) (r .kind) (r .address)) rows
+  within : insideIn (places (f .state .chip)) (r .kind) (r .address) ≡ someOf (inside (f .state .chip) (r .kind) (r .address)) rows
   within = ap (λ (l : List PlaceRow). insideIn l (r .kind) (r .address)) (sym says) ∙ inside-found (f .state .chip) (r .kind) (r .address) rows
 
   later : (there : Found) → Meant there → (otherwise : Answer) → Later otherwise ≡ settled (lookedAt rows f r there) otherwise

@@ -1,7 +1,7 @@
 -- The rows from a number on, as the loops over the list go through them. Assumes nothing.
 use Prim.Native.Nat.{ℕ, suc, _+_, _*_, _-_, _%_, _<_}
 use mathlib.Core.Path.{_≡_, refl, sym, ap, ap₂, _∙_}
-use mathlib.Core.Bool.{Bool, true, false, cond, _||_}
+use mathlib.Core.Bool.{Bool, true, false, cond, not, _||_}
 use mathlib.Core.List.{List, [], _∷_}
 use native.Mathlib.Nat.{add-zero}
 use native.Mathlib.Omega.{arith}
@@ -81,8 +81,8 @@ module _ (text : List ℕ) (at : ℕ) where
         address = address;
         index = getD text (at + 9) 0;
         nth = nth;
-        reads = eqb (getD text (at + 14) 0) 82;
-        writes = eqb (getD text (at + 15) 0) 87;
+        reads = not (eqb (getD text (at + 14) 0) 32);
+        writes = not (eqb (getD text (at + 15) 0) 32);
         width = getD text (at + 17) 0 % 16;
         stored = stored;
         place = place;
@@ -95,8 +95,8 @@ module _ (text : List ℕ) (at : ℕ) where
         address = (ea ∙ four-there 4) i;
         index = byte-there 9 i;
         nth = (en ∙ two-there 11) i;
-        reads = eqb (byte-there 14 i) 82;
-        writes = eqb (byte-there 15 i) 87;
+        reads = not (eqb (byte-there 14 i) 32);
+        writes = not (eqb (byte-there 15 i) 32);
         width = byte-there 17 i % 16;
         stored = (es ∙ four-there 19) i;
         place = (ep ∙ ap₂ placeNamed (byte-there 24) (em ∙ four-there 30)) i;

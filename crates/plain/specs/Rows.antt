@@ -13,7 +13,7 @@ use Rattle.file.specs.declared.chip.Chip.the-variants.{Gd5462, Gd5464}
 use Rattle.file.specs.Chips.{sameChip}
 use Rattle.file.specs.Registers.{storedTable}
 use Rattle.places.specs.declared.place.Place.{Place}
-use Rattle.places.specs.declared.place.Place.the-variants.{Register, Attribute, Fixed, DeviceId, ToggleState, AttributeIndex, PaletteState, VPortState, ReadAddress, WriteAddress, PixelData, ToggleReset, Unnamed, UnnamedAttribute}
+use Rattle.places.specs.declared.place.Place.the-variants.{Register, Attribute, Fixed, DeviceId, ToggleState, AttributeIndex, PaletteState, VPortState, ReadAddress, WriteAddress, PixelData, ToggleReset, Unnamed, UnnamedAttribute, CurrentLine, Passing}
 use Rattle.places.specs.Places.{Index, any, sr, cr, gr, ar, indexDue, dataDue, Row as PlaceRow, places as allPlaces}
 use Rattle.places.specs.Profile.{profile, storesInto}
 use Rattle.plain.specs.declared.row.Row.{Row}
@@ -22,10 +22,10 @@ use Rattle.plain.specs.declared.row.Row.{Row}
 
 -- how many rows a list has, and how many bytes a row
 abbrev pub rowCount : ℕ
-rowCount = 221
+rowCount = 223
 
 abbrev pub columns : ℕ
-columns = 45
+columns = 44
 
 -- a hexadecimal digit; a blank counts as 0
 unfoldable pub digit : ℕ → ℕ
@@ -58,11 +58,13 @@ placeNamed letter number =
     (cond (is "d" letter) ReadAddress
     (cond (is "w" letter) WriteAddress
     (cond (is "p" letter) PixelData
-    (cond (is "z" letter) ToggleReset
+    (cond (is "s" letter) ToggleReset
+    (cond (is "b" letter) CurrentLine
+    (cond (is "l" letter) Passing
     (cond (is "f" letter) UnnamedAttribute
-    Unnamed))))))))))))
+    Unnamed))))))))))))))
 
--- the row of the line that a text begins with
+-- the row of the line that a text begins with; a direction is any letter, R or W, or P where lines pass
 unfoldable pub rowOf : List ℕ → Row
 unfolding is fourDigits twoDigits placeNamed
 rowOf text =
@@ -71,8 +73,8 @@ rowOf text =
       address = fourDigits text 4;
       index = getD text 9 0;
       nth = twoDigits text 11;
-      reads = is "R" (getD text 14 0);
-      writes = is "W" (getD text 15 0);
+      reads = not (is " " (getD text 14 0));
+      writes = not (is " " (getD text 15 0));
       width = getD text 17 0 % 16;
       stored = fourDigits text 19;
       place = placeNamed (getD text 24 0) (fourDigits text 30);
@@ -86,10 +88,11 @@ rowsOf (suc n) text = rowOf text ∷ rowsOf n (drop columns text)
 
 -- ---- what a row says
 
--- 01, 'kind (0 config read, 1 config write, 2 port read, 3 port write, 4 MMIO read, 5 MMIO write)': the kinds of record that a row is for
+-- 01, 'kind (0 config read, 1 config write, 2 port read, 3 port write, 4 MMIO read, 5 MMIO write)', and 02, 10/13, 'kind 6: .. scanlines pass': the kinds of
+-- record that a row is for
 unfoldable pub space : Row → ℕ
 unfolding is
-space row = cond (is "c" (row .space)) 0 (cond (is "p" (row .space)) 1 2)
+space row = cond (is "c" (row .space)) 0 (cond (is "p" (row .space)) 1 (cond (is "m" (row .space)) 2 3))
 
 unfoldable pub kinds : Row → List ℕ
 unfolding space
@@ -145,5 +148,5 @@ everyRow test (row ∷ rows) = test row && everyRow test rows
 
 -- a list that says 01's places and 01's stored bits, on either chip
 pub record Listed (text : List ℕ) : Type 0 where
-  pub places : (chip : Chip) → sayAll chip (rowsOf rowCount text) ≡ allPlaces
+  pub places : (chip : Chip) → sayAll chip (rowsOf rowCount text) ≡ allPlaces chip
   pub bits : (chip : Chip) → T (everyRow (bitsRight chip (storedTable chip)) (rowsOf rowCount text))

@@ -1,6 +1,7 @@
-// One access: the checks, and then a read or a write at the row that the record means.
+// One access: the checks, and then a read or a write at the row that the record means, or lines pass.
 ghost use mathlib.Core.Path.{_≡_};
 ghost use Prim.Native.Nat.{_<_};
+ghost use Rattle.access.specs.Checks.{carries as carriesValue};
 ghost use Rattle.plain.specs.Rows.{Listed};
 ghost use Rattle.plain.specs.Told.{accessTold, itemTold};
 use crate::checks::Looked;
@@ -42,7 +43,7 @@ fn access(list: &[u8; BYTES], asked: Record, whole: File) -> Told
     match looked {
         Looked::Refused(answer) => leaving(whole, answer),
         Looked::Means(row) => {
-            if asked.kind % 2 == 1 {
+            if carries(asked) {
                 write_row(row, whole, word(asked.value))
             } else {
                 read_row(row, whole)
@@ -51,7 +52,17 @@ fn access(list: &[u8; BYTES], asked: Record, whole: File) -> Told
     }
 }
 
-// A write's value, which fits two bytes.
+// The record brings a value: it is a write, or lets lines pass.
+fn carries(asked: Record) -> bool
+    ensures { λ r. ⌜ r ≡ carriesValue asked ⌝ }
+{
+    if asked.kind == 6 {
+        return true;
+    }
+    asked.kind % 2 == 1
+}
+
+// The value, which fits two bytes.
 fn word(value: u32) -> u16
     requires { ⌜ value < 65536 ⌝ }
     ensures { λ r. ⌜ r ≡ value ⌝ }

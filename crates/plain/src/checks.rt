@@ -2,7 +2,7 @@
 ghost use mathlib.Core.Path.{_≡_};
 ghost use Rattle.file.specs.File.{powerOn};
 ghost use Rattle.file.specs.declared.chip.Chip.the-variants.{Gd5464};
-ghost use Rattle.access.specs.Checks.{malformed, spaceOff, otherHalf};
+ghost use Rattle.access.specs.Checks.{badAccess, badPassing, malformed, spaceOff, otherHalf};
 ghost use Rattle.plain.specs.Rows.{rowCount, rowsOf};
 ghost use Rattle.plain.specs.Looked.{nothingThere, lookedAt, lookedOver};
 use crate::list::BYTES;
@@ -41,13 +41,39 @@ pub fn look(list: &[u8; BYTES], asked: Record, whole: File) -> Looked
     look_at(list, asked, whole, find(list, asked, whole))
 }
 
-// Code 2: kind over 5; width not 1 or 2; a read's value not 0; a write's value that doesn't fit the width.
+// Code 2: kind over 6, or a record that has not the form of its kind.
 fn is_malformed(asked: Record) -> bool
     ensures { λ r. ⌜ r ≡ malformed (powerOn Gd5464) asked ⌝ }
 {
-    if 5 < asked.kind {
+    if 6 < asked.kind {
         return true;
     }
+    if asked.kind == 6 {
+        return is_bad_passing(asked);
+    }
+    is_bad_access(asked)
+}
+
+// Of kind 6: another form than width 2, address 0, value 1 to 65,535.
+fn is_bad_passing(asked: Record) -> bool
+    ensures { λ r. ⌜ r ≡ badPassing asked ⌝ }
+{
+    if asked.width != 2 {
+        return true;
+    }
+    if asked.address != 0 {
+        return true;
+    }
+    if asked.value < 1 {
+        return true;
+    }
+    65535 < asked.value
+}
+
+// Of the other kinds: width not 1 or 2; a read's value not 0; a write's value that doesn't fit the width.
+fn is_bad_access(asked: Record) -> bool
+    ensures { λ r. ⌜ r ≡ badAccess asked ⌝ }
+{
     let width = asked.width;
     if asked.kind % 2 == 0 {
         return match width {

@@ -5,6 +5,8 @@ ghost use Rattle.places.specs.EngineCells.{inFile};
 ghost use Rattle.places.specs.Profile.{profile, givesPixel};
 ghost use Rattle.access.specs.Access.{paletteUp, inBank, shownIn, vPortState};
 ghost use Rattle.plain.specs.Told.{readTold};
+use crate::lines::display_state;
+use crate::lines::line_shown;
 use crate::row::Row;
 use crate::told::Told;
 use crate::told::leaving;
@@ -43,11 +45,13 @@ pub fn read_row(row: Row, whole: File) -> Told
         Place::WriteAddress => leaving(whole, Answer::Done(pointer.address as u16)),
         Place::PixelData => read_pixel(whole),
         Place::ToggleReset => Told {
-            answer: Answer::Done(0),
+            answer: Answer::Done(display_state(whole)),
             file: with_state(whole, state.toggling(false)),
         },
         Place::Unnamed => leaving(whole, Answer::NoRegister),
         Place::UnnamedAttribute => leaving(whole, Answer::NoRegister),
+        Place::CurrentLine => leaving(whole, Answer::Done(line_shown(whole))),
+        Place::Passing => leaving(whole, Answer::NoRegister),
     }
 }
 

@@ -7,7 +7,8 @@ use crate::list::BYTES;
 use crate::list::COLUMNS;
 use places::Place;
 
-// The first letters of its space and of its index, the number that the index has to be, and the other columns.
+// The first letters of its space and of its index, the number that the index has to be, and the other columns. A row where lines pass is among those that
+// read: its kind of record, 6, is even as theirs are.
 pub struct Row {
     pub space: u8,
     pub address: u16,
@@ -32,8 +33,8 @@ pub fn row_at(list: &[u8; BYTES], n: usize) -> Row
         address: four_digits(list, at + 4),
         index: list[at + 9],
         nth: two_digits(list, at + 11),
-        reads: list[at + 14] == b'R',
-        writes: list[at + 15] == b'W',
+        reads: list[at + 14] != b' ',
+        writes: list[at + 15] != b' ',
         width: list[at + 17] % 16,
         stored: four_digits(list, at + 19),
         place,
@@ -56,7 +57,9 @@ fn place_named(letter: u8, number: u16) -> Place
         b'd' => Place::ReadAddress,
         b'w' => Place::WriteAddress,
         b'p' => Place::PixelData,
-        b'z' => Place::ToggleReset,
+        b's' => Place::ToggleReset,
+        b'b' => Place::CurrentLine,
+        b'l' => Place::Passing,
         b'f' => Place::UnnamedAttribute,
         _ => Place::Unnamed,
     }

@@ -49,7 +49,7 @@ fn is_at(row: Row, kind: u8, address: u16) -> bool
     if kind % 2 == 0 { row.reads } else { row.writes }
 }
 
-// A row's space, as the kinds of record have it: 0 and 1 config, 2 and 3 port, 4 and 5 MMIO.
+// A row's space, as the kinds of record have it: 0 and 1 config, 2 and 3 port, 4 and 5 MMIO, 6 lines that pass.
 fn space(row: Row) -> u8
     ensures { λ r. ⌜ r ≡ spaceOf row ⌝ }
 {
@@ -57,7 +57,8 @@ fn space(row: Row) -> u8
     match letter {
         b'c' => 0,
         b'p' => 1,
-        _ => 2,
+        b'm' => 2,
+        _ => 3,
     }
 }
 

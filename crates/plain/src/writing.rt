@@ -1,14 +1,15 @@
-// A write at a row.
+// A write at a row, or lines that pass.
 ghost use mathlib.Core.Path.{_≡_};
 ghost use Prim.Native.Nat.{_<_};
 ghost use lib.Dec.{T};
 ghost use Rattle.file.specs.File.{crtcLocked};
 ghost use Rattle.file.specs.Registers.{registerCount};
 ghost use Rattle.places.specs.EngineCells.{inFile, takesBytes};
-ghost use Rattle.places.specs.Profile.{profile, storesTo, setsAddress, writesPixel};
+ghost use Rattle.places.specs.Profile.{profile, storesTo, setsAddress, writesPixel, passesLines};
 ghost use Rattle.file.specs.Effects.{paintIn};
 ghost use Rattle.access.specs.Access.{lockedOut, inBank, entryNumber};
 ghost use Rattle.plain.specs.Told.{rowReach, writeTold, pixelWritten};
+use crate::lines::line_after;
 use crate::reading::is_in_bank;
 use crate::reading::is_palette_up;
 use crate::row::Row;
@@ -49,6 +50,8 @@ pub fn write_row(row: Row, whole: File, value: u16) -> Told
         Place::ToggleState => leaving(whole, Answer::ReadOnly),
         Place::AttributeIndex => leaving(whole, Answer::ReadOnly),
         Place::ToggleReset => leaving(whole, Answer::ReadOnly),
+        Place::CurrentLine => leaving(whole, Answer::ReadOnly),
+        Place::Passing => pass_lines(whole, value),
         Place::Unnamed => leaving(whole, Answer::NoRegister),
         Place::UnnamedAttribute => Told {
             answer: Answer::NoRegister,
@@ -164,4 +167,15 @@ fn store_entry(whole: File, colour: Colour) -> File
         file.palette[at] = colour;
     }
     file
+}
+
+// Lines pass.
+fn pass_lines(whole: File, lines: u16) -> Told
+    ensures { λ r. ⌜ r ≡ writeTold whole 0 passesLines lines ⌝ }
+{
+    let line = line_after(whole, lines);
+    Told {
+        answer: Answer::Done(0),
+        file: with_state(whole, whole.state.passing(line)),
+    }
 }

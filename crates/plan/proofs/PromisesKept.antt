@@ -12,6 +12,7 @@ use Rattle.file.specs.declared.answer.Answer.{Answer}
 use Rattle.file.specs.declared.answer.Answer.the-variants.{Done, ShortBuffer, NotSound, NotBeforeRed}
 use Rattle.file.specs.declared.registers.File.{File}
 use Rattle.file.specs.Answers.{codeOf, refused}
+use Rattle.file.specs.File.{Same}
 use Rattle.file.specs.Sound.{sound}
 use Rattle.access.specs.declared.record.Item.the-variants.{Whole}
 use Rattle.trace.specs.Records.{itemCount, items}
@@ -21,12 +22,12 @@ use Rattle.plan.specs.Appended.{Appended}
 use Rattle.roads.specs.Plan.{planRecords}
 use Rattle.plan.specs.Promises.{PlanKept}
 use Rattle.roads.specs.Refusals.{planAnswer}
-use Rattle.roads.specs.Restores.{traceOf, IsFile, RunsInto, PlanWritten}
+use Rattle.roads.specs.Restores.{traceOf, IsFile, Restores, PlanWritten}
 use Rattle.plan.proofs.Appending.{trace-count}
 use Rattle.roads.proofs.PlanCount.{plan-room}
 use Rattle.roads.proofs.AcceptedFits.{trace-items}
 use Rattle.roads.proofs.RepliesAccepted.{codes-zero}
-use Rattle.roads.proofs.PlanServes.{plan-serves}
+use Rattle.roads.proofs.PlanServes.{plan-serves, written-items, planned-runs, planned-line}
 
 -- ---- a plan
 
@@ -112,7 +113,7 @@ module _ {w : File} {before after : List ℕ} {count : ℕ} (p : PlanWritten w b
   all-read places h = omega (arith, h, ap length alone, trace-count (p .records), p .counted)
 
   module _ (f : File) (ff : IsFile f) (s : sound f ≡ true) (chips : f .state .chip ≡ w .state .chip) (places : List ℕ) (h : 8 * count ≤ length places) where
-    runs : RunsInto f (p .records) w
+    runs : Restores f (p .records) w
     runs = p .plans .restores f ff (passes (sound f) s) chips
 
     run-is : run f (take (8 * count) after) places ≡ ran count f (take (8 * count) after) places
@@ -128,10 +129,17 @@ module _ {w : File} {before after : List ℕ} {count : ℕ} (p : PlanWritten w b
     unfolding ran
     run-counts = rw run-is
 
-    -- it ends in the wanted file
-    pub run-ends : run f (take (8 * count) after) places .file ≡ w
+    -- the file that it ends in is that after the buffer's records
+    pub run-file : run f (take (8 * count) after) places .file ≡ fileAfter f (items count after)
     unfolding ran
-    run-ends = rw run-is (ap (fileAfter f) items-alone ∙ runs .ends)
+    run-file = rw run-is (ap (fileAfter f) (items-alone ∙ sym (written-items w before after count p)))
+
+    -- the wanted one, with the start's line
+    pub run-ends : Same (run f (take (8 * count) after) places .file) w
+    run-ends = subst (λ (g : File). Same g w) (sym run-file) (planned-runs w before after count p f ff (passes (sound f) s) chips .1)
+
+    pub run-line : run f (take (8 * count) after) places .file .state .line ≡ f .state .line
+    run-line = ap (λ (g : File). g .state .line) run-file ∙ planned-line w before after count p f
 
     -- and every reply has code 0
     pub run-codes : (k : ℕ) → k < count → getD (run f (take (8 * count) after) places .buffer) (8 * k) 0 ≡ 0

@@ -8,6 +8,7 @@ use lib.ListN.{length, getD}
 use Rattle.file.specs.declared.answer.Answer.the-variants.{Done}
 use Rattle.file.specs.declared.registers.File.{File}
 use Rattle.file.specs.Answers.{refused}
+use Rattle.file.specs.File.{Same}
 use Rattle.trace.specs.declared.running.Ran.{Ran}
 use Rattle.trace.specs.Run.{run}
 use Rattle.plan.specs.declared.planning.Planned.{Planned}
@@ -28,9 +29,11 @@ pub record RunKept (f : File) (trace before after : List ℕ) (r : Ran) : Type 0
   pub counted : r .count ≡ run f trace before .count
   pub replied : after ≡ run f trace before .buffer
 
--- demand 3 of a run over so many records: 'accepted at each access and ends in exactly the wanted file'
-pub record RunServes (w : File) (count : ℕ) (replies : List ℕ) (r : Ran) : Type 0 where
+-- demand 3 of a run over so many records: 'accepted at each access and ends in exactly the wanted file'; 02, 10/13, as settled: with the line of
+-- the file that it began with
+pub record RunServes (f w : File) (count : ℕ) (replies : List ℕ) (r : Ran) : Type 0 where
   pub answered : r .answer ≡ Done 0
   pub counted : r .count ≡ count
   pub accepted : (k : ℕ) → k < count → getD replies (8 * k) 0 ≡ 0
-  pub ended : r .file ≡ w
+  pub ended : Same (r .file) w
+  pub line : r .file .state .line ≡ f .state .line

@@ -75,6 +75,7 @@ fn device_id(file: File) -> u16 {
     chip.device_id()
 }
 
+// The same file: all but the line is.
 fn same(a: File, b: File) -> bool {
     same_registers(a, b)
         && same_entries(a, b)
@@ -105,7 +106,7 @@ fn varied_registers(chip: Chip) -> [u16; REGISTERS] {
     registers
 }
 
-// A file that has other values nearly everywhere: the pointer in read mode, the toggle at data, the marks at read, green.
+// A file that has other values nearly everywhere: the pointer in read mode, the toggle at data, the marks at read, green, line 1000.
 fn varied(chip: Chip) -> File {
     let mut palette = [colour_at(0); 256];
     let mut bank = [colour_at(0); 16];
@@ -124,6 +125,7 @@ fn varied(chip: Chip) -> File {
             toggle: true,
             marks: 5,
             chip,
+            line: 1000,
         },
     }
 }
@@ -138,7 +140,7 @@ fn pointer_before(next: u8, red: u8, green: u8) -> Pointer {
     }
 }
 
-// Every stored bit set: locked by CR11, powered down and at the bank by B0; white, the toggle at data, the pointer before blue with two held bytes, the marks at read, red.
+// Every stored bit set: locked by CR11, powered down and at the bank by B0; white, the toggle at data, the pointer before blue with two held bytes, the marks at read, red, line 2048.
 fn everything_set(chip: Chip) -> File {
     let white = Colour {
         red: 255,
@@ -154,6 +156,7 @@ fn everything_set(chip: Chip) -> File {
             toggle: true,
             marks: 4,
             chip,
+            line: 2048,
         },
     }
 }
@@ -184,7 +187,7 @@ fn print_found(buffer: &[u8], count: usize) {
     print(b"\n");
 }
 
-// A restore's code and count, and which file it ended in.
+// A restore's code and count, which file it ended in, and whether its line is the current file's.
 fn print_restore(title: &[u8], current: File, wanted: File) {
     let mut buffer = [FILL; 8192];
     let restored = restore(current, wanted, &mut buffer);
@@ -197,6 +200,9 @@ fn print_restore(title: &[u8], current: File, wanted: File) {
     }
     if same(restored.file, current) {
         print(b", the file as given");
+    }
+    if restored.file.state.line == current.state.line {
+        print(b", the line as given");
     }
     print_found(&buffer, count);
 }

@@ -11,6 +11,7 @@ use Rattle.file.specs.declared.answer.Answer.the-variants.{NotSound, OtherChip}
 use Rattle.file.specs.declared.registers.File.{File}
 use Rattle.file.specs.Answers.{codeOf, refused}
 use Rattle.file.specs.Chips.{sameChip}
+use Rattle.file.specs.File.{withLine, Same}
 use Rattle.file.specs.Sound.{sound}
 use Rattle.trace.specs.Records.{items}
 use Rattle.trace.specs.Run.{fileAfter}
@@ -18,7 +19,7 @@ use Rattle.plan.specs.declared.planning.Planned.{Planned}
 use Rattle.plan.specs.Promises.{PlanKept}
 use Rattle.roads.specs.Refusals.{planAnswer, restoreAnswer}
 use Rattle.roads.specs.Restores.{IsFile}
-use Rattle.roads.proofs.PlanServes.{same-chip, planned-runs, Between, fifteen-between, fifteen-only-between}
+use Rattle.roads.proofs.PlanServes.{same-chip, planned-runs, planned-line, Between, fifteen-between, fifteen-only-between}
 use Rattle.restoring.specs.declared.Restored.{Restored}
 use Rattle.restoring.specs.Promises.{RestoreKept}
 
@@ -33,6 +34,7 @@ module _ (f : File) {w : File} {before : List ℕ} where
         made = λ n. absurd (true≢false (sym t ∙ n));
         ran = refl;
         restored = λ n. absurd (true≢false (sym t ∙ n));
+        line = refl;
         none = λ _. refl;
         back = λ _. refl;
         kept = λ _. same;
@@ -61,7 +63,7 @@ module _ (f : File) {w : File} {before : List ℕ} where
         let no = le-leb 2 (codeOf (p .answer)) (rw e at large) in
         restore-refused (p .answer) as-planned no (done .kept no)
 
-    pub restore-done : {code : ℕ} → code ≡ codeOf (p .answer) → code < 2 → IsFile f → (g : File) → g ≡ w
+    pub restore-done : {code : ℕ} → code ≡ codeOf (p .answer) → code < 2 → IsFile f → (g : File) → g ≡ fileAfter f (items (p .count) after)
         → RestoreKept f w before after (record { answer = p .answer; count = p .count; file = g })
     unfolding refused
     restore-done same small ff g e =
@@ -69,8 +71,9 @@ module _ (f : File) {w : File} {before : List ℕ} where
         record {
           answered = as-planned;
           made = done .made;
-          ran = e ∙ sym (planned-runs w before after (p .count) (done .made yes) f ff (passes (sound f) s) (same-chip _ _ c) .1);
-          restored = λ _. e;
+          ran = e;
+          restored = λ _. subst (λ (h : File). Same h w) (sym e) (planned-runs w before after (p .count) (done .made yes) f ff (passes (sound f) s) (same-chip _ _ c) .1);
+          line = ap (λ (h : File). h .state .line) e ∙ planned-line w before after (p .count) (done .made yes) f;
           none = λ n. absurd (true≢false (sym n ∙ yes));
           back = λ n. absurd (true≢false (sym n ∙ yes));
           kept = λ n. absurd (true≢false (sym n ∙ yes));
@@ -90,13 +93,15 @@ kept-only-fifteen f w before after r p e = fifteen-only-between f w (length befo
 -- two restores answer the same and end in the same file
 pub restores-alike : (f w : File) (before after other : List ℕ) (p q : Restored) → RestoreKept f w before after p → RestoreKept f w before other q
     → (p .answer ≡ q .answer) × (p .file ≡ q .file)
+unfolding Same
 restores-alike f w before after other p q s t = (same, files)
   where
     same : p .answer ≡ q .answer
     same = s .answered ∙ sym (t .answered)
 
+    -- the wanted file with the current one's line, or the current file
     files : p .file ≡ q .file
     files =
         by-test (refused (p .answer))
         (λ e. s .back e ∙ sym (t .back (sym (ap refused same) ∙ e)))
-        (λ e. s .restored e ∙ sym (t .restored (sym (ap refused same) ∙ e)))
+        (λ e. s .restored e ∙ ap (λ (n : ℕ). withLine n w) (s .line ∙ sym (t .line)) ∙ sym (t .restored (sym (ap refused same) ∙ e)))

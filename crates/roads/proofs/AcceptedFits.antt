@@ -7,7 +7,7 @@ use mathlib.Core.List.{List, [], _∷_, _++_, map}
 use mathlib.Core.Option.{Option, none, some}
 use native.Mathlib.Omega.{arith}
 use borrow.Author.Tests.{eqb-true, eqb-false}
-use lib.Dec.{T, eqb, leb, ltb, T-not, lt→ltb, ltb→lt, eqb→eq, nltb→le, nleb→lt}
+use lib.Dec.{T, eqb, leb, ltb, T-not, lt→ltb, ltb→lt, eqb→eq, leb→le, nltb→le, nleb→lt}
 use lib.ListN.{length}
 use Rattle.bits.proofs.Test.{left, right, both, by-test, either, neither, twice}
 use Rattle.file.specs.declared.answer.Answer.{Answer}
@@ -17,12 +17,12 @@ use Rattle.access.specs.declared.record.Item.{Item}
 use Rattle.access.specs.declared.record.Item.the-variants.{Whole}
 use Rattle.access.specs.declared.record.Record.{Record}
 use Rattle.access.specs.Access.{answerAt, answer, access, accessItem, placeOf}
-use Rattle.access.specs.Checks.{Check, isWrite, checks, firstRefusal, notSound, malformed, noRow, notHeld}
-use Rattle.places.specs.Lookup.{matches, rowAt, placeAt}
-use Rattle.places.specs.Places.{Row, places}
+use Rattle.access.specs.Checks.{Check, isWrite, isPassing, carries, checks, firstRefusal, notSound, badAccess, badPassing, malformed, noRow, notHeld}
+use Rattle.places.specs.Lookup.{matches, rowAt}
+use Rattle.places.specs.Places.{Row, sharedPlaces, ownPlaces}
 use Rattle.trace.specs.Records.{bytesOf, itemOf, items}
 use Rattle.trace.specs.Run.{answers}
-use Rattle.places.proofs.Rows.{every, Passes, row-passes}
+use Rattle.places.proofs.Rows.{every, everywhere, Passes, row-passes}
 use Rattle.trace.proofs.BytesAndRecords.{record-of-bytes}
 use Rattle.roads.specs.Restores.{accepted, allAccepted, inBytes, allInBytes, traceOf}
 
@@ -49,11 +49,11 @@ passed (c ∷ cs) f r otherwise t a =
 
 all-passed : (f : File) (r : Record) → T (accepted (answer f r)) → T (noneRefuses checks f r)
 unfolding answer checks refusals accepted codeOf
-all-passed f r a = passed checks f r (answerAt (isWrite r) f (placeOf f r)) tt a
+all-passed f r a = passed checks f r (answerAt (carries r) f (placeOf f r)) tt a
 
 -- a record that is found has an address of two bytes
 short-address : (f : File) (r : Record) → T (not (notHeld f r)) → r .address < 65536
-unfolding notHeld noRow matches every places
+unfolding notHeld noRow matches everywhere every sharedPlaces ownPlaces
 short-address f r t = at-row (rowAt f (r .kind) (r .address)) t (row-passes f (r .kind) (r .address) (λ (row : Row). ltb (row .address) 65536) tt)
   where
     at-row : (o : Option Row) → T (not (noRow o)) → Passes (λ (row : Row). ltb (row .address) 65536 && matches f (r .kind) (r .address) row) o → r .address < 65536
@@ -75,30 +75,40 @@ narrow width t =
     by-test (eqb width 1) (λ e. omega (arith, eqb-true width 1 e))
     (λ e. omega (arith, eqb→eq width 2 (either (eqb width 1) (eqb width 2) t (λ s. eqb-false width 1 e (eqb→eq width 1 s)))))
 
+-- the two fields that a good form bounds
+abbrev Short : Record → Type 0
+Short r = (r .width ≤ 2) × (r .value < 65536)
+
+access-short : (r : Record) → T (not (badAccess r)) → Short r
+unfolding badAccess
+access-short r t =
+    let form = neither (not (eqb (r .width) 1 || eqb (r .width) 2)) (cond (isWrite r) (leb (256 ^ r .width) (r .value)) (not (eqb (r .value) 0))) t in
+    let width : r .width ≤ 2 = narrow (r .width) (twice (eqb (r .width) 1 || eqb (r .width) 2) (form .0)) in
+    (width, short-value (isWrite r) (r .width) (r .value) width (form .1))
+
+passing-short : (r : Record) → T (not (badPassing r)) → Short r
+unfolding badPassing
+passing-short r t =
+    let form = twice (eqb (r .width) 2 && eqb (r .address) 0 && leb 1 (r .value) && leb (r .value) 65535) t in
+    (omega (arith, eqb→eq (r .width) 2 (search (left, right))), omega (arith, leb→le (r .value) 65535 (search right)))
+
 -- so an accepted record's fields fit their bytes
 accepted-fits : (f : File) (r : Record) → T (accepted (answer f r)) → T (inBytes r)
 unfolding noneRefuses checks inBytes malformed
 accepted-fits f r a =
     both (ltb (r .kind) 256 && ltb (r .width) 256 && ltb (r .address) 65536) (ltb (r .value) (2 ^ 32))
     (both (ltb (r .kind) 256 && ltb (r .width) 256) (ltb (r .address) 65536)
-    (both (ltb (r .kind) 256) (ltb (r .width) 256) (lt→ltb (r .kind) 256 (omega (arith, kind))) (lt→ltb (r .width) 256 (omega (arith, width))))
+    (both (ltb (r .kind) 256) (ltb (r .width) 256) (lt→ltb (r .kind) 256 (omega (arith, nltb→le 6 (r .kind) (form .0)))) (lt→ltb (r .width) 256 (omega (arith, short .0))))
     (lt→ltb (r .address) 65536 (short-address f r (search (left, right, all-passed f r a)))))
-    (lt→ltb (r .value) (2 ^ 32) (omega (arith, short-value (isWrite r) (r .width) (r .value) width (form .1))))
+    (lt→ltb (r .value) (2 ^ 32) (omega (arith, short .1)))
   where
-    form : T (not (ltb 5 (r .kind) || not (eqb (r .width) 1 || eqb (r .width) 2)))
-        × T (not (cond (isWrite r) (leb (256 ^ r .width) (r .value)) (not (eqb (r .value) 0))))
+    form : T (not (ltb 6 (r .kind))) × T (not (cond (isPassing r) (badPassing r) (badAccess r)))
     form =
-        neither (ltb 5 (r .kind) || not (eqb (r .width) 1 || eqb (r .width) 2)) (cond (isWrite r) (leb (256 ^ r .width) (r .value)) (not (eqb (r .value) 0)))
+        neither (ltb 6 (r .kind)) (cond (isPassing r) (badPassing r) (badAccess r))
         (left (not (malformed f r)) _ (right (not (notSound f r)) _ (all-passed f r a)))
 
-    shape : T (not (ltb 5 (r .kind))) × T (not (not (eqb (r .width) 1 || eqb (r .width) 2)))
-    shape = neither (ltb 5 (r .kind)) (not (eqb (r .width) 1 || eqb (r .width) 2)) (form .0)
-
-    kind : r .kind ≤ 5
-    kind = nltb→le 5 (r .kind) (shape .0)
-
-    width : r .width ≤ 2
-    width = narrow (r .width) (twice (eqb (r .width) 1 || eqb (r .width) 2) (shape .1))
+    short : Short r
+    short = by-test (isPassing r) (λ e. passing-short r (rw e at (form .1))) (λ e. access-short r (rw e at (form .1)))
 
 -- and so do those of every record of an accepted run
 pub run-fits : (rs : List Record) (f : File) → T (allAccepted (answers f (map Whole rs))) → T (allInBytes rs)

@@ -12,7 +12,7 @@ use Rattle.file.specs.Effects.{apply}
 use Rattle.file.specs.Sound.{sound}
 use Rattle.access.specs.declared.record.Record.{Record}
 use Rattle.access.specs.Access.{answerAt, effectAt, answer, effect, access, placeOf}
-use Rattle.access.specs.Checks.{isWrite, checks, firstRefusal, notSound, malformed, spaceOff, noRow, notHeld, otherDirection, insideWider, otherHalf, otherWidth, wrongWidth}
+use Rattle.access.specs.Checks.{carries, checks, firstRefusal, notSound, malformed, spaceOff, noRow, notHeld, otherDirection, insideWider, otherHalf, otherWidth, wrongWidth}
 use Rattle.places.specs.Lookup.{rowAt, placeOfRow, placeAt}
 use Rattle.places.specs.Places.{Row}
 
@@ -25,12 +25,12 @@ pub record PassesChecks (f : File) (r : Record) (row : Row) : Type 0 where
   pub half : otherHalf f r ≡ false
   pub width : eqb (row .width) (r .width) ≡ true
 
-pub answered-by-place : (f : File) (r : Record) (row : Row) → PassesChecks f r row → answer f r ≡ answerAt (isWrite r) f (row .place)
+pub answered-by-place : (f : File) (r : Record) (row : Row) → PassesChecks f r row → answer f r ≡ answerAt (carries r) f (row .place)
 unfolding answer checks firstRefusal notSound otherDirection insideWider notHeld noRow wrongWidth otherWidth placeOf placeAt placeOfRow
 answered-by-place f r row p = simp (is-true (sound f) (p .isSound), p .formed, p .on, p .found, p .half, p .width)
 
 -- an accepted record does what its place does
 pub does-as-place : (f : File) (r : Record) (row : Row) (value : ℕ) → rowAt f (r .kind) (r .address) ≡ some row → answer f r ≡ Done value
-    → access f r .file ≡ apply (effectAt (isWrite r) f (row .place) (r .value)) f
+    → access f r .file ≡ apply (effectAt (carries r) f (row .place) (r .value)) f
 unfolding access effect refused codeOf placeOf placeAt placeOfRow
 does-as-place f r row value found done = simp (done, found)

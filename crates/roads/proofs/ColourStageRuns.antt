@@ -18,11 +18,12 @@ use Rattle.file.specs.File.{withPalette, withBank, black}
 use Rattle.file.specs.Palette.{addressed, marksSound, pointerSound}
 use Rattle.file.specs.Registers.{storedTable}
 use Rattle.file.specs.Sound.{allWithin, sound}
+use Rattle.file.specs.State.{stateSound}
 use Rattle.file.proofs.Soundness.{registers-sound, sound-by, state-sound, marks-sound, stepping-sound, addressed-sound}
 use Rattle.roads.specs.Plan.{entries}
 use Rattle.roads.specs.Restores.{RunsInto}
 use Rattle.roads.specs.ColourStage.{PaletteReady, entryCount, entriesIn, withEntries, painted, Stretch, inRange, withStep, marksAfter, afterStretch, stretchRecords, everyStretch, afterStretches, entriesAfter, inStretch, Agrees, AllAgree, colourEndsWanted}
-use Rattle.roads.proofs.StretchRuns.{up-as, painted-chip, painted-registers, stretch-runs}
+use Rattle.roads.proofs.StretchRuns.{up-as, painted-state, painted-registers, stretch-runs}
 use Rattle.roads.proofs.RunsCompose.{runs-none, runs-then}
 
 -- the marks after some entries are sound
@@ -35,11 +36,12 @@ after-sound : (bank : Bool) (stretch : Stretch) (f : File) → T (sound f) → T
 unfolding afterStretch withStep
 after-sound bank stretch f s =
     sound-by (afterStretch bank stretch f)
-    (subst₂ (λ (c : Chip) (rs : List ℕ). T (allWithin (storedTable c) rs)) (sym (painted-chip bank (stretch .first) (stretch .colours) f))
+    (subst₂ (λ (c : Chip) (rs : List ℕ). T (allWithin (storedTable c) rs)) (ap (λ (q : State). q .chip) (sym (painted-state bank (stretch .first) (stretch .colours) f)))
     (sym (painted-registers bank (stretch .first) (stretch .colours) f)) (registers-sound f s))
     (stepping-sound (addressed false _) (marksAfter (f .state .marks) (stretch .colours)) (painted bank (stretch .first) (stretch .colours) f .state)
     (both (marksSound (marksAfter (f .state .marks) (stretch .colours))) (pointerSound (addressed false _))
-    (marks-after-sound (f .state .marks) (stretch .colours) (marks-sound f s)) (addressed-sound false _)))
+    (marks-after-sound (f .state .marks) (stretch .colours) (marks-sound f s)) (addressed-sound false _))
+    (subst (λ (q : State). T (stateSound q)) (sym (painted-state bank (stretch .first) (stretch .colours) f)) (state-sound f s)))
 
 after-registers : (bank : Bool) (stretch : Stretch) (f : File) → afterStretch bank stretch f .registers ≡ f .registers
 unfolding afterStretch withStep
@@ -47,7 +49,7 @@ after-registers bank stretch f = painted-registers bank (stretch .first) (stretc
 
 after-chip : (bank : Bool) (stretch : Stretch) (f : File) → afterStretch bank stretch f .state .chip ≡ f .state .chip
 unfolding afterStretch withStep
-after-chip bank stretch f = painted-chip bank (stretch .first) (stretch .colours) f
+after-chip bank stretch f = ap (λ (q : State). q .chip) (painted-state bank (stretch .first) (stretch .colours) f)
 
 -- every record of any list of stretches is accepted
 pub stretches-run : (stretches : List Stretch) (f : File) (bank : Bool) → T (sound f) → PaletteReady f bank → T (everyStretch (inRange bank) stretches)

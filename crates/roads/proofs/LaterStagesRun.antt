@@ -102,7 +102,7 @@ module _ (w : List ℕ) (palette bank : List Colour) (f : File) (all : length pa
 
   half-ready : Ready w half
   unfolding withStep withPalette addressed marksSound pointerSound
-  half-ready = ready-as w f half refl refl (stepping-sound (addressed false 0) writeBlue (f .state) tt) ready
+  half-ready = ready-as w f half refl refl (stepping-sound (addressed false 0) writeBlue (f .state) tt (state-sound f (ready .isSound))) ready
 
   switched-ready : Ready w (withRegister B0 openBank half)
   unfolding loose isOneOf withStep withPalette
@@ -125,7 +125,7 @@ module _ (w : List ℕ) (palette bank : List Colour) (f : File) (all : length pa
   pub coloured-ready : Ready w (coloured palette bank f)
   unfolding coloured withRegister withRegisters withStep withPalette addressed marksSound pointerSound withBank
   coloured-ready =
-      ready-as w (withRegister B0 openBank half) (coloured palette bank f) refl refl (stepping-sound (addressed false 16) writeBlue (f .state) tt) switched-ready
+      ready-as w (withRegister B0 openBank half) (coloured palette bank f) refl refl (stepping-sound (addressed false 16) writeBlue (f .state) tt (state-sound f (ready .isSound))) switched-ready
 
   coloured-open : PaletteOpen (coloured palette bank f) true
   unfolding coloured withRegister withRegisters withStep withPalette withBank register
@@ -140,7 +140,8 @@ module _ (w : List ℕ) (palette bank : List Colour) (f : File) (all : length pa
   unfolding marked withStep
   marked-ready m t =
       ready-as w (coloured palette bank f) (marked m (coloured palette bank f)) refl refl
-      (stepping-sound (markedPointer m) m (coloured palette bank f .state) (both (marksSound m) (pointerSound (markedPointer m)) t (marked-pointer-sound m)))
+      (stepping-sound (markedPointer m) m (coloured palette bank f .state) (both (marksSound m) (pointerSound (markedPointer m)) t (marked-pointer-sound m))
+      (state-sound (coloured palette bank f) (coloured-ready .isSound)))
       coloured-ready
 
 -- ---- registers

@@ -11,6 +11,7 @@ pub mod MarksRun
 pub mod ToggleReads
 pub mod OpeningRuns
 pub mod LaterStagesRun
+pub mod KindsOfRecords
 pub mod PlanServes
 pub mod PlanCount
 pub mod AcceptedFits

@@ -1,12 +1,13 @@
--- A lookup goes by the index registers, MISC and the toggle alone. Assumes nothing.
+-- A lookup goes by the index registers, MISC, the toggle and the chip alone. Assumes nothing.
 use Prim.Native.Nat.{ℕ}
 use mathlib.Core.Path.{_≡_, refl}
 use mathlib.Core.Bool.{Bool}
 use mathlib.Core.List.{List, [], _∷_}
+use Rattle.file.specs.declared.chip.Chip.{Chip}
 use Rattle.file.specs.declared.registers.File.{File}
 use Rattle.file.specs.File.{register, seen}
 use Rattle.file.specs.Names.{MISC, SRX, CRX, GRX, ARX}
-use Rattle.file.specs.State.{initial, unasked, toggling}
+use Rattle.file.specs.State.{initial, toggling}
 use Rattle.access.specs.declared.record.Record.{Record}
 use Rattle.access.specs.Checks.{otherHalf}
 use Rattle.places.specs.Lookup.{attributeIndex, selects, matches, first, rowAt}
@@ -20,6 +21,7 @@ pub record Selectors : Type 0 where
   pub grx : ℕ
   pub arx : ℕ
   pub toggle : Bool
+  pub chip : Chip
 
 unfoldable pub selectorsOf : File → Selectors
 selectorsOf f =
@@ -30,12 +32,13 @@ selectorsOf f =
       grx = register f GRX;
       arx = register f ARX;
       toggle = f .state .toggle;
+      chip = f .state .chip;
     }
 
 -- a file that has no more than that
 unfoldable pub bareFile : Selectors → File
 unfolding seen initial toggling
-bareFile v = seen (v .misc ∷ v .srx ∷ v .crx ∷ v .grx ∷ v .arx ∷ []) (toggling (v .toggle) unasked)
+bareFile v = seen (v .misc ∷ v .srx ∷ v .crx ∷ v .grx ∷ v .arx ∷ []) (toggling (v .toggle) (initial (v .chip)))
 
 selects-by : (f : File) (i : Index) → selects (bareFile (selectorsOf f)) i ≡ selects f i
 unfolding bareFile selectorsOf selects attributeIndex register
@@ -55,8 +58,8 @@ first-by f kind address (row ∷ rows) = rw (selects-by f (row .index), first-by
 
 -- a lookup in it finds the same row
 pub row-by : (f : File) (kind address : ℕ) → rowAt (bareFile (selectorsOf f)) kind address ≡ rowAt f kind address
-unfolding rowAt
-row-by f kind address = first-by f kind address places
+unfolding rowAt bareFile selectorsOf
+row-by f kind address = first-by f kind address (places (f .state .chip))
 
 -- and MISC[0] judges the same
 pub half-by : (f : File) (r : Record) → otherHalf (bareFile (selectorsOf f)) r ≡ otherHalf f r

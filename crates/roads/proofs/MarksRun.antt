@@ -18,7 +18,7 @@ use Rattle.places.specs.declared.place.Place.the-variants.{PixelData}
 use Rattle.places.specs.Lookup.{selects, matches, first, rowAt}
 use Rattle.places.specs.Places.{Row, any, places}
 use Rattle.access.specs.Access.{answerAt, pixelWrite, effectAt, shownIn, answer}
-use Rattle.access.specs.Checks.{isWrite, isPort, malformed, otherHalf}
+use Rattle.access.specs.Checks.{isWrite, isPassing, carries, isPort, badAccess, malformed, otherHalf}
 use Rattle.roads.specs.Plan.{mmioRead, pixelStep, marking}
 use Rattle.roads.specs.Restores.{accepted, RunsInto}
 use Rattle.roads.specs.ColourStage.{PaletteReady, between, withStep, writeBlue}
@@ -36,7 +36,7 @@ pixelRow = record { kind = 4; address = 0xAC; index = any; width = 1; place = Pi
 -- a read moves the pointer and is the last access
 read-runs : (f : File) (bank : Bool) (p : Pointer) (m : ℕ) → PaletteReady f bank → T (marksSound m) → T (pointerSound p)
     → RunsInto (withStep p m f) (mmioRead 0xAC ∷ []) (withStep (afterRead p) (marksFrom true p) f)
-unfolding rowAt first matches selects places malformed otherHalf isPort isWrite answerAt effectAt apply withStep accepted codeOf
+unfolding rowAt first matches selects places malformed badAccess otherHalf isPort isWrite isPassing carries answerAt effectAt apply withStep accepted codeOf
 read-runs f bank p m up t s =
     runs-one (withStep p m f) (mmioRead 0xAC) (withStep (afterRead p) (marksFrom true p) f) (rw answers tt)
     (does-as-place (withStep p m f) (mmioRead 0xAC) pixelRow (shownIn (withStep p m f)) refl answers)

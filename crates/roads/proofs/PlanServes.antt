@@ -1,4 +1,5 @@
--- Demand 3: from every sound start on the wanted file's chip (02, 6/13), each record of the plan is accepted and the run ends in the wanted file.
+-- Demand 3: from every sound start on the wanted file's chip (02, 6/13), each record of the plan is accepted and the run ends in the wanted file, with the
+-- start's line (02, 10/13, as settled).
 -- Assumes nothing.
 use Prim.Native.Nat.{ℕ, _*_, _<_}
 use mathlib.Core.Path.{_≡_, refl, sym, ap, ap₂, _∙_, subst}
@@ -14,7 +15,7 @@ use Rattle.file.specs.declared.answer.Answer.the-variants.{Done, ShortBuffer, N
 use Rattle.file.specs.declared.chip.Chip.{Chip}
 use Rattle.file.specs.declared.chip.Chip.the-variants.{Gd5462, Gd5464}
 use Rattle.file.specs.declared.registers.File.{File}
-use Rattle.file.specs.File.{register, withRegisters, withPointer, withToggle, withPalette, withBank}
+use Rattle.file.specs.File.{register, withRegisters, withPointer, withToggle, withPalette, withBank, withLine, Same}
 use Rattle.file.specs.Names.{MISC}
 use Rattle.file.specs.Registers.{registerCount, storedTable, sequencer, crtc, graphics, attribute, pipeline, vPort}
 use Rattle.file.specs.Answers.{codeOf}
@@ -31,13 +32,14 @@ use Rattle.roads.specs.Roads.{Road, toARX, eachRoad, but, registerRoads,
 use Rattle.roads.specs.Plan.{opening, colours, marking, indices, closing, planRecords}
 use Rattle.roads.specs.RoadRecords.{along}
 use Rattle.roads.specs.Refusals.{planAnswer, restoreAnswer}
-use Rattle.roads.specs.Restores.{allAccepted, RunsInto, IsFile, Plans, PlanWritten}
+use Rattle.roads.specs.Restores.{allAccepted, RunsInto, Restores, IsFile, Plans, PlanWritten}
 use Rattle.roads.specs.RegisterStage.{withRegister, Ready, afterSelecting, afterRoads, brought, moves, endsWanted, Brings}
 use Rattle.roads.specs.ColourStage.{PaletteOpen, withStep}
 use Rattle.roads.specs.StageEnds.{opened, coloured, marked, indexed, closed}
 use Rattle.roads.proofs.RegisterStageRuns.{ends-wanted, after-length, after-append}
 use Rattle.roads.proofs.RunsCompose.{runs-then}
 use Rattle.roads.proofs.PlanCount.{plan-room}
+use Rattle.roads.proofs.KindsOfRecords.{plan-ordinary, line-stays}
 use Rattle.roads.proofs.AcceptedFits.{run-fits, trace-items}
 use Rattle.roads.proofs.OpeningRuns.{opening-runs, opened-ready, opened-open}
 use Rattle.roads.proofs.LaterStagesRun.{colours-run, marks-run, marked-ready, registers-bring, indices-run, indexed-ready, closing-runs}
@@ -69,6 +71,11 @@ registers-as-wanted w xs misc many all same =
     (below (λ (m : ℕ). endsWanted (planRoads misc) m (eqb m MISC)) registerCount (all-end-wanted misc) n small))
 
 -- ---- demand 3
+
+-- a file with whatever line is the same file
+same-by : (f g : File) (line : ℕ) → f ≡ withLine line g → Same f g
+unfolding Same withLine
+same-by f g line e = e ∙ ap (λ (n : ℕ). withLine n g) (ap (λ (h : File). h .state .line) (sym e))
 
 module _ (w f : File) (chips : f .state .chip ≡ w .state .chip) (ws : T (sound w)) (fs : T (sound f)) (wf : IsFile w) (red : w .state .pointer .next ≡ 0)
     (many : length (f .palette) ≡ 256) (few : length (f .bank) ≡ 16) where
@@ -119,8 +126,9 @@ module _ (w f : File) (chips : f .state .chip ≡ w .state .chip) (ws : T (sound
   unfolding marked coloured opened withToggle withStep withBank withPalette withRegister withRegisters
   fourth-brings = registers-bring (w .registers) afterMarks within-bits marks-ready refl
 
-  ends-in : closed (w .registers) (w .state .pointer) afterIndices ≡ w
-  unfolding closed indexed brought marked coloured opened withRegister withRegisters withToggle withPointer withStep planRoads lastRoads closingRoads indexRoads afterRoads afterSelecting register withBank withPalette
+  -- no stage moves the line
+  ends-in : closed (w .registers) (w .state .pointer) afterIndices ≡ withLine (f .state .line) w
+  unfolding withLine closed indexed brought marked coloured opened withRegister withRegisters withToggle withPointer withStep planRoads lastRoads closingRoads indexRoads afterRoads afterSelecting register withBank withPalette
   ends-in =
       ap₂ ending
       (sym (after-append (w .registers) registerRoads (lastRoads (getD (w .registers) MISC 0)) (afterMarks .registers))
@@ -128,19 +136,19 @@ module _ (w f : File) (chips : f .state .chip ≡ w .state .chip) (ws : T (sound
       (sound-count afterMarks (marks-ready .isSound) ∙ sym (sound-count w ws)) (sound-count w ws) (marks-ready .misc))
       chips
     where
-      -- the wanted file with these registers, on this chip
+      -- the wanted file with these registers, on this chip, at the start's line
       ending : List ℕ → Chip → File
       ending registers chip =
           record {
             registers = registers;
             palette = w .palette;
             bank = w .bank;
-            state = record { pointer = w .state .pointer; marks = w .state .marks; toggle = w .state .toggle; chip = chip };
+            state = record { pointer = w .state .pointer; marks = w .state .marks; toggle = w .state .toggle; chip = chip; line = f .state .line };
           }
 
-  pub plan-restores : RunsInto f (planRecords w) w
+  plan-runs : RunsInto f (planRecords w) (withLine (f .state .line) w)
   unfolding planRecords brought withRegisters marked coloured opened indexed withToggle withStep withBank withPalette withRegister
-  plan-restores =
+  plan-runs =
       subst (λ (g : File). RunsInto f (planRecords w) g) ends-in
       (runs-then (opening (w .registers) ++ colours (w .palette) (w .bank) ++ marking (w .state .marks) ++ along (w .registers) registerRoads ++ indices (w .registers) (w .state .toggle))
       (closing (w .registers) (w .state .pointer)) f afterIndices (closed (w .registers) (w .state .pointer) afterIndices)
@@ -156,12 +164,16 @@ module _ (w f : File) (chips : f .state .chip ≡ w .state .chip) (ws : T (sound
       (closing-runs (w .registers) (w .state .pointer) afterIndices within-bits (pointer-sound w ws) red (wf .address)
       (indexed-ready (w .registers) (w .state .toggle) afterRegisters within-bits (fourth-brings .ready) refl)))
 
+  pub plan-restores : Restores f (planRecords w) w
+  plan-restores = record { allDone = plan-runs .allDone; ends = same-by _ w (f .state .line) (plan-runs .ends) }
+
 -- demand 3, as a plan's definition says it
 pub plan-serves : (w : File) → IsFile w → T (sound w) → w .state .pointer .next ≡ 0 → Plans w (planRecords w)
 plan-serves w wf ws red =
     record {
       room = plan-room w wf;
       whole = run-fits (planRecords w) w (plan-restores w w refl ws ws wf red (wf .palette) (wf .bank) .allDone);
+      ordinary = plan-ordinary w;
       restores = λ f ff fs chips. plan-restores w f chips ws fs wf red (ff .palette) (ff .bank);
     }
 
@@ -172,11 +184,16 @@ written-items w before after count p =
 
 -- run over: every record is accepted, and the run ends in the wanted file
 pub planned-runs : (w : File) (before after : List ℕ) (count : ℕ) → PlanWritten w before after count → (f : File) → IsFile f → T (sound f) → f .state .chip ≡ w .state .chip
-    → T (allAccepted (answers f (items count after))) × (fileAfter f (items count after) ≡ w)
+    → T (allAccepted (answers f (items count after))) × Same (fileAfter f (items count after)) w
 planned-runs w before after count p f ff fs chips =
     let runs = p .plans .restores f ff fs chips in
     let same = written-items w before after count p in
-    (subst (λ (is : List Item). T (allAccepted (answers f is))) (sym same) (runs .allDone), ap (fileAfter f) same ∙ runs .ends)
+    (subst (λ (is : List Item). T (allAccepted (answers f is))) (sym same) (runs .allDone), subst (λ (is : List Item). Same (fileAfter f is) w) (sym same) (runs .ends))
+
+-- at the line that it began with
+pub planned-line : (w : File) (before after : List ℕ) (count : ℕ) → PlanWritten w before after count → (f : File) → fileAfter f (items count after) .state .line ≡ f .state .line
+planned-line w before after count p f =
+    ap (λ (is : List Item). fileAfter f is .state .line) (written-items w before after count p) ∙ line-stays (p .records) f (p .plans .ordinary)
 
 -- ---- code 15
 

@@ -58,6 +58,7 @@ pub selectors-with : (f : File) (number value : ℕ) → T (sound f) → number 
       grx = cond (eqb GRX number) value (register f GRX);
       arx = cond (eqb ARX number) value (register f ARX);
       toggle = f .state .toggle;
+      chip = f .state .chip;
     }
 unfolding selectorsOf withRegister withRegisters
 selectors-with f number value s h =

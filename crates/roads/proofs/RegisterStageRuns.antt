@@ -38,7 +38,7 @@ arx-leads f t = subst (λ (b : Bool). T (leads (shows b) toARX)) (sym t) (single
   where
     shows : Bool → Selectors
     shows b =
-        record { misc = register f MISC; srx = register f SRX; crx = register f CRX; grx = register f GRX; arx = register f ARX; toggle = b }
+        record { misc = register f MISC; srx = register f SRX; crx = register f CRX; grx = register f GRX; arx = register f ARX; toggle = b; chip = f .state .chip }
 
 -- what selecting leaves
 pub record Selected (w : List ℕ) (f : File) (i : Index) : Type 0 where
@@ -79,7 +79,7 @@ select w f (dataDue n) ready t s =
       ready = by .1;
       selectors =
           rw t
-          (ap (λ (v : Selectors). record { misc = v .misc; srx = v .srx; crx = v .crx; grx = v .grx; arx = v .arx; toggle = true })
+          (ap (λ (v : Selectors). record { misc = v .misc; srx = v .srx; crx = v .crx; grx = v .grx; arx = v .arx; toggle = true; chip = v .chip })
           (selectors-with f ARX n (ready .isSound) (lit< tt)));
     }
 

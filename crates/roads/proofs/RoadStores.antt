@@ -1,12 +1,12 @@
 -- A record that goes by a road stores a value within the register's bits exactly, and does nothing else but flip the toggle at 3C0h.
 -- Assumes nothing.
-use Prim.Native.Nat.{ℕ, _<_, _^_, _%_}
+use Prim.Native.Nat.{ℕ, _≤_, _<_, _^_, _%_}
 use mathlib.Core.Path.{_≡_, refl, sym, ap, ap₂, _∙_, subst}
 use mathlib.Core.Bool.{Bool, true, false, not, _||_}
 use mathlib.Core.Option.{Option, none, some}
 use native.Mathlib.Nat.{lt-of-le-of-lt}
 use native.Mathlib.Omega.{arith}
-use borrow.Author.Tests.{not-true, le-ltb, lt-leb}
+use borrow.Author.Tests.{not-true, le-ltb, lt-leb, ne-eqb}
 use lib.Dec.{T, eqb, ltb, eqb→eq, leb→le, ltb→lt}
 use lib.ListN.{set}
 use Rattle.bits.specs.Store.{within}
@@ -24,10 +24,10 @@ use Rattle.file.specs.Sound.{sound}
 use Rattle.file.proofs.Soundness.{at, registers-sound}
 use Rattle.places.specs.declared.place.Place.{Place}
 use Rattle.access.specs.Access.{lockedOut, reachIn, writeAnswer, writeEffect, answerAt, effectAt, answer, access}
-use Rattle.access.specs.Checks.{isWrite, isPort, malformed, spaceOff, otherHalf}
+use Rattle.access.specs.Checks.{isWrite, isPassing, carries, isPort, badAccess, malformed, spaceOff, otherHalf}
 use Rattle.places.specs.Lookup.{rowAt}
 use Rattle.places.specs.Places.{Row}
-use Rattle.places.specs.Profile.{Writing, storesTo, readOnly, setsAddress, writesPixel, storesNothing, profile, storesInto, flips}
+use Rattle.places.specs.Profile.{Writing, storesTo, readOnly, setsAddress, writesPixel, storesNothing, passesLines, profile, storesInto, flips}
 use Rattle.roads.specs.Roads.{Road}
 use Rattle.roads.specs.RoadRecords.{write}
 use Rattle.roads.specs.Restores.{accepted}
@@ -55,6 +55,7 @@ is-store readOnly number e h = absurd (omega arith)
 is-store (setsAddress reading) number e h = absurd (omega arith)
 is-store writesPixel number e h = absurd (omega arith)
 is-store (storesNothing flip) number e h = absurd (omega arith)
+is-store passesLines number e h = absurd (omega arith)
 
 -- a write there is accepted
 place-done : (f : File) (number : ℕ) → Free f number → (place : Place) → storesInto (profile place .writing) ≡ number → number < registerCount
@@ -98,6 +99,14 @@ module _ (f : File) (road : Road) (value : ℕ) (l : T (leads (selectorsOf f) ro
   unfolding isWrite leads
   is-write = is-true (eqb (road .kind % 2) 1) (search (left, right) depth 8)
 
+  brings-value : carries (write road value) ≡ true
+  unfolding carries
+  brings-value = rw is-write
+
+  low-kind : road .kind ≤ 5
+  unfolding leads
+  low-kind = leb→le (road .kind) 5 (search (left, right) depth 8)
+
   -- the register's bits fit the road on both chips
   abbrev Fits : Chip → Bool
   Fits chip = ltb (storedBits chip (road .register)) (256 ^ road .width)
@@ -107,10 +116,11 @@ module _ (f : File) (road : Road) (value : ℕ) (l : T (leads (selectorsOf f) ro
   fits = search (left, right) depth 8
 
   well-formed : malformed f (write road value) ≡ false
-  unfolding malformed leads
+  unfolding malformed isPassing badAccess leads
   well-formed =
       simp (
-        le-ltb 5 (road .kind) (leb→le (road .kind) 5 (search (left, right) depth 8)),
+        le-ltb 6 (road .kind) (omega (arith, low-kind)),
+        ne-eqb (road .kind) 6 (λ e. omega (arith, low-kind)),
         is-true (eqb (road .width) 1 || eqb (road .width) 2) (search (left, right) depth 8),
         is-write,
         lt-leb (256 ^ road .width) value
@@ -136,7 +146,7 @@ module _ (f : File) (road : Road) (value : ℕ) (l : T (leads (selectorsOf f) ro
       record {
         done = rw done tt;
         file =
-            (rw is-write at (does-as-place f (write road value) row 0 e done))
+            (rw brings-value at (does-as-place f (write road value) row 0 e done))
             ∙ place-stores f (road .register) value free (row .place) into small
             ∙ ap₂ withFlip moves (exactly f (road .register) value s w);
       }
@@ -161,7 +171,7 @@ module _ (f : File) (road : Road) (value : ℕ) (l : T (leads (selectorsOf f) ro
             half = matches-half;
             width = is-true (eqb (row .width) (road .width)) (search (left, right));
           })
-          ∙ rw is-write (place-done f (road .register) free (row .place) into small)
+          ∙ rw brings-value (place-done f (road .register) free (row .place) into small)
 
   -- a record by a road that leads to its register is accepted, and stores the value
   pub road-stores : Stores f road value

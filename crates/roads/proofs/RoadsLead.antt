@@ -24,12 +24,12 @@ use Rattle.roads.proofs.LookupBySelectors.{Selectors, bareFile}
 -- what a file shows with an index selected
 unfoldable pub withIndex : Index → Selectors → Selectors
 withIndex any v = v
-withIndex (sr n) v = record { misc = v .misc; srx = n; crx = v .crx; grx = v .grx; arx = v .arx; toggle = v .toggle }
+withIndex (sr n) v = record { misc = v .misc; srx = n; crx = v .crx; grx = v .grx; arx = v .arx; toggle = v .toggle; chip = v .chip }
 withIndex (cr n) v = v
-withIndex (gr n) v = record { misc = v .misc; srx = v .srx; crx = v .crx; grx = n; arx = v .arx; toggle = v .toggle }
+withIndex (gr n) v = record { misc = v .misc; srx = v .srx; crx = v .crx; grx = n; arx = v .arx; toggle = v .toggle; chip = v .chip }
 withIndex (ar n) v = v
-withIndex indexDue v = record { misc = v .misc; srx = v .srx; crx = v .crx; grx = v .grx; arx = v .arx; toggle = false }
-withIndex (dataDue n) v = record { misc = v .misc; srx = v .srx; crx = v .crx; grx = v .grx; arx = n; toggle = true }
+withIndex indexDue v = record { misc = v .misc; srx = v .srx; crx = v .crx; grx = v .grx; arx = v .arx; toggle = false; chip = v .chip }
+withIndex (dataDue n) v = record { misc = v .misc; srx = v .srx; crx = v .crx; grx = v .grx; arx = n; toggle = true; chip = v .chip }
 
 unfoldable pub same : Bool → Bool → Bool
 same true b = b

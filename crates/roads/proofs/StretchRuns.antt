@@ -28,7 +28,7 @@ use Rattle.file.proofs.Soundness.{paint-keeps, sound-by, registers-sound, state
 use Rattle.places.specs.declared.place.Place.{Place}
 use Rattle.places.specs.declared.place.Place.the-variants.{ReadAddress, WriteAddress, PixelData}
 use Rattle.access.specs.Access.{paletteUp, inBank, entryNumber, answerAt, pixelWrite, effectAt, answer}
-use Rattle.access.specs.Checks.{isWrite, isPort, malformed, otherHalf}
+use Rattle.access.specs.Checks.{isWrite, isPassing, carries, isPort, badAccess, malformed, otherHalf}
 use Rattle.places.specs.Lookup.{selects, matches, first, rowAt}
 use Rattle.places.specs.Places.{Row, any, places}
 use Rattle.roads.specs.Plan.{mmioWrite, pixel, pixels, entries}
@@ -47,7 +47,7 @@ byteRow address place = record { kind = 5; address = address; index = any; width
 pub byte-runs : (f : File) (address value : ℕ) (place : Place) → T (sound f) → SpacesOn f → value < 256
     → rowAt f 5 address ≡ some (byteRow address place) → answerAt true f place ≡ Done 0
     → RunsInto f (mmioWrite address value ∷ []) (apply (effectAt true f place value) f)
-unfolding malformed otherHalf isPort isWrite effectAt accepted codeOf
+unfolding malformed badAccess otherHalf isPort isWrite isPassing carries effectAt accepted codeOf
 byte-runs f address value place s on h e done =
     runs-one f (mmioWrite address value) (apply (effectAt true f place value) f) (rw answers tt)
     (does-as-place f (mmioWrite address value) (byteRow address place) 0 e answers)
@@ -82,7 +82,7 @@ up-as f g bank e chip t up =
 pub step-up : (f : File) (bank : Bool) (p : Pointer) (m : ℕ) → PaletteReady f bank → T (marksSound m) → T (pointerSound p)
     → PaletteReady (withStep p m f) bank
 unfolding withStep
-step-up f bank p m up t h = up-as f (withStep p m f) bank refl refl (stepping-sound p m (f .state) (both (marksSound m) (pointerSound p) t h)) up
+step-up f bank p m up t h = up-as f (withStep p m f) bank refl refl (stepping-sound p m (f .state) (both (marksSound m) (pointerSound p) t h) (state-sound f (up .isSound))) up
 
 pub pixel-runs : (f : File) (bank : Bool) (p : Pointer) (m : ℕ) (value : ℕ) → PaletteReady f bank → T (marksSound m) → T (pointerSound p) → value < 256
     → RunsInto (withStep p m f) (mmioWrite 0xAC value ∷ []) (apply (pixelWrite (withStep p m f) value) (withStep p m f))
@@ -147,10 +147,10 @@ unfolding painted paintIn withBank withPalette
 painted-next true first c cs f = refl
 painted-next false first c cs f = refl
 
-pub painted-chip : (bank : Bool) (first : ℕ) (cs : List Colour) (f : File) → painted bank first cs f .state .chip ≡ f .state .chip
+pub painted-state : (bank : Bool) (first : ℕ) (cs : List Colour) (f : File) → painted bank first cs f .state ≡ f .state
 unfolding painted withBank withPalette
-painted-chip true first cs f = refl
-painted-chip false first cs f = refl
+painted-state true first cs f = refl
+painted-state false first cs f = refl
 
 pub painted-registers : (bank : Bool) (first : ℕ) (cs : List Colour) (f : File) → painted bank first cs f .registers ≡ f .registers
 unfolding painted withBank withPalette

@@ -18,8 +18,8 @@ use Rattle.file.specs.Names.{MISC, ARX}
 use Rattle.file.specs.Sound.{sound}
 use Rattle.places.specs.declared.place.Place.{Place}
 use Rattle.places.specs.declared.place.Place.the-variants.{Register, ToggleReset}
-use Rattle.access.specs.Access.{answerAt, effectAt, answer}
-use Rattle.access.specs.Checks.{isWrite, isPort, malformed, otherHalf}
+use Rattle.access.specs.Access.{displayState, answerAt, effectAt, answer}
+use Rattle.access.specs.Checks.{isWrite, isPassing, carries, isPort, badAccess, malformed, otherHalf}
 use Rattle.places.specs.Lookup.{selects, matches, first, rowAt, isOneOf}
 use Rattle.places.specs.Places.{Row, any, places}
 use Rattle.roads.specs.Roads.{byHalf}
@@ -35,7 +35,7 @@ readRow address place = record { kind = 2; address = address; index = any; width
 
 read-runs : (f : File) (address value : ℕ) (place : Place) → T (sound f) → SpacesOn f → rowAt f 2 address ≡ some (readRow address place)
     → otherHalf f (portRead address) ≡ false → answerAt false f place ≡ Done value → RunsInto f (portRead address ∷ []) (apply (effectAt false f place 0) f)
-unfolding malformed isWrite effectAt accepted codeOf
+unfolding malformed badAccess isWrite isPassing carries effectAt accepted codeOf
 read-runs f address value place s on e h done =
     runs-one f (portRead address) (apply (effectAt false f place 0) f) (rw answers tt) (does-as-place f (portRead address) (readRow address place) value e answers)
   where
@@ -51,7 +51,7 @@ reset-by : (f : File) → T (sound f) → SpacesOn f → (x : ℕ) → x < 2 →
 unfolding otherHalf isPort isOneOf answerAt effectAt apply rowAt first matches selects places
 reset-by f s on =
     by-bit (λ (x : ℕ). bit 0 (register f MISC) ≡ x → RunsInto f (portRead (cond (eqb x 1) 0x3DA 0x3BA) ∷ []) (withToggle false f))
-    (λ e. read-runs f 0x3BA 0 ToggleReset s on refl (rw e) refl) (λ e. read-runs f 0x3DA 0 ToggleReset s on refl (rw e) refl)
+    (λ e. read-runs f 0x3BA (displayState f) ToggleReset s on refl (rw e) refl) (λ e. read-runs f 0x3DA (displayState f) ToggleReset s on refl (rw e) refl)
 
 -- the toggle to index
 pub reset-runs : (w : List ℕ) (f : File) → Ready w f → RunsInto f (toIndex (getD w MISC 0) ∷ []) (withToggle false f)

@@ -29,7 +29,7 @@ mmioWrite address value = record { kind = 5; width = 1; address = address; value
 abbrev pub mmioRead : ℕ → Record
 mmioRead address = record { kind = 4; width = 1; address = address; value = 0 }
 
--- '3?Ah read (gives 0, sets the toggle to index)', by MISC
+-- '3?Ah read (.. sets the toggle to index)', by MISC; what it gives is not looked at (02, 10/13)
 abbrev pub toIndex : ℕ → Record
 toIndex misc = portRead (byHalf misc 0x3BA 0x3DA)
 

@@ -4,3 +4,4 @@ pub mod Kept
 pub mod Writer
 pub mod Ranges
 pub mod HandsBack
+pub mod VerticalNumbers

@@ -1,6 +1,11 @@
 // The fifteen timing numbers of a register file, in two units that cannot be mixed up.
 mod table;
+mod vertical;
 
+pub use vertical::v_display;
+pub use vertical::v_sync_end;
+pub use vertical::v_sync_start;
+pub use vertical::v_total;
 ghost use mathlib.Core.Path.{_≡_};
 ghost use Rattle.timing.specs.Timing.{timingOf, numbersOf, readTiming, writeTiming};
 ghost use Prim.Native.Nat.{ℕ, _<_, _^_};

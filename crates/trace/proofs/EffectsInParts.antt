@@ -9,7 +9,7 @@ use lib.ListN.{getD, set}
 use Rattle.bits.specs.Store.{store}
 use Rattle.bits.proofs.Test.{left, right, by-test, passes, is-true}
 use Rattle.file.specs.declared.effect.Effect.{Effect}
-use Rattle.file.specs.declared.effect.Effect.the-variants.{Nothing, Store, Toggle, Move, Step, Paint}
+use Rattle.file.specs.declared.effect.Effect.the-variants.{Nothing, Store, Toggle, Move, Step, Paint, Pass}
 use Rattle.file.specs.declared.palette.Colour.{Colour}
 use Rattle.file.specs.declared.palette.Pointer.{Pointer}
 use Rattle.file.specs.declared.registers.File.{File}
@@ -18,7 +18,7 @@ use Rattle.file.specs.Answers.{refused}
 use Rattle.file.specs.Effects.{apply}
 use Rattle.file.specs.File.{register, seen, bankCount}
 use Rattle.file.specs.Registers.{registerCount}
-use Rattle.file.specs.State.{pointing, stepping, toggling, flipped}
+use Rattle.file.specs.State.{pointing, stepping, toggling, flipped, passing}
 use Rattle.places.specs.EngineCells.{readsFile, writesFile, inFile}
 use Rattle.places.specs.Profile.{Reading, Writing, storesTo, profile, readsPixel}
 use Rattle.places.proofs.RulesOfPlaces.{place-in-file}
@@ -93,6 +93,11 @@ module _ (registers : List ℕ) (before : Served) where
         colour = refl;
       }
 
+  pub pass-put : (line : ℕ) (state : State) → state ≡ passing line (before .state) → Puts registers before (Pass line) registers (withState state before)
+  unfolding apply seen paints paintsBank paintsColour
+  pass-put line state e =
+      record { code = refl; value = refl; pixel = refl; left = λ t. ap (seen registers) (sym e); painting = λ e. e; bank = refl; colour = refl }
+
 -- ---- every access lands
 
 write-lands : (f : File) (writing : Writing) (value : ℕ) → T (writesFile writing) → T (lands (f .state) (writeEffect (reachIn f) f writing value))
@@ -100,7 +105,7 @@ unfolding lands entryNumber writesFile
 write-lands f writing value h =
     by-write (λ (e : Effect). T (lands (f .state) e)) (reachIn f) f writing value tt
     (λ number flips e. subst (λ (w : Writing). T (writesFile w)) e h) (λ reading. tt) tt
-    (eqb-refl (cond (inBank f) (f .state .pointer .address % bankCount) (f .state .pointer .address))) (λ e. tt)
+    (eqb-refl (cond (inBank f) (f .state .pointer .address % bankCount) (f .state .pointer .address))) (λ e. tt) (λ e. tt)
 
 pub effect-lands : (f : File) (r : Record) → T (lands (f .state) (effect f r))
 unfolding lands inFile placeOf
@@ -141,6 +146,7 @@ parts-after (Paint true entry pointer colour marks) f t =
 parts-after (Paint false entry pointer colour marks) f t =
     ap (λ (n : ℕ). record { registers = f .registers; palette = set (f .palette) n colour; bank = f .bank; state = stepping pointer marks (f .state) })
     (eqb→eq entry (f .state .pointer .address) t)
+parts-after (Pass line) f t = refl
 
 -- a read of a pixel moves no register
 pub pixel-keeps : (f : File) (r : Record) → asksPixel f r ≡ true → apply (effect f r) f .registers ≡ f .registers

@@ -5,7 +5,7 @@ use mathlib.Core.Bool.{Bool, true, false, true≢false}
 use mathlib.Core.List.{List}
 use lib.Dec.{T}
 use Rattle.file.specs.declared.effect.Effect.{Effect}
-use Rattle.file.specs.declared.effect.Effect.the-variants.{Nothing, Store, Toggle, Move, Step, Paint}
+use Rattle.file.specs.declared.effect.Effect.the-variants.{Nothing, Store, Toggle, Move, Step, Paint, Pass}
 use Rattle.file.specs.declared.palette.Colour.{Colour}
 use Rattle.file.specs.declared.state.State.{State}
 use Rattle.file.specs.Answers.{codeOf, valueOf}
@@ -28,6 +28,7 @@ bank-told (Toggle toggle) b p = absurd (true≢false (sym p))
 bank-told (Move pointer) b p = absurd (true≢false (sym p))
 bank-told (Step pointer marks) b p = absurd (true≢false (sym p))
 bank-told (Paint bank entry pointer colour marks) b p = refl
+bank-told (Pass line) b p = absurd (true≢false (sym p))
 
 pub colour-told : (e : Effect) (c d : Colour) → paints e ≡ true → paintsColour c e ≡ paintsColour d e
 unfolding paints paintsColour
@@ -37,6 +38,7 @@ colour-told (Toggle toggle) c d p = absurd (true≢false (sym p))
 colour-told (Move pointer) c d p = absurd (true≢false (sym p))
 colour-told (Step pointer marks) c d p = absurd (true≢false (sym p))
 colour-told (Paint bank entry pointer colour marks) c d p = refl
+colour-told (Pass line) c d p = absurd (true≢false (sym p))
 
 module _ (registers : List ℕ) (state : State) (asked : Record) (d : Decision) (decided : d ≡ decision (seen registers state) asked)
     (before : Served) (a : Answered (d .answer) (d .pixel) state before) (after : List ℕ) (s : Served) (p : Puts registers before (d .effect) after s) where

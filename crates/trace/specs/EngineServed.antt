@@ -7,7 +7,7 @@ use mathlib.Core.List.{List}
 use lib.Dec.{T, eqb, ltb}
 use Rattle.file.specs.declared.answer.Answer.{Answer}
 use Rattle.file.specs.declared.effect.Effect.{Effect}
-use Rattle.file.specs.declared.effect.Effect.the-variants.{Nothing, Store, Toggle, Move, Step, Paint}
+use Rattle.file.specs.declared.effect.Effect.the-variants.{Nothing, Store, Toggle, Move, Step, Paint, Pass}
 use Rattle.file.specs.declared.palette.Colour.{Colour}
 use Rattle.file.specs.declared.registers.File.{File}
 use Rattle.file.specs.declared.state.State.{State}
@@ -36,6 +36,7 @@ paints (Toggle toggle) = false
 paints (Move pointer) = false
 paints (Step pointer marks) = false
 paints (Paint bank entry pointer colour marks) = true
+paints (Pass line) = false
 
 unfoldable pub paintsBank : Bool → Effect → Bool
 paintsBank otherwise Nothing = otherwise
@@ -44,6 +45,7 @@ paintsBank otherwise (Toggle toggle) = otherwise
 paintsBank otherwise (Move pointer) = otherwise
 paintsBank otherwise (Step pointer marks) = otherwise
 paintsBank otherwise (Paint bank entry pointer colour marks) = bank
+paintsBank otherwise (Pass line) = otherwise
 
 unfoldable pub paintsColour : Colour → Effect → Colour
 paintsColour otherwise Nothing = otherwise
@@ -52,6 +54,7 @@ paintsColour otherwise (Toggle toggle) = otherwise
 paintsColour otherwise (Move pointer) = otherwise
 paintsColour otherwise (Step pointer marks) = otherwise
 paintsColour otherwise (Paint bank entry pointer colour marks) = colour
+paintsColour otherwise (Pass line) = otherwise
 
 -- an effect lands if its register is one of the file's and its entry the one that the pointer names
 unfoldable pub lands : State → Effect → Bool
@@ -61,6 +64,7 @@ lands s (Toggle toggle) = true
 lands s (Move pointer) = true
 lands s (Step pointer marks) = true
 lands s (Paint bank entry pointer colour marks) = eqb entry (cond bank (s .pointer .address % bankCount) (s .pointer .address))
+lands s (Pass line) = true
 
 -- an effect put on registers and state: what was answered stays, and what it paints is told
 pub record Puts (registers : List ℕ) (before : Served) (e : Effect) (after : List ℕ) (s : Served) : Type 0 where

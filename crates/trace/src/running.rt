@@ -141,6 +141,9 @@ fn put_effect(registers: &mut [u16; REGISTERS], before: Served, effect: Effect) 
             after.colour = colour;
             after.state = before.state.stepping(pointer, marks);
         }
+        Effect::Pass(line) => {
+            after.state = before.state.passing(line);
+        }
     }
     after
 }
@@ -153,7 +156,7 @@ fn serve(
     state: State,
     asked: Record,
 ) -> Served
-    requires { ⌜ (now cells ≡ cellTable) × (now stored ≡ storedTable (state .chip)) × T (sound (seen (now registers) state)) ⌝ }
+    requires { ⌜ (now cells ≡ cellTable (state .chip)) × (now stored ≡ storedTable (state .chip)) × T (sound (seen (now registers) state)) ⌝ }
     ensures { λ r. ⌜ Serves (seen (now (registers .entry)) state) asked (now (registers .exit)) r ⌝ }
 {
     let decision = decide(cells, stored, registers, state, asked);
@@ -173,8 +176,8 @@ fn run_whole(whole: File, trace: &[u8], replies: &mut [u8], count: usize) -> Fil
     let mut palette = whole.palette;
     let mut bank = whole.bank;
     let mut state = whole.state;
-    let cells = places::cells();
     let chip = state.chip;
+    let cells = places::cells(chip);
     let stored = File::stored(chip);
     for n in 0..count {
         let asked = record_at(trace, 8 * n);

@@ -10,7 +10,7 @@ use Rattle.file.specs.Effects.{apply}
 use Rattle.places.specs.declared.place.Place.{Place}
 use Rattle.access.specs.declared.record.Record.{Record}
 use Rattle.access.specs.Access.{answerAt, answer, effect, replyTo, access, placeOf}
-use Rattle.access.specs.Checks.{Check, isWrite, checks, firstRefusal}
+use Rattle.access.specs.Checks.{Check, carries, checks, firstRefusal}
 use Rattle.two_roads.specs.Agree.{Agree}
 
 module _ (f : File) (r s : Record) where
@@ -24,14 +24,14 @@ module _ (f : File) (r s : Record) where
   refused-alike [] j otherwise = refl
   refused-alike (c ∷ cs) j otherwise = ap₂ (λ (b : Bool) (a : Answer). cond b (c .answer) a) (j .0) (refused-alike cs (j .1) otherwise)
 
-  pub judged-agree : JudgedAlike checks → isWrite r ≡ isWrite s → placeOf f r ≡ placeOf f s → r .value ≡ s .value → Agree f r s
+  pub judged-agree : JudgedAlike checks → carries r ≡ carries s → placeOf f r ≡ placeOf f s → r .value ≡ s .value → Agree f r s
   unfolding answer effect access replyTo
   judged-agree judged direction place value =
       record { code = ap codeOf answered; value = ap valueOf answered; file = ap (λ (e : Effect). apply e f) done }
     where
       answered : answer f r ≡ answer f s
       answered =
-          refused-alike checks judged (answerAt (isWrite r) f (placeOf f r))
+          refused-alike checks judged (answerAt (carries r) f (placeOf f r))
           ∙ ap₂ (λ (w : Bool) (p : Place). firstRefusal checks f s (answerAt w f p)) direction place
 
       done : effect f r ≡ effect f s

@@ -9,12 +9,14 @@ use lib.Dec.{T, eqb, ltb, eqb→eq}
 use lib.ListN.{length}
 use Rattle.bits.specs.Store.{bits, bit}
 use Rattle.bits.proofs.Test.{left, right}
+use Rattle.file.specs.declared.chip.Chip.{Chip}
+use Rattle.file.specs.declared.chip.Chip.the-variants.{Gd5462, Gd5464}
 use Rattle.file.specs.declared.registers.File.{File}
 use Rattle.file.specs.File.{register}
 use Rattle.file.specs.Names.{MISC, SRX, CRX, GRX, ARX}
 use Rattle.places.specs.Lookup.{attributeIndex, selects, matches, first, rowAt, isOneOf}
 use Rattle.places.specs.Places.{Index, any, sr, cr, gr, ar, indexDue, dataDue, Row, places}
-use Rattle.places.proofs.Rows.{every}
+use Rattle.places.proofs.Rows.{every, on-chips}
 use Rattle.places.proofs.SamePlace.{samePlace}
 use Rattle.access.specs.Checks.{isPort, otherHalf}
 use Rattle.roads.proofs.LookupBySelectors.{Selectors, selectorsOf, bareFile, row-by, half-by}
@@ -58,9 +60,13 @@ unfoldable pub allPaired : List Row → Bool
 allPaired rows =
     every (λ (a : Row). every (λ (b : Row). not (twoRoads a b) || (listedIn a b monochrome && listedIn a b colour)) rows) rows
 
-pub all-paired : T (allPaired places)
+-- computed for each chip once
+both-paired : T (allPaired (places Gd5462)) × T (allPaired (places Gd5464))
 unfolding allPaired every twoRoads opposite listedIn paired somePair goesBy kindOf addressOf samePlace pairs places
-all-paired = tt
+both-paired = (tt, tt)
+
+pub all-paired : (chip : Chip) → T (allPaired (places chip))
+all-paired = on-chips (λ (chip : Chip). allPaired (places chip)) both-paired
 
 -- 30 CRs, MISC, SR0E, SR1E, the pixel mask, three palette places, PCI00, PCI02 and PCI04
 pub pairs-counted : (half : Half) → length (pairs half) ≡ 40
@@ -84,8 +90,8 @@ meets f write p =
 -- what a file shows with an SRX or CRX index selected; no pair has another
 unfoldable pub showing : Index → Selectors → Selectors
 showing any v = v
-showing (sr n) v = record { misc = v .misc; srx = n; crx = v .crx; grx = v .grx; arx = v .arx; toggle = v .toggle }
-showing (cr n) v = record { misc = v .misc; srx = v .srx; crx = n; grx = v .grx; arx = v .arx; toggle = v .toggle }
+showing (sr n) v = record { misc = v .misc; srx = n; crx = v .crx; grx = v .grx; arx = v .arx; toggle = v .toggle; chip = v .chip }
+showing (cr n) v = record { misc = v .misc; srx = v .srx; crx = n; grx = v .grx; arx = v .arx; toggle = v .toggle; chip = v .chip }
 showing (gr n) v = v
 showing (ar n) v = v
 showing indexDue v = v
@@ -96,10 +102,10 @@ unfolding showing selectorsOf selects
 shown f any t = refl
 shown f (sr n) t =
     λ k.
-    record { misc = register f MISC; srx = eqb→eq (register f SRX) n t k; crx = register f CRX; grx = register f GRX; arx = register f ARX; toggle = f .state .toggle }
+    record { misc = register f MISC; srx = eqb→eq (register f SRX) n t k; crx = register f CRX; grx = register f GRX; arx = register f ARX; toggle = f .state .toggle; chip = f .state .chip }
 shown f (cr n) t =
     λ k.
-    record { misc = register f MISC; srx = register f SRX; crx = eqb→eq (register f CRX) n t k; grx = register f GRX; arx = register f ARX; toggle = f .state .toggle }
+    record { misc = register f MISC; srx = register f SRX; crx = eqb→eq (register f CRX) n t k; grx = register f GRX; arx = register f ARX; toggle = f .state .toggle; chip = f .state .chip }
 shown f (gr n) t = refl
 shown f (ar n) t = refl
 shown f indexDue t = refl

@@ -16,21 +16,26 @@ use Rattle.places.specs.Places.{Row}
 use Rattle.places.proofs.SamePlace.{same-place}
 use Rattle.access.specs.declared.record.Record.{Record}
 use Rattle.access.specs.Access.{placeOf}
-use Rattle.access.specs.Checks.{isWrite, isPort, isMmio, checks, notSound, malformed, spaceOff, noRow, notHeld, otherDirection, insideWider, otherHalf, otherWidth, wrongWidth}
+use Rattle.access.specs.Checks.{isWrite, isPassing, carries, isPort, isMmio, checks, notSound, badAccess, malformed, spaceOff, noRow, notHeld, otherDirection, insideWider, otherHalf, otherWidth, wrongWidth}
 use Rattle.two_roads.specs.Pairs.{Space, config, ports, mmio, Pair, Half, pairs}
 use Rattle.two_roads.specs.Agree.{kindOf, recordBy, spaceOn, Ready, Agree}
 use Rattle.two_roads.proofs.AlikeChecked.{judged-agree}
 use Rattle.two_roads.proofs.PairsListed.{sameRow, meets, ready-meets}
 
--- a road's record is of a kind that there is, and of the access's direction
-good-kind : (space : Space) (write : Bool) → (ltb 5 (kindOf space write) ≡ false) × (eqb (kindOf space write % 2) 1 ≡ write)
+-- a road's record is an ordinary access, of the direction asked for
+pub record GoodKind (space : Space) (write : Bool) : Type 0 where
+  pub known : ltb 6 (kindOf space write) ≡ false
+  pub access : eqb (kindOf space write) 6 ≡ false
+  pub direction : eqb (kindOf space write % 2) 1 ≡ write
+
+good-kind : (space : Space) (write : Bool) → GoodKind space write
 unfolding kindOf
-good-kind config true = (refl, refl)
-good-kind config false = (refl, refl)
-good-kind ports true = (refl, refl)
-good-kind ports false = (refl, refl)
-good-kind mmio true = (refl, refl)
-good-kind mmio false = (refl, refl)
+good-kind config true = record { known = refl; access = refl; direction = refl }
+good-kind config false = record { known = refl; access = refl; direction = refl }
+good-kind ports true = record { known = refl; access = refl; direction = refl }
+good-kind ports false = record { known = refl; access = refl; direction = refl }
+good-kind mmio true = record { known = refl; access = refl; direction = refl }
+good-kind mmio false = record { known = refl; access = refl; direction = refl }
 
 -- a space that is on refuses no record of it
 space-on : (f : File) (space : Space) (write : Bool) (width address value : ℕ) → T (spaceOn f space)
@@ -51,13 +56,23 @@ module _ (f : File) (p : Pair) (write : Bool) (width value : ℕ) (on : T (space
   abbrev To : Record
   To = recordBy (p .to) write width value
 
+  from : GoodKind (p .from .space) write
+  from = good-kind (p .from .space) write
+
+  to : GoodKind (p .to .space) write
+  to = good-kind (p .to .space) write
+
   direction : isWrite From ≡ isWrite To
   unfolding isWrite
-  direction = good-kind (p .from .space) write .1 ∙ sym (good-kind (p .to .space) write .1)
+  direction = from .direction ∙ sym (to .direction)
+
+  brings : carries From ≡ carries To
+  unfolding carries isPassing
+  brings = rw (direction, from .access, to .access)
 
   form : malformed f From ≡ malformed f To
-  unfolding malformed
-  form = rw (good-kind (p .from .space) write .0, good-kind (p .to .space) write .0, direction)
+  unfolding malformed isPassing badAccess
+  form = rw (from .known, to .known, from .access, to .access, direction)
 
   space : spaceOff f From ≡ spaceOff f To
   space =
@@ -75,7 +90,7 @@ module _ (f : File) (p : Pair) (write : Bool) (width value : ℕ) (on : T (space
   by-rows none b d e t = absurd t
   by-rows (some a) none d e t = absurd t
   by-rows (some a) (some b) d e t =
-      judged-agree f From To (refl, (form, (space, (rw (d, e), (rw (d, e), (held, (half, (wide, tt)))))))) direction (rw (d, e, one-place)) refl
+      judged-agree f From To (refl, (form, (space, (rw (d, e), (rw (d, e), (held, (half, (wide, tt)))))))) brings (rw (d, e, one-place)) refl
     where
       one-width : a .width ≡ b .width
       one-width = eqb→eq (a .width) (b .width) (search left)

@@ -12,7 +12,7 @@ use Rattle.file.specs.Sound.{sound}
 use Rattle.roads.specs.Restores.{IsFile}
 use Rattle.roads.proofs.PlanServes.{same-chip}
 use Rattle.plan.proofs.FileIsFile.{is-file}
-use Rattle.plan.proofs.PromisesKept.{plan-written, written-room, written-few, run-ends}
+use Rattle.plan.proofs.PromisesKept.{plan-written, written-room, written-few, run-file}
 use Rattle.restoring.proofs.PromiseKept.{restore-unsound, restore-elsewhere, restore-unplanned, restore-done}
 use Rattle.restoring.proofs.restore.Statement.{statement}
 use Rattle.restoring.proofs.restore.Tie as tie
@@ -80,7 +80,7 @@ returns-4 c =
     restore-done (current planned) (current-sound planned) (one-chip planned) (planned .plan .result) (planned .plan .ensures) (taken .before .code .ensures) (taken .if3 .left)
     (current-file planned) (ran .result .file)
     (ran .ensures .0 .1
-    ∙ run-ends wrote (current planned) (current-file planned) (current-sound planned) (same-chip _ _ (one-chip planned)) _ enough)
+    ∙ run-file wrote (current planned) (current-file planned) (current-sound planned) (same-chip _ _ (one-chip planned)) _ enough)
 
 pub restore-spec : {M : Type 1} → statement M
 restore-spec =

@@ -29,7 +29,7 @@ module _ (c : tie.After-decide) where
   decided =
       c .decide .ensures
       ∙ ap₂ (λ (cells stored : List ℕ). decidedBy cells stored (seen (whole .registers) (whole .state)) asked)
-      (c .before .before .before .before .before .before .cells .ensures) (c .before .before .before .before .stored .ensures)
+      (c .before .before .before .before .before .cells .ensures) (c .before .before .before .before .stored .ensures)
       ∙ decided-by-tables (seen (whole .registers) (whole .state)) (start .pre) asked
 
 returns : tie.Need-returns

@@ -66,7 +66,7 @@ returns-9 c = rw (c .before .enum-told6 .given .1) (c .read-pixel .ensures)
 
 returns-10 : tie.Need-returns-10
 unfolding profile decidedRead readAnswer readEffect readsPixel refused codeOf seen register
-returns-10 c = rw (c .before .enum-told7 .given .1) (c .done .ensures)
+returns-10 c = rw (c .before .enum-told7 .given .1, ← c .display-state .ensures)
 
 returns-11 : tie.Need-returns-11
 unfolding profile decidedRead readAnswer readEffect readsPixel refused codeOf seen register
@@ -84,6 +84,14 @@ returns-14 : tie.Need-returns-14
 unfolding profile decidedRead readAnswer readEffect readsPixel refused codeOf seen register
 returns-14 c = rw (c .before .before .enum-told11 .given .1, ← c .before .v-port-state .ensures) (c .only12 .ensures)
 
+returns-15 : tie.Need-returns-15
+unfolding profile decidedRead readAnswer readEffect readsPixel refused codeOf seen register
+returns-15 c = rw (c .before .before .enum-told12 .given .1, ← c .before .line-shown .ensures) (c .only13 .ensures)
+
+returns-16 : tie.Need-returns-16
+unfolding profile decidedRead readAnswer readEffect readsPixel refused codeOf seen register
+returns-16 c = rw (c .before .enum-told13 .given .1) (c .only14 .ensures)
+
 pub read-at-spec : {M : Type 1} → statement M
 read-at-spec =
     tie.close
@@ -93,5 +101,6 @@ read-at-spec =
     (λ c κs. search needs) (λ c κs. search needs) (λ c. search needs) (λ c. search needs) (λ c κs. search needs) (λ c. search needs)
     (λ c κs. search needs) (λ c. search needs) (λ c κs. search needs) (λ c. search needs) (λ c κs. search needs) (λ c. search needs)
     (λ c κs. search needs) (λ c. search needs) (λ c κs. search needs) (λ c κs. search needs) (λ c. search needs) (λ c κs. search needs)
-    (λ c κs. search needs) returns returns-2 returns-3 returns-4 returns-5 returns-6 returns-7 returns-8 returns-9 returns-10 returns-11
-    returns-12 returns-13 returns-14)
+    (λ c κs. search needs) (λ c. search needs) (λ c κs. search needs) (λ c κs. search needs) (λ c. search needs) (λ c κs. search needs)
+    returns returns-2 returns-3 returns-4 returns-5 returns-6 returns-7 returns-8 returns-9 returns-10 returns-11 returns-12 returns-13
+    returns-14 returns-15 returns-16)

@@ -72,6 +72,14 @@ returns-14 : tie.Need-returns-14
 unfolding profile decidedWrite writeAnswer writeEffect taken lockedOut crtcLocked reachBy refused codeOf seen register
 returns-14 c = rw (c .before .enum-told12 .given .1) (c .write-register4 .ensures)
 
+returns-15 : tie.Need-returns-15
+unfolding profile decidedWrite writeAnswer writeEffect taken lockedOut crtcLocked reachBy refused codeOf seen register
+returns-15 c = rw (c .before .enum-told13 .given .1) (c .only7 .ensures)
+
+returns-16 : tie.Need-returns-16
+unfolding profile decidedWrite writeAnswer writeEffect taken lockedOut crtcLocked reachBy refused codeOf seen register
+returns-16 c = rw (c .before .enum-told14 .given .1) (c .pass-lines .ensures)
+
 pub write-at-spec : {M : Type 1} → statement M
 write-at-spec =
     tie.close
@@ -79,5 +87,7 @@ write-at-spec =
     (λ c κs. search needs) (λ c. search needs) (λ c κs. search needs) (λ c κs. search needs) (λ c κs. search needs) (λ c. search needs)
     (λ c κs. search needs) (λ c κs. search needs) (λ c κs. search needs) (λ c. search needs) (λ c κs. search needs) (λ c. search needs)
     (λ c. search needs) (λ c κs. search needs) (λ c. search needs) (λ c κs. search needs) (λ c. search needs) (λ c κs. search needs)
-    (λ c. search needs) (λ c κs. search needs) (λ c. search needs) (λ c κs. search needs) (λ c. search needs) (λ c κs. search needs) (λ c. search needs) (λ c κs. search needs) returns returns-2 returns-3 returns-4
-    returns-5 returns-6 returns-7 returns-8 returns-9 returns-10 returns-11 returns-12 returns-13 returns-14)
+    (λ c. search needs) (λ c κs. search needs) (λ c. search needs) (λ c κs. search needs) (λ c. search needs) (λ c κs. search needs)
+    (λ c. search needs) (λ c κs. search needs) (λ c. search needs) (λ c κs. search needs) (λ c. search needs) (λ c κs. search needs)
+    returns returns-2 returns-3 returns-4 returns-5 returns-6 returns-7 returns-8 returns-9 returns-10 returns-11 returns-12 returns-13
+    returns-14 returns-15 returns-16)

@@ -1,7 +1,7 @@
 -- `state_sound` meets its contract. Assumes nothing.
 use mathlib.Core.Path.{sym, _∙_}
 use borrow.Author.Tests.{not-true, not-false}
-use Rattle.file.specs.State.{stateSound}
+use Rattle.file.specs.State.{lastLine, stateSound}
 use borrow.Author.Needs.{needs}
 use Rattle.file.proofs.sound.state_sound.Statement.{statement}
 use Rattle.file.proofs.sound.state_sound.Tie as tie
@@ -12,7 +12,15 @@ returns c = rw (sym (c .before .marks-sound .ensures) ∙ not-true _ (c .if1 .ta
 
 returns-2 : tie.Need-returns-2
 unfolding stateSound
-returns-2 c = rw (sym (c .before .before .marks-sound .ensures) ∙ not-false _ (c .before .if1 .left)) (c .pointer-sound .ensures)
+returns-2 c =
+    rw (sym (c .before .before .before .marks-sound .ensures) ∙ not-false _ (c .before .before .if1 .left))
+    (rw (sym (c .before .pointer-sound .ensures) ∙ not-true _ (c .if2 .taken)))
+
+returns-3 : tie.Need-returns-3
+unfolding stateSound lastLine
+returns-3 c =
+    rw (sym (c .before .before .before .before .marks-sound .ensures) ∙ not-false _ (c .before .before .before .if1 .left))
+    (rw (sym (c .before .before .pointer-sound .ensures) ∙ not-false _ (c .before .if2 .left)))
 
 pub state-sound-spec : {M : Type 1} → statement M
-state-sound-spec = tie.close (tie.spec (λ c κs. search needs) returns (λ c κs. search needs) returns-2)
+state-sound-spec = tie.close (tie.spec (λ c κs. search needs) returns (λ c κs. search needs) returns-2 returns-3)

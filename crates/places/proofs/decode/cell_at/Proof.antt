@@ -16,7 +16,7 @@ returns-2 c = rw (ne-eqb _ _ (c .before .before .if1 .left), eq-eqb _ _ (c .befo
 
 returns-3 : tie.Need-returns-3
 unfolding cellIn
-returns-3 c = rw (ne-eqb _ _ (c .before .before .before .if1 .left), ne-eqb _ _ (c .before .before .if2 .left), eq-eqb _ _ (c .before .if3 .taken)) (c .mmio-cell .ensures ∙ ap (mmioCell _) (c .before .before .before .before .to-usize .ensures))
+returns-3 c = rw (ne-eqb _ _ (c .before .before .before .if1 .left), ne-eqb _ _ (c .before .before .if2 .left), eq-eqb _ _ (c .before .if3 .taken)) (c .mmio-cell .ensures ∙ ap (mmioCell _ _) (c .before .before .before .before .to-usize .ensures))
 
 returns-4 : tie.Need-returns-4
 unfolding cellIn

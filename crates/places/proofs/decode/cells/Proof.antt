@@ -1,16 +1,13 @@
--- `cells` meets its contract. Assumes nothing.
-use Rattle.file.specs.File.{seen}
-use Rattle.file.specs.State.{initial, toggling}
-use Rattle.places.specs.Lookup.{selects, first, placeOfRow, otherWay, someRow, heldIn, isWider, insideIn}
-use Rattle.places.specs.Places.{places}
-use mathlib.Core.Path.{refl}
-use Rattle.places.specs.EngineCells.{plainCell, indexedCell, ofKind, ofAddress, rowsAt, cellOf, heldCell, nothingAt, cellAt, chosen, cellsFrom, behindPort, tabled, tableCell, cellTable}
+-- `cells` meets its contract: a case for each chip. Assumes nothing.
+use borrow.Author.Needs.{needs}
 use Rattle.places.proofs.decode.cells.Statement.{statement}
 use Rattle.places.proofs.decode.cells.Tie as tie
 
 returns : tie.Need-returns
-unfolding places first selects placeOfRow seen initial toggling ofKind ofAddress rowsAt plainCell indexedCell cellOf heldCell nothingAt cellAt otherWay someRow heldIn isWider insideIn chosen cellsFrom behindPort tabled tableCell cellTable
-returns c = refl
+returns c = rw (c .before .enum-told .given .1) (c .without-line .ensures)
+
+returns-2 : tie.Need-returns-2
+returns-2 c = rw (c .before .enum-told2 .given .1) (c .with-line .ensures)
 
 pub cells-spec : {M : Type 1} → statement M
-cells-spec = tie.close (tie.spec returns)
+cells-spec = tie.close (tie.spec (λ c. search needs) (λ c κs. search needs) (λ c. search needs) (λ c κs. search needs) returns returns-2)

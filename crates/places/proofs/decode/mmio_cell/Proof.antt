@@ -11,7 +11,7 @@ returns c = simp (lt-ltb _ _ (c .before .if1 .taken))
 
 returns-2 : tie.Need-returns-2
 unfolding mmioCell
-returns-2 c = simp (le-ltb _ _ (c .before .if1 .left), lt-leb _ _ (c .if2 .taken))
+returns-2 c = simp (le-ltb _ _ (c .before .before .if1 .left), lt-leb _ _ (c .before .if2 .taken)) (c .csl-cell .ensures)
 
 returns-3 : tie.Need-returns-3
 unfolding mmioCell
@@ -20,4 +20,4 @@ returns-3 c = simp (le-ltb _ _ (c .before .before .if1 .left), le-leb _ _ (c .be
 pub mmio-cell-spec : {M : Type 1} → statement M
 mmio-cell-spec =
     tie.close
-    (tie.spec (λ c. search needs) (λ c. search needs) returns returns-2 (λ c κs. search needs) returns-3)
+    (tie.spec (λ c. search needs) (λ c. search needs) returns (λ c κs. search needs) returns-2 (λ c κs. search needs) returns-3)

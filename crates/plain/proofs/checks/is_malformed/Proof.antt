@@ -1,48 +1,21 @@
 -- `is_malformed` meets its contract. Assumes nothing.
 use borrow.Author.Tests.{lt-ltb, le-ltb, eq-eqb, ne-eqb}
-use Prim.Native.Nat.{ℕ, _%_}
-use mathlib.Core.Bool.{true, false}
-use mathlib.Core.Path.{_≡_}
-use native.Mathlib.Omega.{arith}
-use lib.Dec.{eqb}
-use Rattle.access.specs.Checks.{isWrite, malformed}
+use Rattle.access.specs.Checks.{isPassing, malformed}
+use borrow.Author.Needs.{needs}
 use Rattle.plain.proofs.checks.is_malformed.Statement.{statement}
 use Rattle.plain.proofs.checks.is_malformed.Tie as tie
 
--- a kind that is not even is odd
-odd : (kind : ℕ) → (kind % 2 ≡ 0 → ⊥) → eqb (kind % 2) 1 ≡ true
-odd kind h = eq-eqb (kind % 2) 1 (omega (arith, h))
-
-even : (kind : ℕ) → kind % 2 ≡ 0 → eqb (kind % 2) 1 ≡ false
-even kind h = ne-eqb (kind % 2) 1 (λ e. omega (arith, e, h))
-
 returns : tie.Need-returns
-unfolding malformed isWrite
+unfolding malformed isPassing
 returns c = rw (lt-ltb _ _ (c .if1 .taken))
 
 returns-2 : tie.Need-returns-2
-unfolding malformed isWrite
-returns-2 c = rw (le-ltb _ _ (c .before .before .before .before .if1 .left), c .before .match .keys1, even _ (c .before .before .if2 .taken))
+unfolding malformed isPassing
+returns-2 c = rw (le-ltb _ _ (c .before .before .before .if1 .left), eq-eqb _ _ (c .before .if2 .taken)) (c .is-bad-passing .ensures)
 
 returns-3 : tie.Need-returns-3
-unfolding malformed isWrite
-returns-3 c = rw (le-ltb _ _ (c .before .before .before .before .if1 .left), c .before .match .keys2, even _ (c .before .before .if2 .taken))
-
-returns-4 : tie.Need-returns-4
-unfolding malformed isWrite
-returns-4 c = rw (le-ltb _ _ (c .before .before .before .if1 .left), ne-eqb _ _ (c .match .rest .0 .1), ne-eqb _ _ (c .match .rest .1))
-
-returns-5 : tie.Need-returns-5
-unfolding malformed isWrite
-returns-5 c = rw (le-ltb _ _ (c .before .before .before .before .if1 .left), c .before .match2 .keys1, odd _ (c .before .before .if2 .left))
-
-returns-6 : tie.Need-returns-6
-unfolding malformed isWrite
-returns-6 c = rw (le-ltb _ _ (c .before .before .before .before .if1 .left), c .before .match2 .keys2, odd _ (c .before .before .if2 .left))
-
-returns-7 : tie.Need-returns-7
-unfolding malformed isWrite
-returns-7 c = rw (le-ltb _ _ (c .before .before .before .if1 .left), ne-eqb _ _ (c .match2 .rest .0 .1), ne-eqb _ _ (c .match2 .rest .1))
+unfolding malformed isPassing
+returns-3 c = rw (le-ltb _ _ (c .before .before .before .if1 .left), ne-eqb _ _ (c .before .if2 .left)) (c .is-bad-access .ensures)
 
 pub is-malformed-spec : {M : Type 1} → statement M
-is-malformed-spec = tie.close (tie.spec returns returns-2 returns-3 returns-4 returns-5 returns-6 returns-7)
+is-malformed-spec = tie.close (tie.spec returns (λ c κs. search needs) returns-2 (λ c κs. search needs) returns-3)

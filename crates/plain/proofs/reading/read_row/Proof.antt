@@ -77,7 +77,8 @@ returns-11 c = rw (c .before .enum-told8 .given .1) (c .read-pixel .ensures)
 
 returns-12 : tie.Need-returns-12
 unfolding profile readTold told readAnswer readEffect refused codeOf apply register shownState
-returns-12 c = rw (c .before .before .enum-told9 .given .1, c .with-state .ensures, c .before .toggling .ensures)
+returns-12 c =
+    rw (c .before .before .before .enum-told9 .given .1, c .with-state .ensures, c .before .toggling .ensures, c .before .before .display-state .ensures)
 
 returns-13 : tie.Need-returns-13
 unfolding profile readTold told readAnswer readEffect refused codeOf apply register shownState
@@ -86,6 +87,14 @@ returns-13 c = rw (c .before .enum-told10 .given .1) (c .leaving11 .ensures)
 returns-14 : tie.Need-returns-14
 unfolding profile readTold told readAnswer readEffect refused codeOf apply register shownState
 returns-14 c = rw (c .before .enum-told11 .given .1) (c .leaving12 .ensures)
+
+returns-15 : tie.Need-returns-15
+unfolding profile readTold told readAnswer readEffect refused codeOf apply register shownState
+returns-15 c = rw (c .before .before .enum-told12 .given .1, ← c .before .line-shown .ensures) (c .leaving13 .ensures)
+
+returns-16 : tie.Need-returns-16
+unfolding profile readTold told readAnswer readEffect refused codeOf apply register shownState
+returns-16 c = rw (c .before .enum-told13 .given .1) (c .leaving14 .ensures)
 
 pub read-row-spec : {M : Type 1} → statement M
 read-row-spec =
@@ -96,5 +105,6 @@ read-row-spec =
     (λ c κs. search needs) (λ c κs. search needs) (λ c. search needs) (λ c κs. search needs) (λ c. search needs) (λ c. search needs)
     (λ c κs. search needs) (λ c. search needs) (λ c κs. search needs) (λ c κs. search needs) (λ c. search needs) (λ c. search needs)
     (λ c κs. search needs) (λ c. search needs) (λ c κs. search needs) (λ c. search needs) (λ c κs. search needs) (λ c κs. search needs)
-    (λ c. search needs) (λ c κs. search needs) (λ c. search needs) (λ c κs. search needs) returns returns-2 returns-3 returns-4 returns-5 returns-6
-    returns-7 returns-8 returns-9 returns-10 returns-11 returns-12 returns-13 returns-14)
+    (λ c κs. search needs) (λ c. search needs) (λ c κs. search needs) (λ c. search needs) (λ c κs. search needs) (λ c. search needs)
+    (λ c κs. search needs) (λ c κs. search needs) (λ c. search needs) (λ c κs. search needs) returns returns-2 returns-3 returns-4 returns-5
+    returns-6 returns-7 returns-8 returns-9 returns-10 returns-11 returns-12 returns-13 returns-14 returns-15 returns-16)

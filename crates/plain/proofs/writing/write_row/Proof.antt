@@ -85,14 +85,24 @@ returns-13 c = rw (c .before .enum-told11 .given .1) (c .leaving6 .ensures)
 
 returns-14 : tie.Need-returns-14
 unfolding profile writeTold told writeAnswer writeEffect refused codeOf apply
-returns-14 c = rw (c .before .before .before .enum-told12 .given .1, c .with-state .ensures, c .before .toggling .ensures)
+returns-14 c = rw (c .before .enum-told12 .given .1) (c .pass-lines .ensures)
+
+returns-15 : tie.Need-returns-15
+unfolding profile writeTold told writeAnswer writeEffect refused codeOf apply
+returns-15 c = rw (c .before .enum-told13 .given .1) (c .leaving7 .ensures)
+
+returns-16 : tie.Need-returns-16
+unfolding profile writeTold told writeAnswer writeEffect refused codeOf apply
+returns-16 c = rw (c .before .before .before .enum-told14 .given .1, c .with-state .ensures, c .before .toggling .ensures)
 
 pub write-row-spec : {M : Type 1} → statement M
 write-row-spec =
     tie.close
-    (tie.spec (λ c. search needs) write-register-requires (λ c. search needs) write-register-requires-2 (λ c. search needs) (λ c κs. search needs)
-    (λ c. search needs) (λ c κs. search needs) (λ c. search needs) byte-requires (λ c κs. search needs) (λ c. search needs) byte-requires-2
-    (λ c κs. search needs) (λ c. search needs) byte-requires-3 (λ c κs. search needs) (λ c. search needs) (λ c κs. search needs) (λ c. search needs)
+    (tie.spec (λ c. search needs) write-register-requires (λ c. search needs) write-register-requires-2 (λ c. search needs)
+    (λ c κs. search needs) (λ c. search needs) (λ c κs. search needs) (λ c. search needs) byte-requires (λ c κs. search needs)
+    (λ c. search needs) byte-requires-2 (λ c κs. search needs) (λ c. search needs) byte-requires-3 (λ c κs. search needs) (λ c. search needs)
+    (λ c κs. search needs) (λ c. search needs) (λ c κs. search needs) (λ c. search needs) (λ c κs. search needs) (λ c. search needs)
     (λ c κs. search needs) (λ c. search needs) (λ c κs. search needs) (λ c. search needs) (λ c κs. search needs) (λ c. search needs)
     (λ c κs. search needs) (λ c. search needs) (λ c κs. search needs) (λ c. search needs) (λ c κs. search needs) (λ c κs. search needs) returns
-    returns-2 returns-3 returns-4 returns-5 returns-6 returns-7 returns-8 returns-9 returns-10 returns-11 returns-12 returns-13 returns-14)
+    returns-2 returns-3 returns-4 returns-5 returns-6 returns-7 returns-8 returns-9 returns-10 returns-11 returns-12 returns-13 returns-14
+    returns-15 returns-16)

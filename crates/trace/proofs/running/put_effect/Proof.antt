@@ -2,7 +2,7 @@
 use Rattle.file.specs.declared.effect.Effect.{Effect}
 use mathlib.Core.Path.{sym, subst}
 use Rattle.trace.specs.EngineServed.{Puts}
-use Rattle.trace.proofs.EffectsInParts.{nothing-put, store-put, toggle-put, move-put, step-put, paint-put}
+use Rattle.trace.proofs.EffectsInParts.{nothing-put, store-put, toggle-put, move-put, step-put, paint-put, pass-put}
 use borrow.Author.Needs.{needs}
 use Rattle.trace.proofs.running.put_effect.Statement.{statement}
 use Rattle.trace.proofs.running.put_effect.Tie as tie
@@ -25,9 +25,12 @@ returns-5 c = rw (c .before .before .effect4 .given .1) (step-put (c .before .be
 returns-6 : tie.Need-returns-6
 returns-6 c = rw (c .before .before .effect5 .given .1) (paint-put (c .before .before .before .before .args .registers .now) (c .before .before .before .before .args .before) _ _ _ _ _ _ (c .stepping2 .ensures))
 
+returns-7 : tie.Need-returns-7
+returns-7 c = rw (c .before .before .effect6 .given .1) (pass-put (c .before .before .before .before .args .registers .now) (c .before .before .before .before .args .before) _ _ (c .passing .ensures))
+
 pub put-effect-spec : {M : Type 1} → statement M
 put-effect-spec =
     tie.close
     (tie.spec (λ c. search needs) (λ c. search needs) (λ c κs. search needs) (λ c κs. search needs) (λ c. search needs)
     (λ c κs. search needs) (λ c. search needs) (λ c κs. search needs) (λ c. search needs) (λ c κs. search needs) (λ c. search needs)
-    (λ c κs. search needs) returns returns-2 returns-3 returns-4 returns-5 returns-6)
+    (λ c κs. search needs) (λ c. search needs) (λ c κs. search needs) returns returns-2 returns-3 returns-4 returns-5 returns-6 returns-7)

@@ -11,6 +11,7 @@ use Rattle.file.specs.declared.palette.Colour.{Colour}
 use Rattle.file.specs.declared.registers.File.{File}
 use Rattle.file.specs.File.{register, seen, black}
 use Rattle.file.specs.Registers.{storedTable}
+use Rattle.places.specs.EngineCells.{cellTable}
 use Rattle.file.specs.Sound.{sound}
 use Rattle.access.specs.Access.{inBank, shownIn}
 use Rattle.trace.specs.Records.{items}
@@ -37,9 +38,10 @@ unfolding sound seen
 serve-requires c κs =
     let start = c .before .before .before .before .before .before .before .before .before .before .before .before .before .before in
     let whole : File = start .args .whole in
-    let inv = c .before .before .before .before .before .loop .inv in (
-      c .before .before .before .before .before .before .before .cells .ensures,
-      c .before .before .before .before .before .before .stored .ensures ∙ ap storedTable (sym (ap (λ (f : File). f .state .chip) (inv .file) ∙ run-chip whole _)),
+    let inv = c .before .before .before .before .before .loop .inv in
+    let same-chip = sym (ap (λ (f : File). f .state .chip) (inv .file) ∙ run-chip whole _) in (
+      c .before .before .before .before .before .before .before .cells .ensures ∙ ap cellTable same-chip,
+      c .before .before .before .before .before .before .stored .ensures ∙ ap storedTable same-chip,
       subst (λ (f : File). T (sound f)) (sym (inv .file)) (run-sound whole _ (start .pre .0)),
     )
 

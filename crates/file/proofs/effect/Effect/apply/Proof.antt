@@ -31,10 +31,14 @@ returns-6 : tie.Need-returns-6
 unfolding apply
 returns-6 c = c .stated5 .ensures ∙ ap₂ withState (c .before .stepping2 .ensures) (c .before .before .painted .ensures) ∙ sym (ap (λ (e : Effect). apply e (c .before .before .before .before .before .before .args .file)) (c .before .before .before .before .self5 .given .1))
 
+returns-7 : tie.Need-returns-7
+unfolding apply
+returns-7 c = c .stated6 .ensures ∙ ap (λ s. withState s (c .before .before .before .before .before .args .file)) (c .before .passing .ensures) ∙ sym (ap (λ (e : Effect). apply e (c .before .before .before .before .before .args .file)) (c .before .before .before .self6 .given .1))
+
 pub apply-spec : {M : Type 1} → statement M
 apply-spec =
     tie.close
     (tie.spec (λ c. search needs) (λ c. search needs) (λ c κs. search needs) (λ c κs. search needs) (λ c κs. search needs)
     (λ c. search needs) (λ c κs. search needs) (λ c κs. search needs) (λ c. search needs) (λ c κs. search needs) (λ c κs. search needs)
     (λ c. search needs) (λ c κs. search needs) (λ c κs. search needs) (λ c. search needs) (λ c κs. search needs) (λ c κs. search needs)
-    (λ c κs. search needs) returns returns-2 returns-3 returns-4 returns-5 returns-6)
+    (λ c κs. search needs) (λ c. search needs) (λ c κs. search needs) (λ c κs. search needs) returns returns-2 returns-3 returns-4 returns-5 returns-6 returns-7)

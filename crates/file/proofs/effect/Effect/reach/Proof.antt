@@ -27,9 +27,13 @@ returns-6 : tie.Need-returns-6
 unfolding reachOf
 returns-6 c = rw (c .before .before .self2 .given .1) (c .colours3 .ensures)
 
+returns-7 : tie.Need-returns-7
+unfolding reachOf
+returns-7 c = rw (c .before .enum-told5 .given .1) (c .of-line .ensures)
+
 pub reach-spec : {M : Type 1} → statement M
 reach-spec =
     tie.close
     (tie.spec (λ c. search needs) (λ c κs. search needs) (λ c. search needs) (λ c κs. search needs) (λ c. search needs)
     (λ c κs. search needs) (λ c. search needs) (λ c κs. search needs) (λ c. search needs) (λ c κs. search needs) (λ c. search needs)
-    (λ c κs. search needs) returns returns-2 returns-3 returns-4 returns-5 returns-6)
+    (λ c κs. search needs) (λ c. search needs) (λ c κs. search needs) returns returns-2 returns-3 returns-4 returns-5 returns-6 returns-7)
