@@ -10,7 +10,6 @@ use Rattle.file.specs.declared.registers.File.{File}
 use Rattle.file.specs.Answers.{refused}
 use Rattle.file.specs.File.{Same}
 use Rattle.trace.specs.declared.running.Ran.{Ran}
-use Rattle.trace.specs.Run.{run}
 use Rattle.plan.specs.declared.planning.Planned.{Planned}
 use Rattle.roads.specs.Refusals.{planAnswer}
 use Rattle.roads.specs.Restores.{PlanWritten}
@@ -21,13 +20,6 @@ pub record PlanKept (w : File) (before after : List ℕ) (r : Planned) : Type 0 
   pub made : refused (r .answer) ≡ false → PlanWritten w before after (r .count)
   pub none : refused (r .answer) ≡ true → r .count ≡ 0
   pub kept : refused (r .answer) ≡ true → after ≡ before
-
--- what `run` promises of a trace and a reply buffer, by what the buffer holds before and after
-pub record RunKept (f : File) (trace before after : List ℕ) (r : Ran) : Type 0 where
-  pub answered : r .answer ≡ run f trace before .answer
-  pub ended : r .file ≡ run f trace before .file
-  pub counted : r .count ≡ run f trace before .count
-  pub replied : after ≡ run f trace before .buffer
 
 -- demand 3 of a run over so many records: 'accepted at each access and ends in exactly the wanted file'; 02, 10/13, as settled: with the line of
 -- the file that it began with
