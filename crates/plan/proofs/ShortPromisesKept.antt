@@ -1,6 +1,6 @@
 -- What a short plan promises, from what the code did. Assumes nothing.
 use Prim.Native.Nat.{ℕ, _+_, _*_, _/_, _≤_, _<_}
-use mathlib.Core.Path.{_≡_, refl, sym, ap, _∙_, subst}
+use mathlib.Core.Path.{_≡_, refl, sym, ap, ap₂, _∙_, subst}
 use mathlib.Core.Bool.{Bool, true, false, true≢false, cond}
 use mathlib.Core.List.{List, _++_}
 use native.Mathlib.Omega.{arith}
@@ -10,8 +10,10 @@ use lib.ListN.{length, drop, length-append}
 use lib.Seq.{sets-eq}
 use Rattle.bits.proofs.Test.{by-test, passes}
 use Rattle.file.specs.declared.registers.File.{File}
+use Rattle.file.specs.Answers.{refused}
 use Rattle.file.specs.Chips.{sameChip}
 use Rattle.file.specs.Sound.{sound}
+use Rattle.access.specs.declared.record.Record.{Record}
 use Rattle.roads.specs.Roads.{registerRoads, indexRoads, closingRoads}
 use Rattle.roads.specs.RoadRecords.{selecting, along}
 use Rattle.roads.specs.Plan.{opening, marking, indices, closing}
@@ -23,10 +25,12 @@ use Rattle.touched.specs.Outside.{agreesOutside}
 use Rattle.short_roads.specs.ShortPlan.{shortColours, namedRoads, stageRecords, shortRecords}
 use Rattle.short_roads.proofs.ShortCount.{short-no-longer}
 use Rattle.short_roads.proofs.ShortServes.{short-plan-serves}
+use Rattle.plan.specs.declared.planning.Planned.{Planned}
 use Rattle.plan.specs.declared.short_answer.ShortAnswer.{ShortAnswer}
 use Rattle.plan.specs.declared.short_answer.ShortAnswer.the-variants.{Done, ShortBuffer, NotSound, NotBeforeRed, OtherChip, Elsewhere}
 use Rattle.plan.specs.declared.short_planning.ShortPlanned.{ShortPlanned}
 use Rattle.plan.specs.Appended.{Appended}
+use Rattle.plan.specs.Promises.{PlanKept}
 use Rattle.plan.specs.ShortAnswers.{numberOf, withoutRoom, isRefused, shortAnswer}
 use Rattle.plan.specs.ShortPromises.{ShortKept}
 use Rattle.plan.proofs.Appending.{trace-count}
@@ -100,6 +104,7 @@ module _ (f w : File) (s : Touched) (before : List ℕ) where
         answered = sym (rw (e, le-leb 8192 (length before) l));
         made = λ _. record {
           records = shortRecords w s;
+          alone = refl;
           plans = short-plan-serves w s wf is (passes (sound w) (can .saved)) (can .red);
           counted = counted;
           filled = filled;
@@ -133,7 +138,20 @@ pub stage-parts : (w : File) (s : Touched)
 unfolding stageRecords opening indices closing closingRoads along selecting indexRoads
 stage-parts w s = simp length-append
 
--- two short plans of the same files, set and buffer answer the same; their bytes and counts may differ, since several serve
-pub shorts-alike : (f w : File) (s : Touched) (before after other : List ℕ) (p q : ShortPlanned) → ShortKept f w s before after p → ShortKept f w s before other q
-    → p .answer ≡ q .answer
-shorts-alike f w s before after other p q k l = k .answered ∙ sym (l .answered)
+-- two short plans of one saved file and set from two current files, into the same buffer, have the same records and leave the same bytes: they 'go by saved
+-- file and set alone'
+pub shorts-alike : (f g w : File) (s : Touched) (before after other : List ℕ) (p q : ShortPlanned) → ShortKept f w s before after p → ShortKept g w s before other q
+    → isRefused (p .answer) ≡ false → isRefused (q .answer) ≡ false → (p .count ≡ q .count) × (after ≡ other)
+shorts-alike f g w s before after other p q k l done also =
+    let one = k .made done in
+    let two = l .made also in
+    let same = one .alone ∙ sym (two .alone) in
+    let counts = one .counted ∙ ap length same ∙ sym (two .counted) in
+    (counts, one .filled ∙ ap₂ (λ (rs : List Record) (n : ℕ). traceOf rs ++ drop (8 * n) before) same counts ∙ sym (two .filled))
+
+-- 'it is never longer than the full one', of what the two functions hand back
+pub short-within-plan : (f w : File) (s : Touched) (before after others left : List ℕ) (p : Planned) (q : ShortPlanned) → PlanKept w before after p
+    → refused (p .answer) ≡ false → ShortKept f w s others left q → q .count ≤ p .count
+short-within-plan f w s before after others left p q full made short =
+    by-test (isRefused (q .answer)) (λ e. omega (arith, short .none e))
+    (λ e. omega (arith, short .made e .counted, short .made e .plans .noLonger, full .counted made))

@@ -11,13 +11,16 @@ use Rattle.file.specs.Answers.{refused}
 use Rattle.file.specs.File.{Same}
 use Rattle.trace.specs.declared.running.Ran.{Ran}
 use Rattle.plan.specs.declared.planning.Planned.{Planned}
+use Rattle.roads.specs.Plan.{planRecords}
 use Rattle.roads.specs.Refusals.{planAnswer}
 use Rattle.roads.specs.Restores.{PlanWritten}
 
--- a plan, by what the buffer holds before and after: 'Plan: 12, 13, 11'; which plan it is stays open
+-- a plan, by what the buffer holds before and after: 'Plan: 12, 13, 11'; which plan it is stays open but for its length, which a short plan's is measured by
+-- (02, 11/13)
 pub record PlanKept (w : File) (before after : List ℕ) (r : Planned) : Type 0 where
   pub answered : r .answer ≡ planAnswer w (length before)
   pub made : refused (r .answer) ≡ false → PlanWritten w before after (r .count)
+  pub counted : refused (r .answer) ≡ false → r .count ≡ length (planRecords w)
   pub none : refused (r .answer) ≡ true → r .count ≡ 0
   pub kept : refused (r .answer) ≡ true → after ≡ before
 

@@ -11,7 +11,7 @@ use Rattle.short_roads.specs.Serves.{ShortWritten}
 use Rattle.plan.specs.declared.short_planning.ShortPlanned.{ShortPlanned}
 use Rattle.plan.specs.ShortAnswers.{shortAnswer, isRefused}
 
--- a short plan of a saved file and a set, given the current file, by what the buffer holds before and after; which one it is stays open
+-- a short plan of a saved file and a set, given the current file, by what the buffer holds before and after
 pub record ShortKept (f w : File) (s : Touched) (before after : List ℕ) (r : ShortPlanned) : Type 0 where
   pub answered : r .answer ≡ shortAnswer f w s (length before)
   pub made : isRefused (r .answer) ≡ false → ShortWritten w s before after (r .count)

@@ -14,6 +14,7 @@ use Rattle.roads.specs.Restores.{Restores, allInBytes, allOrdinary, traceOf, Is
 use Rattle.touched.specs.declared.set.Touched.{Touched}
 use Rattle.touched.specs.Things.{size, isEmpty}
 use Rattle.touched.specs.Outside.{agreesOutside}
+use Rattle.short_roads.specs.ShortPlan.{shortRecords}
 
 -- records that are a short plan of a saved file and a set, ordinary accesses as a full plan's: 'Run from the current file it ends in the saved file, as the
 -- full plan does', from every sound file on its chip that differs from it inside the set only; 'The line stays outside'. Several are; `shortRecords` is one
@@ -28,9 +29,11 @@ pub record ShortPlans (w : File) (s : Touched) (records : List Record) : Type 0 
   pub ordinary : T (allOrdinary records)
   pub restores : (f : File) → IsFile f → T (sound f) → f .state .chip ≡ w .state .chip → T (agreesOutside s f w) → Restores f records w
 
--- as a full plan is written: what a buffer holds before and after
+-- as a full plan is written: what a buffer holds before and after. As settled, 'A short plan's records go by saved file and set alone': they are
+-- `shortRecords` of the two
 pub record ShortWritten (w : File) (s : Touched) (before after : List ℕ) (count : ℕ) : Type 0 where
   pub records : List Record
+  pub alone : records ≡ shortRecords w s
   pub plans : ShortPlans w s records
   pub counted : count ≡ length records
   pub filled : after ≡ traceOf records ++ drop (8 * count) before
