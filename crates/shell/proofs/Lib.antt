@@ -1,4 +1,4 @@
 pub mod Bounds
 pub mod Timed
 pub mod Turns
-pub mod NotedRuns
+pub mod SecondTrace

@@ -1,11 +1,14 @@
 // Since: goes on with a second trace from the file that a first one ends in, and writes the short plan back to that file.
 ghost use mathlib.Core.Path.{_≡_};
+ghost use mathlib.Core.Bool.{true, false};
 ghost use Prim.Native.Nat.{_≤_};
 ghost use lib.Dec.{T};
+ghost use lib.ListN.{length};
 ghost use Rattle.io.specs.Counts.{Counts};
-ghost use Rattle.file.specs.declared.registers.File.{File as AnyFile};
-ghost use Rattle.touched.specs.Outside.{agreesOutside};
+ghost use Rattle.file.specs.Sound.{sound};
 ghost use Rattle.touched.specs.Things.{nothing};
+ghost use Rattle.shell.specs.SecondTrace.{Followed, Gone};
+ghost use Rattle.shell.specs.Parts.{counted};
 use crate::course::run_input;
 use crate::reading::Filled;
 use crate::reading::fill_from;
@@ -13,6 +16,7 @@ use crate::reading::nothing_read;
 use crate::saving::tell_refusal;
 use crate::telling::Handed;
 use crate::telling::choose_course_behind;
+use crate::telling::tell;
 use crate::telling::tell_failure;
 use crate::telling::write_out;
 use choosing::Chosen;
@@ -35,7 +39,7 @@ pub struct Onward {
 
 // Right behind the first trace: its file is saved, and the set is empty.
 fn set_out(saved: File) -> Onward
-    ensures { λ r. ⌜ (r .file ≡ saved) × (r .touched ≡ nothing) ⌝ }
+    ensures { λ r. ⌜ (r .file ≡ saved) × (r .touched ≡ nothing) × (r .read .all ≡ 0) ⌝ }
 {
     Onward {
         more: true,
@@ -48,7 +52,7 @@ fn set_out(saved: File) -> Onward
 
 // What fails ends it.
 fn stopped(before: Onward) -> Onward
-    ensures { λ r. ⌜ (r .file ≡ before .file) × (r .touched ≡ before .touched) ⌝ }
+    ensures { λ r. ⌜ r .failed ≡ true ⌝ }
 {
     let mut onward = before;
     onward.more = false;
@@ -60,6 +64,7 @@ fn stopped(before: Onward) -> Onward
 fn read_next(from: i32, before: Filled, part: &mut [u8; 8192]) -> Filled
     ensures { λ r. ⌜ Counts (r .count) (now (part .exit)) ⌝ }
     ensures { λ r. ⌜ r .count ≤ 8192 ⌝ }
+    ensures { λ r. ⌜ r .all ≡ counted (before .all) (r .count) ⌝ }
 {
     let read = fill_from(from, before, part);
     if read.has_failed() {
@@ -68,9 +73,11 @@ fn read_next(from: i32, before: Filled, part: &mut [u8; 8192]) -> Filled
     read
 }
 
-// A part of it: the set keeps up with the file, so that no saved file differs outside the set that didn't before.
+// One turn, a function of the bytes that were read: they are run, and the set gets what they touch.
 fn go_on(before: Onward, read: Filled, part: &[u8], replies: &mut [u8; 8192]) -> Onward
-    ensures { λ r. ⌜ ((w : AnyFile) → T (agreesOutside (before .touched) (before .file) w) → T (agreesOutside (r .touched) (r .file) w)) ⌝ }
+    requires { ⌜ T (sound (before .file)) ⌝ }
+    requires { ⌜ length (now part) ≤ 8192 ⌝ }
+    ensures { λ r. ⌜ Gone before read (now (part .entry)) r ⌝ }
 {
     let ran = run_noting(before.file, before.touched, part, replies);
     let done = ran.done;
@@ -87,7 +94,8 @@ fn go_on(before: Onward, read: Filled, part: &[u8], replies: &mut [u8; 8192]) ->
 
 // The whole of it. A proved loop has to end, so this one counts its turns down, from a number that no run uses up.
 fn follow(from: i32, saved: File) -> Onward
-    ensures { λ r. ⌜ T (agreesOutside (r .touched) (r .file) saved) ⌝ }
+    requires { ⌜ T (sound saved) ⌝ }
+    ensures { λ r. ⌜ (r .failed ≡ false → Followed saved r × (r .more ≡ false)) ⌝ }
 {
     let mut part = [0u8; 8192];
     let mut replies = [0u8; 8192];
@@ -101,6 +109,10 @@ fn follow(from: i32, saved: File) -> Onward
         let size = read.count;
         onward = go_on(onward, read, &part[..size], &mut replies);
         turns -= 1;
+    }
+    if onward.more {
+        tell(b"snapshot", b": the second trace has no end");
+        return stopped(onward);
     }
     onward
 }
