@@ -1,7 +1,7 @@
 -- `either` meets its contract. Assumes nothing.
 use borrow.Author.Needs.{needs}
-use Rattle.touched.proofs.noting.either.Statement.{statement}
-use Rattle.touched.proofs.noting.either.Tie as tie
+use Rattle.touched.proofs.reached.either.Statement.{statement}
+use Rattle.touched.proofs.reached.either.Tie as tie
 
 returns : tie.Need-returns
 returns c = rw (c .if1 .taken)
