@@ -117,13 +117,15 @@ struct check {
     bool (*holds)(void);
 };
 
-/* Prints a line for each on each chip; 1 if one failed, else 0. */
-static inline int run_checks(const struct check *check, size_t count)
+/* Prints a line for each, or for each of this name, on each chip; 1 if one failed, else 0. */
+static inline int run_checks(const struct check *check, size_t count, const char *name)
 {
     int failed = 0;
 
     for (chip = 0; chip < SC_CHIPS; chip++)
         for (size_t i = 0; i < count; i++) {
+            if (name && strcmp(name, check[i].name) != 0)
+                continue;
             bool ok = check[i].holds();
             failed |= !ok;
             printf("%s %-9s %-6s %s\n", chip == SC_5462 ? "5462" : "5464", check[i].name,

@@ -258,5 +258,5 @@ int main(void)
         { "replay", "a fragment alone", replay_fragment },
     };
 
-    return run_checks(checks, sizeof checks / sizeof checks[0]);
+    return run_checks(checks, sizeof checks / sizeof checks[0], NULL);
 }

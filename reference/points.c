@@ -1,7 +1,7 @@
 /*
  * The open points of 01 as they were settled, one check each (1 to 31; 6 is checked by
  * examples.c and tests/compare, 32 to 35 concern plans), those of 02, then checks over many files.
- * All are made on both chips.
+ * All are made on both chips. With a word the checks of that name alone.
  */
 #include "check.h"
 
@@ -1089,6 +1089,7 @@ static void see_calls(void)
     enum sc_chip both[] = { SC_5462, SC_5464 };
     struct sc_file f = random_file(), g = below(8) ? f : unsound();
     struct sc_timing t = random_timing(is_wide(&f));
+    struct sc_set empty = { 0 };
     size_t count;
 
     t.number[below(SC_NUMBERS)] += below(2) << 20;
@@ -1099,6 +1100,7 @@ static void see_calls(void)
     f.pointer.colour = below(3) ? SC_RED : SC_GREEN;
     seen[sc_plan(&f, buffer, SC_PLAN_BYTES - below(2), &count)] = true;
     seen[sc_restore(&g, &f, buffer, SC_PLAN_BYTES - below(2), &count)] = true;
+    seen[sc_short_plan(&g, &f, &empty, buffer, SC_PLAN_BYTES, &count)] = true;
 }
 
 /* The list of codes: 14 is unused, and all others are drawn. */
@@ -1111,7 +1113,7 @@ static bool code_list(void)
     }
     see_accesses(unsound());
     for (int code = 0; code < 256; code++)
-        if (seen[code] != (code <= SC_INSIDE_WIDER && code != 14))
+        if (seen[code] != ((code <= SC_INSIDE_WIDER && code != 14) || code == SC_CHANGED_OUTSIDE))
             return false;
     return true;
 }
@@ -1269,6 +1271,458 @@ static bool sound_lines(void)
     return pass(&f, 1) == -12;
 }
 
+/* ---- 02, 11/13 ---- */
+
+static bool same_set(const struct sc_set *a, const struct sc_set *b)
+{
+    return !memcmp(a, b, sizeof *a);        /* of bools alone, so without padding */
+}
+
+/* One access beside an empty set: does it answer this code and name just what is wanted? */
+static bool names(struct sc_file *f, int kind, int width, int address, int value, int code,
+                  struct sc_set wanted)
+{
+    struct sc_record r = { (uint8_t)kind, (uint8_t)width, (uint16_t)address, (uint32_t)value };
+    struct sc_set s = { 0 };
+
+    return sc_access_kept(f, &s, &r).code == code && same_set(&s, &wanted);
+}
+
+static bool out_names(struct sc_file *f, int port, int value, int code, struct sc_set wanted)
+{
+    return names(f, SC_PORT_WRITE, 1, port, value, code, wanted);
+}
+
+static bool poke_names(struct sc_file *f, int address, int value, int code, struct sc_set wanted)
+{
+    return names(f, SC_MMIO_WRITE, 1, address, value, code, wanted);
+}
+
+static const struct sc_set nothing;
+
+/* A write names its register alone, by either road: a new value, an equal one, all bits dropped. */
+static bool set_registers(void)
+{
+    static const int values[] = { 0xFF, 0xFF, 0x00, 0x00 };
+    struct sc_file f = opened();
+
+    out(&f, 0x3C2, 1);
+    for (int n = 0; n < 0x20; n++)
+        for (size_t i = 0; i < LENGTH(values); i++) {
+            struct sc_set sr = { 0 }, cr = { 0 }, gr = { 0 };
+            sr.sr[n] = cr.cr[n] = gr.gr[n] = true;
+            if (!out_names(&f, 0x3C4, n, 0, (struct sc_set){ .srx = true })
+                || !out_names(&f, 0x3CE, n, 0, (struct sc_set){ .grx = true })
+                || !out_names(&f, 0x3D4, n, 0, (struct sc_set){ .crx = true }))
+                return false;
+            if (sr_bits(n) && !out_names(&f, 0x3C5, values[i], 0, sr))
+                return false;
+            if (gr_bits(n) && !out_names(&f, 0x3CF, values[i], 0, gr))
+                return false;
+            if (cr_bits(n) && n != 0x11
+                && (!out_names(&f, 0x3D5, values[i], 0, cr) || !poke_names(&f, 4 * n, values[i], 0, cr)))
+                return false;
+        }
+    struct sc_set cr11 = { 0 }, b0 = { 0 }, e6 = { 0 }, v100 = { 0 };
+    cr11.cr[0x11] = b0.pipe[SC_B0] = e6.pipe[SC_E6] = v100.vport[0] = true;
+    return poke_names(&f, 0x44, 0x80, 0, cr11) && poke_names(&f, 0x44, 0x80, 0, cr11)
+        && poke_names(&f, 0xB0, 0x77, 0, b0) && poke_names(&f, 0xB0, 0x88, 0, b0)
+        && names(&f, SC_MMIO_WRITE, 2, 0xE6, 0xEEFE, 0, e6)
+        && names(&f, SC_MMIO_WRITE, 2, 0x100, 0xE0FF, 0, v100)
+        && out_names(&f, 0x3C2, 0x11, 0, (struct sc_set){ .misc = true })
+        && poke_names(&f, 0x80, 0x11, 0, (struct sc_set){ .misc = true })
+        && out_names(&f, 0x3C6, 0, 0, (struct sc_set){ .pixel_mask = true })
+        && poke_names(&f, 0xA0, 0, 0, (struct sc_set){ .pixel_mask = true })
+        && names(&f, SC_MMIO_WRITE, 2, 0x304, 3, 0, (struct sc_set){ .pci04 = true })
+        && names(&f, SC_CONFIG_WRITE, 2, 0x04, 0xFFD8, 0, (struct sc_set){ .pci04 = true });
+}
+
+/* 3C0h names ARX or its ARn, and the toggle; code 1 and 3?Ah, at index too, the toggle only. */
+static bool set_attribute(void)
+{
+    struct sc_file f = opened();
+
+    for (int n = 0; n < 0x40; n++) {
+        struct sc_set data = { .toggle = true };
+        int bits = ar_bits(n & 0x1F);
+        if (bits)
+            data.ar[n & 0x1F] = true;
+        if (!out_names(&f, 0x3C0, n, 0, (struct sc_set){ .arx = true, .toggle = true })
+            || !out_names(&f, 0x3C0, 0, bits ? 0 : 1, data))
+            return false;
+    }
+    return names(&f, SC_PORT_READ, 1, 0x3BA, 0, 0, (struct sc_set){ .toggle = true })
+        && names(&f, SC_PORT_READ, 1, 0x3DA, 0, 5, nothing)
+        && names(&f, SC_PORT_READ, 1, 0x3C0, 0, 0, nothing)
+        && names(&f, SC_PORT_READ, 1, 0x3C1, 0, 1, nothing);
+}
+
+/* Addresses name the pointer; 3C9h pointer and marks, and at a blue write the entry. */
+static bool set_palette(void)
+{
+    const struct sc_set moved = { .pointer = true }, stepped = { .pointer = true, .marks = true };
+    struct sc_file f = opened();
+
+    for (int i = 0; i < 512; i++) {
+        bool bank = i & 1, reading = i % 3 == 1, mmio = i % 5 == 2;
+        int data = mmio ? 0xAC : 0x3C9, step = mmio ? 4 : 1, kind = mmio ? SC_MMIO_WRITE : SC_PORT_WRITE;
+        struct sc_set entry = stepped;
+        *(bank ? &entry.bank[i / 2 % 16] : &entry.palette[i / 2]) = true;
+        poke(&f, 0xB0, bank ? 0x08 : 0);
+        if (!names(&f, kind, 1, data - (reading ? 2 : 1) * step, i / 2, 0, moved)
+            || !names(&f, kind, 1, data, 9, 0, stepped) || !names(&f, kind - 1, 1, data, 0, 0, stepped)
+            || !names(&f, kind, 1, data, 7, 0, entry) || !names(&f, kind - 1, 1, data - 2 * step, 0, 0, nothing)
+            || !names(&f, kind - 1, 1, data - step, 0, 0, nothing))
+            return false;
+    }
+    poke(&f, 0xB0, 0x80);
+    if (!out_names(&f, 0x3C9, 1, 9, nothing) || !names(&f, SC_MMIO_READ, 1, 0xAC, 0, 9, nothing)
+        || !out_names(&f, 0x3C8, 1, 0, moved))
+        return false;
+    poke(&f, 0xB0, 0);
+    poke(&f, 0x68, 0x04);
+    return out_names(&f, 0x3C9, 1, 9, nothing) && names(&f, SC_PORT_READ, 1, 0x3C9, 0, 9, nothing);
+}
+
+/* A locked CR7 write names CR7; refusals, code 1 but at 3C0h, kind 6 and other reads name nothing. */
+static bool set_nothing(void)
+{
+    struct sc_file f = opened(), shut, bad = unsound();
+    struct sc_set cr7 = { 0 };
+
+    cr7.cr[0x07] = true;
+    poke(&f, 0x44, 0x80);
+    for (int n = 0; n < 7; n++)
+        if (!poke_names(&f, 4 * n, 0, 8, nothing))
+            return false;
+    if (!poke_names(&f, 0x1C, 0xFF, 0, cr7) || !poke_names(&f, 0x1C, 0xEF, 0, cr7)
+        || !names(&f, SC_LINES_PASS, 2, 0, 9, 0, nothing) || !names(&f, SC_LINES_PASS, 1, 0, 9, 2, nothing))
+        return false;
+    out(&f, 0x3C4, 0x05);
+    out(&f, 0x3CE, 0x09);
+    out(&f, 0x3B4, 0x1C);
+    if (!out_names(&f, 0x3C5, 0, 1, nothing) || !out_names(&f, 0x3CF, 0, 1, nothing)
+        || !out_names(&f, 0x3B5, 0, 1, nothing) || !out_names(&f, 0x3D5, 0, 5, nothing))
+        return false;
+    out(&f, 0x3C4, 0x06);
+    out(&f, 0x3B4, 0x24);
+    if (!out_names(&f, 0x3C5, 0, 7, nothing) || !out_names(&f, 0x3B5, 0, 7, nothing)
+        || !names(&f, SC_CONFIG_WRITE, 2, 0x00, 0, 7, nothing) || !poke_names(&f, 0x300, 0, 6, nothing)
+        || !poke_names(&f, 0x70, 0, 4, nothing) || !poke_names(&f, 0xC1, 0, 17, nothing)
+        || !out_names(&f, 0x3C1, 0, 16, nothing) || !out_names(&f, 0x3C0, 0x100, 2, nothing))
+        return false;
+    shut = f;
+    shut.pci04 = 0;
+    return out_names(&shut, 0x3C0, 0, 3, nothing) && poke_names(&shut, 0x00, 0, 3, nothing)
+        && poke_names(&bad, 0x04, 0, 12, nothing);
+}
+
+/* What an access names, the slow way: by its address, once it is known to be done. */
+static struct sc_set slow_names(const struct sc_file *f, const struct sc_record *r, int code)
+{
+    bool mmio = r->kind >= SC_MMIO_READ, write = r->kind & 1;
+    struct sc_set s = { 0 };
+    int a = r->address, pixel = mmio ? 0xAC : 0x3C9, step = mmio ? 4 : 1;
+
+    s.toggle = r->kind == SC_PORT_WRITE && a == 0x3C0 && code < 2;
+    if (code != 0 || r->kind == SC_LINES_PASS)
+        return s;
+    s.toggle |= r->kind == SC_PORT_READ && (a == 0x3BA || a == 0x3DA);
+    s.marks = r->kind >= SC_PORT_READ && a == pixel;
+    s.pointer = s.marks
+        || (write && r->kind > SC_CONFIG_WRITE && (a == pixel - step || a == pixel - 2 * step));
+    if (!write)
+        return s;
+    if (s.marks && f->pointer.colour == 2)
+        *(f->pipe[SC_B0] & 8 ? &s.bank[f->pointer.address & 15] : &s.palette[f->pointer.address]) = true;
+    s.pci04 = r->kind == SC_CONFIG_WRITE || (mmio && a == 0x304);
+    if (r->kind == SC_PORT_WRITE) {
+        s.arx = a == 0x3C0 && !f->data_next;
+        s.ar[f->arx % 32] = a == 0x3C0 && f->data_next;
+        s.srx = a == 0x3C4;
+        s.grx = a == 0x3CE;
+        s.crx = a == 0x3B4 || a == 0x3D4;
+        s.sr[f->srx] = a == 0x3C5;
+        s.gr[f->grx] = a == 0x3CF;
+        s.cr[f->crx] = a == 0x3B5 || a == 0x3D5;
+        s.misc = a == 0x3C2;
+        s.pixel_mask = a == 0x3C6;
+    } else if (mmio) {
+        static const uint16_t pipe[] = { 0xB0, 0xB8, 0xBC, 0xC0, 0xCC, 0xCE, 0xD0, 0xD2, 0xD4, 0xD5,
+                                         0xE0, 0xE2, 0xE4, 0xE6, 0xE8 };
+        if (a < 0x7C)
+            s.cr[a / 4] = true;
+        if (a >= 0x100 && a < 0x110)
+            s.vport[(a - 0x100) / 2] = true;
+        for (size_t i = 0; i < LENGTH(pipe); i++)
+            s.pipe[i] = a == pipe[i];
+        s.sr[0x0E] = a == 0x84;
+        s.sr[0x1E] = a == 0x88;
+        s.misc = a == 0x80;
+        s.pixel_mask = a == 0xA0;
+    }
+    return s;
+}
+
+/* A record at a held place, as a rule; of any kind. */
+static struct sc_record some_record(void)
+{
+    uint32_t kind = below(7);
+    uint32_t address = kind < 2 ? 2 * below(3) : kind < 4 ? 0x3B0 + below(0x30)
+        : kind == SC_LINES_PASS ? 0 : below(2) ? mmio8[below(LENGTH(mmio8))] : mmio16[below(LENGTH(mmio16))];
+    int width = kind == SC_LINES_PASS ? 2 : held_width((int)kind, address);
+
+    return (struct sc_record){ (uint8_t)kind, (uint8_t)(width && below(32) ? width : 1),
+                               (uint16_t)address, kind & 1 || kind == SC_LINES_PASS ? below(256) : 0 };
+}
+
+/*
+ * Beside any set: an access answers and leaves the file as without it, and the set is what it was and
+ * what the access names; a run is its accesses; and outside the set nothing has changed.
+ */
+static bool set_grows(void)
+{
+    for (int round = 0; round < 300; round++) {
+        struct sc_file f = random_file(), start = f, twin = f, run = f;
+        struct sc_set s = { 0 }, by_run = { 0 };
+        uint8_t trace[8 * 100 + 5] = { 0 }, replies[8 * 101];
+        for (int i = 0; i < 100; i++) {
+            struct sc_record r = some_record();
+            struct sc_file before = f;
+            struct sc_set old = s;
+            struct sc_reply reply = sc_access_kept(&f, &s, &r), plain = sc_access(&twin, &r);
+            struct sc_set wanted = slow_names(&before, &r, reply.code);
+            for (size_t b = 0; b < sizeof wanted; b++)
+                ((bool *)&wanted)[b] |= ((bool *)&old)[b];
+            if (!same_set(&s, &wanted) || reply.code != plain.code || reply.value != plain.value
+                || !same_file(&f, &twin))
+                return false;
+            memcpy(trace + 8 * i, (uint8_t[]){ r.kind, r.width, r.address & 0xFF, r.address >> 8,
+                                               r.value & 0xFF, r.value >> 8 & 0xFF }, 6);
+        }
+        if (sc_run_kept(&run, &by_run, trace, sizeof trace, replies, sizeof replies).count != 101
+            || !same_set(&s, &by_run) || !same_file(&run, &f))
+            return false;
+        uint8_t buffer[SC_PLAN_BYTES];
+        size_t count;
+        int code = sc_short_plan(&f, &start, &s, buffer, sizeof buffer, &count);
+        if (code != (start.pointer.colour ? 13 : 0))
+            return false;
+    }
+    return true;
+}
+
+/* A timing write names the registers of its pieces, CR1A only where the file is wide; refused none. */
+static bool set_timing(void)
+{
+    for (int round = 0; round < 400; round++) {
+        struct sc_file f = random_file(), twin;
+        struct sc_set s = { 0 }, wanted = { 0 };
+        struct sc_timing t = random_timing(is_wide(&f));
+        for (int n = 0; n < 0x1F; n++)
+            wanted.cr[n] = n <= 7 || n == 9 || n == 0x0C || n == 0x0D || (n >= 0x10 && n <= 0x13) || n == 0x15
+                || n == 0x16 || n == 0x18 || n == 0x1B || n == 0x1D || n == 0x1E || (n == 0x1A && is_wide(&f));
+        twin = f;
+        if (sc_timing_write_kept(&f, &s, &t) != sc_timing_write(&twin, &t) || !same_file(&f, &twin)
+            || !same_set(&s, &wanted))
+            return false;
+        t.number[SC_H_TOTAL] = 4;
+        s = nothing;
+        if (sc_timing_write_kept(&f, &s, &t) != 10 || !same_set(&s, &nothing))
+            return false;
+        f.cr[0x11] |= 0x80;
+        if (sc_timing_write_kept(&f, &s, &t) != 8 || !same_set(&s, &nothing))
+            return false;
+    }
+    return true;
+}
+
+/* A refused short plan or short restore leaves buffer, file and set; the plan's code, or -1. */
+static int short_refused(const struct sc_file *current, const struct sc_file *saved, const struct sc_set *s,
+                         size_t room)
+{
+    uint8_t buffer[SC_PLAN_BYTES], found[SC_PLAN_BYTES];
+    struct sc_file file = *current;
+    struct sc_set set = *s;
+    size_t count = 1, count2 = 1;
+
+    memset(buffer, 0xEE, sizeof buffer);
+    memset(found, 0xEE, sizeof found);
+    int code = sc_short_plan(current, saved, s, buffer, room, &count);
+    bool same = sc_short_restore(&file, &set, saved, buffer, room, &count2) == code;
+    return same && code != 0 && count == 0 && count2 == 0 && same_file(&file, current) && same_set(&set, s)
+        && !memcmp(buffer, found, sizeof found) ? code : -1;
+}
+
+/* 12, 15, 13, 20, 11, each before the ones behind it; an empty set meets them too. */
+static bool short_order(void)
+{
+    struct sc_file good = opened(), bad = unsound(), other, inside = good, far, moved = good;
+
+    sc_power_on(&other, chip == SC_5462 ? SC_5464 : SC_5462);
+    inside.pointer.colour = SC_GREEN;
+    far = other;
+    far.pointer.colour = SC_GREEN;
+    moved.cr[0] = 1;
+    return short_refused(&bad, &far, &nothing, 0) == 12 && short_refused(&moved, &bad, &nothing, 0) == 12
+        && short_refused(&moved, &far, &nothing, 0) == 15 && short_refused(&good, &other, &nothing, 0) == 15
+        && short_refused(&moved, &inside, &nothing, 0) == 13 && short_refused(&inside, &inside, &nothing, 0) == 13
+        && short_refused(&moved, &good, &nothing, 0) == 20 && short_refused(&inside, &good, &nothing, 0) == 20
+        && short_refused(&good, &good, &nothing, SC_PLAN_BYTES - 1) == 11;
+}
+
+/* Where a part stands in a file, and the member of the set that names it. */
+struct part {
+    size_t file, size, set;
+};
+
+static size_t list_parts(struct part *part)
+{
+    size_t count = 0;
+
+#define ONE(member, name) \
+    part[count++] = (struct part){ offsetof(struct sc_file, member), sizeof ((struct sc_file *)0)->member, \
+                                   offsetof(struct sc_set, name) }
+#define EACH(member, items) \
+    for (size_t i = 0; i < (items); i++) \
+        part[count++] = (struct part){ offsetof(struct sc_file, member) + i * sizeof ((struct sc_file *)0)->member[0], \
+                                       sizeof ((struct sc_file *)0)->member[0], offsetof(struct sc_set, member) + i }
+    ONE(pci04, pci04); ONE(misc, misc); ONE(srx, srx); ONE(crx, crx); ONE(grx, grx); ONE(arx, arx);
+    ONE(pixel_mask, pixel_mask); ONE(data_next, toggle); ONE(pointer, pointer); ONE(last, marks);
+    EACH(sr, 0x20); EACH(cr, 0x40); EACH(gr, 0x40); EACH(ar, 0x20); EACH(pipe, SC_PIPES); EACH(vport, SC_VPORTS);
+    EACH(palette, 256); EACH(bank, 16);
+#undef ONE
+#undef EACH
+    return count;
+}
+
+/* Each member of pointer and marks counts: 20 if it alone differs. */
+static bool short_pointer(void)
+{
+    struct sc_file saved = opened(), f[7];
+
+    for (size_t i = 0; i < LENGTH(f); i++)
+        f[i] = saved;
+    f[0].pointer = pointer(1, false, SC_RED, 0, 0);
+    f[1].pointer = pointer(0, true, SC_RED, 0, 0);
+    f[2].pointer = pointer(0, false, SC_GREEN, 0, 0);
+    f[3].pointer = pointer(0, false, SC_GREEN, 9, 0);
+    f[4].pointer = pointer(0, false, SC_BLUE, 0, 9);
+    f[5].last.reading = true;
+    f[6].last.colour = SC_RED;
+    for (size_t i = 0; i < LENGTH(f); i++) {
+        struct sc_set s = { .pointer = i >= 5, .marks = i < 5 };
+        if (short_refused(&f[i], &saved, &s, SC_PLAN_BYTES) != 20)
+            return false;
+    }
+    return true;
+}
+
+/* 20 exactly where a part differs that the set doesn't name; the line is no part. */
+static bool short_outside(void)
+{
+    static struct part part[1024];
+    size_t parts = list_parts(part);
+
+    for (int round = 0; round < 6; round++) {
+        struct sc_file saved = random_file(), other = random_file();
+        saved.pointer = pointer((int)below(256), below(2), SC_RED, 0, 0);
+        for (size_t i = 0; i < parts; i++) {
+            struct sc_file current = saved;
+            struct sc_set s = { 0 }, rest;
+            uint8_t buffer[SC_PLAN_BYTES];
+            size_t count;
+            current.line = other.line;
+            memcpy((char *)&current + part[i].file, (char *)&other + part[i].file, part[i].size);
+            bool same = same_but_line(&current, &saved);
+            memset(&rest, true, sizeof rest);
+            ((bool *)&rest)[part[i].set] = false;
+            ((bool *)&s)[part[i].set] = true;
+            if (sc_short_plan(&current, &saved, &s, buffer, sizeof buffer, &count) != 0
+                || sc_short_plan(&current, &saved, &rest, buffer, sizeof buffer, &count) != (same ? 0 : 20)
+                || sc_short_plan(&current, &saved, &nothing, buffer, sizeof buffer, &count) != (same ? 0 : 20))
+                return false;
+        }
+    }
+    return true;
+}
+
+/* The saved file with the named parts as another file has them. */
+static struct sc_file changed(const struct sc_file *saved, const struct sc_file *other, const struct sc_set *s)
+{
+    static struct part part[1024];
+    size_t parts = list_parts(part);
+    struct sc_file current = *saved;
+
+    current.line = other->line;
+    for (size_t i = 0; i < parts; i++)
+        if (((const bool *)s)[part[i].set])
+            memcpy((char *)&current + part[i].file, (const char *)other + part[i].file, part[i].size);
+    return current;
+}
+
+/* A set of few things, or of many; it may also name what no file holds. */
+static struct sc_set random_set(void)
+{
+    uint32_t odds = 1 + below(400);
+    struct sc_set s;
+
+    for (size_t i = 0; i < sizeof s; i++)
+        ((bool *)&s)[i] = below(odds) == 0;
+    return s;
+}
+
+/* Of any set: the plan ends in the saved file, each record done, within the bounds, and empties the set. */
+static bool short_plans(void)
+{
+    uint8_t buffer[SC_PLAN_BYTES], again[SC_PLAN_BYTES], full[SC_PLAN_BYTES];
+
+    for (int round = 0; round < 1500; round++) {
+        struct sc_file saved = random_file(), other = random_file(), third = random_file();
+        struct sc_set s = round % 8 ? random_set() : nothing, kept = s;
+        size_t count, whole, repeated, named = sc_named(&s);
+        saved.pointer = pointer((int)below(256), below(2), SC_RED, 0, 0);
+        other.pci04 = (uint16_t)(below(8) & 7 ? 0x27 & chance() : 0);
+        other.cr[0x11] |= (uint8_t)(below(2) << 7);
+        struct sc_file current = changed(&saved, &other, &s), start = current;
+        third = changed(&saved, &third, &s);
+        sc_plan(&saved, full, sizeof full, &whole);
+        if (sc_short_restore(&current, &s, &saved, buffer, sizeof buffer, &count) != 0
+            || !same_but_line(&current, &saved) || current.line != start.line || !same_set(&s, &nothing)
+            || !all_done(start, buffer, count) || count > whole || count > (named ? 32 + 4 * named : 16))
+            return false;
+        if (sc_short_plan(&third, &saved, &kept, again, sizeof again, &repeated) != 0 || repeated != count
+            || memcmp(buffer, again, SC_RECORD_BYTES * count))
+            return false;
+        for (size_t i = 0; i < count; i++)
+            if (buffer[SC_RECORD_BYTES * i] > SC_MMIO_WRITE)
+                return false;
+    }
+    return true;
+}
+
+/* An accepted restore empties the set, a refused one leaves it; a plain run over a plan adds to it. */
+static bool set_emptied(void)
+{
+    static uint8_t plan[SC_PLAN_BYTES], replies[SC_PLAN_BYTES];
+    struct sc_file f = opened(), wanted = random_file(), inside = wanted;
+    struct sc_set s = { .misc = true }, old = s, all;
+    size_t count, held = 0;
+
+    wanted.pointer = pointer(7, true, SC_RED, 0, 0);
+    inside.pointer = pointer(7, true, SC_GREEN, 9, 0);
+    if (sc_restore_kept(&f, &s, &inside, plan, sizeof plan, &count) != 13 || !same_set(&s, &old)
+        || sc_restore_kept(&f, &s, &wanted, plan, sizeof plan - 1, &count) != 11 || !same_set(&s, &old)
+        || sc_restore_kept(&f, &s, &wanted, plan, sizeof plan, &count) != 0 || !same_set(&s, &nothing))
+        return false;
+    memset(&all, true, sizeof all);
+    for (int n = 0; n < 0x40; n++)
+        held += (n < 0x20 && sr_bits(n)) + (cr_bits(n) != 0) + (gr_bits(n) != 0) + (n < 0x20 && ar_bits(n));
+    held += 10 + SC_PIPES + SC_VPORTS + 256 + 16;
+    sc_run_kept(&f, &s, plan, SC_RECORD_BYTES * count, replies, sizeof replies);
+    return sc_named(&s) == held && sc_named(&all) == held && sc_named(&nothing) == 0;
+}
+
 /* ---- Soundness over many files ---- */
 
 /* Sets one bit of a byte; is the file sound exactly if the bit is in the table? */
@@ -1378,7 +1832,7 @@ static bool sound_kept(void)
     return true;
 }
 
-int main(void)
+int main(int words, char **word)
 {
     static const struct check checks[] = {
         { "point 1", "a reply's bytes", point1 },
@@ -1426,6 +1880,17 @@ int main(void)
         { "02, 10/13", "kind 6 has one form, and no space need be on", lines_form },
         { "02, 10/13", "the reply to kind 6, and to a fragment of it", lines_reply },
         { "02, 10/13", "sound up to line 2,048", sound_lines },
+        { "02, 11/13", "a write names its register, an equal value too", set_registers },
+        { "02, 11/13", "3C0h and 3?Ah name the toggle", set_attribute },
+        { "02, 11/13", "pointer, marks and entry", set_palette },
+        { "02, 11/13", "CR7 under the lock; what names nothing", set_nothing },
+        { "02, 11/13", "the set grows by what each access names", set_grows },
+        { "02, 11/13", "what a timing write names", set_timing },
+        { "02, 11/13", "a short plan's order of codes", short_order },
+        { "02, 11/13", "20 where a part differs outside the set", short_outside },
+        { "02, 11/13", "20 by each member of pointer and marks", short_pointer },
+        { "02, 11/13", "short plans end in the saved file, and are short", short_plans },
+        { "02, 11/13", "a restore empties the set", set_emptied },
         { "timing", "reads as counted up from the table", timing_read },
         { "timing", "written back changes nothing; written is read", timing_kept },
         { "02, 7/13", "CR1A under no lock; a timing write keeps static sync", sync_kept },
@@ -1434,5 +1899,5 @@ int main(void)
         { "sound", "kept by every access; a run is its accesses", sound_kept },
     };
 
-    return run_checks(checks, LENGTH(checks));
+    return run_checks(checks, LENGTH(checks), words > 1 ? word[1] : NULL);
 }

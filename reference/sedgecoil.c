@@ -877,13 +877,19 @@ static uint8_t *put_opening(uint8_t *end, const struct sc_file *w)
     return put_status(end, w);
 }
 
-/* The palette or, with B0[3]=1, the bank: from entry 0, three bytes each. */
-static uint8_t *put_entries(uint8_t *end, uint8_t b0, const uint8_t *component, size_t count)
+/* The named entries of the palette or, with B0[3]=1, of the bank: the address steps by itself. */
+static uint8_t *put_entries(uint8_t *end, uint8_t b0, const uint8_t (*entry)[SC_COLOURS],
+                            const bool *named, size_t count)
 {
     end = put_mmio(end, 0xB0, b0);
-    end = put_mmio(end, 0xA8, 0);
-    for (size_t i = 0; i < count; i++)
-        end = put_mmio(end, 0xAC, component[i]);
+    for (size_t i = 0; i < count; i++) {
+        if (!named[i])
+            continue;
+        if (i == 0 || !named[i - 1])
+            end = put_mmio(end, 0xA8, (uint8_t)i);
+        for (size_t colour = 0; colour < SC_COLOURS; colour++)
+            end = put_mmio(end, 0xAC, entry[i][colour]);
+    }
     return end;
 }
 
@@ -897,12 +903,12 @@ static uint8_t *put_last(uint8_t *end, const struct sc_last *last)
     return end;
 }
 
-/* Index and data of every register of a group that stores anything. */
+/* Index and data of every named register of a group that stores anything. */
 static uint8_t *put_group(uint8_t *end, uint16_t index, uint16_t data, const uint8_t *bank,
-                          const uint8_t *mask, uint8_t count)
+                          const uint8_t *mask, const bool *named, uint8_t count)
 {
     for (uint8_t i = 0; i < count; i++)
-        if (mask[i]) {
+        if (mask[i] && named[i]) {
             end = put_port(end, index, i);
             end = put_port(end, data, bank[i]);
         }
@@ -910,19 +916,22 @@ static uint8_t *put_group(uint8_t *end, uint16_t index, uint16_t data, const uin
 }
 
 /* CR11, CR1A and B0 wait for the closing. */
-static uint8_t *put_registers(uint8_t *end, const struct sc_file *w)
+static uint8_t *put_registers(uint8_t *end, const struct sc_file *w, const struct sc_set *s)
 {
     for (uint8_t i = 0; i < SC_CRS; i++)
-        if (cr_mask[i] && i != 0x11 && i != 0x1A)
+        if (cr_mask[i] && s->cr[i] && i != 0x11 && i != 0x1A)
             end = put_mmio(end, 4 * i, w->cr[i]);
     for (uint8_t i = SC_B0 + 1; i < SC_PIPES; i++)
-        end = put(end, SC_MMIO_WRITE, pipes[i].width, pipes[i].offset, w->pipe[i]);
+        if (s->pipe[i])
+            end = put(end, SC_MMIO_WRITE, pipes[i].width, pipes[i].offset, w->pipe[i]);
     for (uint8_t i = 0; i < SC_VPORTS; i++)
-        end = put(end, SC_MMIO_WRITE, 2, 0x100 + 2 * i, w->vport[i]);
-    end = put_mmio(end, 0xA0, w->pixel_mask);
-    end = put_group(end, 0x3C4, 0x3C5, w->sr, sr_mask, SC_SRS);
-    end = put_group(end, 0x3CE, 0x3CF, w->gr, gr_mask, SC_GRS);
-    return put_group(end, 0x3C0, 0x3C0, w->ar, ar_mask, SC_ARS);
+        if (s->vport[i])
+            end = put(end, SC_MMIO_WRITE, 2, 0x100 + 2 * i, w->vport[i]);
+    if (s->pixel_mask)
+        end = put_mmio(end, 0xA0, w->pixel_mask);
+    end = put_group(end, 0x3C4, 0x3C5, w->sr, sr_mask, s->sr, SC_SRS);
+    end = put_group(end, 0x3CE, 0x3CF, w->gr, gr_mask, s->gr, SC_GRS);
+    return put_group(end, 0x3C0, 0x3C0, w->ar, ar_mask, s->ar, SC_ARS);
 }
 
 /* The index written to 3C0h leaves the toggle at data. */
@@ -944,10 +953,25 @@ static uint8_t *put_closing(uint8_t *end, const struct sc_file *w)
     return put(end, SC_CONFIG_WRITE, 2, 0x04, w->pci04);
 }
 
+/* Opening, indices and closing are always there: the named registers in between need them. */
+static size_t put_plan(uint8_t *buffer, const struct sc_file *w, const struct sc_set *s)
+{
+    uint8_t *end = put_opening(buffer, w);
+
+    end = put_entries(end, 0, w->palette, s->palette, SC_PALETTE_ENTRIES);
+    end = put_entries(end, B0_BANK, w->bank, s->bank, SC_BANK_ENTRIES);
+    end = put_last(end, &w->last);
+    end = put_registers(end, w, s);
+    end = put_indices(end, w);
+    end = put_closing(end, w);
+    return (size_t)(end - buffer) / SC_RECORD_BYTES;
+}
+
 uint8_t sc_plan(const struct sc_file *wanted, uint8_t *buffer, size_t room, size_t *count)
 {
-    uint8_t *end = buffer;
+    struct sc_set all;
 
+    memset(&all, true, sizeof all);
     *count = 0;
     if (!sc_sound(wanted))
         return SC_UNSOUND;
@@ -955,14 +979,7 @@ uint8_t sc_plan(const struct sc_file *wanted, uint8_t *buffer, size_t room, size
         return SC_NOT_BEFORE_RED;
     if (room < SC_PLAN_BYTES)
         return SC_SHORT_BUFFER;
-    end = put_opening(end, wanted);
-    end = put_entries(end, 0, wanted->palette[0], sizeof wanted->palette);
-    end = put_entries(end, B0_BANK, wanted->bank[0], sizeof wanted->bank);
-    end = put_last(end, &wanted->last);
-    end = put_registers(end, wanted);
-    end = put_indices(end, wanted);
-    end = put_closing(end, wanted);
-    *count = (size_t)(end - buffer) / SC_RECORD_BYTES;
+    *count = put_plan(buffer, wanted, &all);
     return SC_DONE;
 }
 
@@ -980,5 +997,223 @@ uint8_t sc_restore(struct sc_file *current, const struct sc_file *wanted,
     if (code != SC_DONE)
         return code;
     sc_run(current, buffer, SC_RECORD_BYTES * *count, replies, sizeof replies);
+    return SC_DONE;
+}
+
+/* ---- The set, and short plans; 02, 11/13 ---- */
+
+static size_t count_named(const bool *named, const uint8_t *mask, size_t count)
+{
+    size_t sum = 0;
+
+    for (size_t i = 0; i < count; i++)
+        sum += named[i] && (!mask || mask[i]);
+    return sum;
+}
+
+size_t sc_named(const struct sc_set *s)
+{
+    return (size_t)s->pci04 + s->misc + s->srx + s->crx + s->grx + s->arx + s->pixel_mask
+        + s->toggle + s->pointer + s->marks
+        + count_named(s->sr, sr_mask, SC_SRS) + count_named(s->cr, cr_mask, SC_CRS)
+        + count_named(s->gr, gr_mask, SC_GRS) + count_named(s->ar, ar_mask, SC_ARS)
+        + count_named(s->pipe, NULL, SC_PIPES) + count_named(s->vport, NULL, SC_VPORTS)
+        + count_named(s->palette, NULL, SC_PALETTE_ENTRIES)
+        + count_named(s->bank, NULL, SC_BANK_ENTRIES);
+}
+
+/* A done 3C9h access moves pointer and marks; a write at blue stores the entry. */
+static void name_pixel(struct sc_set *s, const struct sc_file *f, bool write)
+{
+    bool stores = write && f->pointer.colour == SC_BLUE, bank = f->pipe[SC_B0] & B0_BANK;
+
+    s->pointer = s->marks = true;
+    if (stores && bank)
+        s->bank[f->pointer.address % SC_BANK_ENTRIES] = true;
+    else if (stores)
+        s->palette[f->pointer.address] = true;
+}
+
+/* A done 3C0h write names ARX or the ARn that it has stored, and the toggle. */
+static void name_attribute(struct sc_set *s, const struct sc_file *f)
+{
+    s->toggle = true;
+    if (f->data_next)
+        s->ar[f->arx & ARX_INDEX] = true;
+    else
+        s->arx = true;
+}
+
+/* What a done write to a place has stored into or moved; the file is the one before it. */
+static void name_written(struct sc_set *s, const struct sc_file *f, struct place at)
+{
+    switch (at.unit) {
+    case SR: s->sr[at.number] = true; break;
+    case CR: s->cr[at.number] = true; break;
+    case GR: s->gr[at.number] = true; break;
+    case AR: s->ar[at.number] = true; break;
+    case ATTRIBUTE: name_attribute(s, f); break;
+    case PIXEL: name_pixel(s, f, true); break;
+    case PCI04: s->pci04 = true; break;
+    case MISC: s->misc = true; break;
+    case SRX: s->srx = true; break;
+    case CRX: s->crx = true; break;
+    case GRX: s->grx = true; break;
+    case PIXEL_MASK: s->pixel_mask = true; break;
+    case READ_ADDRESS: case WRITE_ADDRESS: s->pointer = true; break;
+    case PIPE: s->pipe[at.number] = true; break;
+    case VPORT: s->vport[at.number] = true; break;
+    case PCI00: case PCI02: case ARX: case STATUS: case LINE: case NOWHERE: break;
+    }
+}
+
+/* Two reads move something: 3?Ah the toggle, where it was at index too, and 3C9h. */
+static void name_read(struct sc_set *s, const struct sc_file *f, struct place at)
+{
+    if (at.unit == STATUS)
+        s->toggle = true;
+    if (at.unit == PIXEL)
+        name_pixel(s, f, false);
+}
+
+/* Code 1 flips the toggle at 3C0h, and does nothing elsewhere; other refusals and kind 6 neither. */
+static void name_access(struct sc_set *s, const struct sc_file *f, const struct sc_record *r,
+                        uint8_t code)
+{
+    if (code > SC_NO_REGISTER || r->kind == SC_LINES_PASS)
+        return;
+    struct place at = place_of(f, r);
+    if (code == SC_NO_REGISTER)
+        s->toggle |= at.unit == ATTRIBUTE;
+    else if (is_write(r))
+        name_written(s, f, at);
+    else
+        name_read(s, f, at);
+}
+
+struct sc_reply sc_access_kept(struct sc_file *f, struct sc_set *s, const struct sc_record *r)
+{
+    struct sc_file before = *f;
+    struct sc_reply reply = sc_access(f, r);
+
+    name_access(s, &before, r, reply.code);
+    return reply;
+}
+
+/* Record by record, so that each is named by the file before it. */
+struct sc_progress sc_run_kept(struct sc_file *f, struct sc_set *s, const uint8_t *trace,
+                               size_t length, uint8_t *replies, size_t room)
+{
+    struct sc_file before = *f;
+    struct sc_progress p = sc_run(f, trace, length, replies, room);
+
+    for (size_t i = 0; SC_RECORD_BYTES * (i + 1) <= length && i < p.count; i++) {
+        struct sc_record r = sc_record_from(trace + SC_RECORD_BYTES * i);
+        sc_access_kept(&before, s, &r);
+    }
+    return p;
+}
+
+/* The registers of the table's pieces; CR1A only where its pieces count. */
+uint8_t sc_timing_write_kept(struct sc_file *f, struct sc_set *s, const struct sc_timing *t)
+{
+    uint8_t code = sc_timing_write(f, t);
+
+    if (code != SC_DONE)
+        return code;
+    for (size_t i = 0; i < SC_NUMBERS; i++)
+        for (size_t j = 0; j < PIECES; j++) {
+            const struct piece *p = &fields[i].piece[j];
+            s->cr[p->cr] |= piece_bits(f, p) > 0;
+        }
+    return code;
+}
+
+uint8_t sc_restore_kept(struct sc_file *current, struct sc_set *s, const struct sc_file *wanted,
+                        uint8_t *buffer, size_t room, size_t *count)
+{
+    uint8_t code = sc_restore(current, wanted, buffer, room, count);
+
+    if (code == SC_DONE)
+        *s = (struct sc_set){ 0 };
+    return code;
+}
+
+static bool bytes_same(const bool *named, const void *a, const void *b, size_t size, size_t count)
+{
+    for (size_t i = 0; i < count; i++)
+        if (!named[i] && memcmp((const char *)a + size * i, (const char *)b + size * i, size))
+            return false;
+    return true;
+}
+
+static bool pointers_same(const struct sc_pointer *a, const struct sc_pointer *b)
+{
+    return a->address == b->address && a->reading == b->reading && a->colour == b->colour
+        && a->held[SC_RED] == b->held[SC_RED] && a->held[SC_GREEN] == b->held[SC_GREEN];
+}
+
+/* Is everything the same that the set doesn't name? The line is outside. */
+static bool same_outside(const struct sc_file *a, const struct sc_file *b, const struct sc_set *s)
+{
+    return (s->pci04 || a->pci04 == b->pci04) && (s->misc || a->misc == b->misc)
+        && (s->srx || a->srx == b->srx) && (s->crx || a->crx == b->crx)
+        && (s->grx || a->grx == b->grx) && (s->arx || a->arx == b->arx)
+        && (s->pixel_mask || a->pixel_mask == b->pixel_mask)
+        && (s->toggle || a->data_next == b->data_next)
+        && (s->pointer || pointers_same(&a->pointer, &b->pointer))
+        && (s->marks || (a->last.reading == b->last.reading && a->last.colour == b->last.colour))
+        && bytes_same(s->sr, a->sr, b->sr, 1, SC_SRS) && bytes_same(s->cr, a->cr, b->cr, 1, SC_CRS)
+        && bytes_same(s->gr, a->gr, b->gr, 1, SC_GRS) && bytes_same(s->ar, a->ar, b->ar, 1, SC_ARS)
+        && bytes_same(s->pipe, a->pipe, b->pipe, sizeof *a->pipe, SC_PIPES)
+        && bytes_same(s->vport, a->vport, b->vport, sizeof *a->vport, SC_VPORTS)
+        && bytes_same(s->palette, a->palette, b->palette, SC_COLOURS, SC_PALETTE_ENTRIES)
+        && bytes_same(s->bank, a->bank, b->bank, SC_COLOURS, SC_BANK_ENTRIES);
+}
+
+/*
+ * The full plan's stages over what the set names. An entry is always loaded, the first if no other
+ * is: the marks are made from write, blue, and the pointer from red. Nothing for an empty set.
+ */
+static size_t put_short(uint8_t *buffer, const struct sc_file *w, const struct sc_set *s)
+{
+    struct sc_set more = *s;
+
+    if (sc_named(s) == 0)
+        return 0;
+    if (!count_named(s->palette, NULL, SC_PALETTE_ENTRIES)
+        && !count_named(s->bank, NULL, SC_BANK_ENTRIES))
+        more.palette[0] = true;
+    return put_plan(buffer, w, &more);
+}
+
+uint8_t sc_short_plan(const struct sc_file *current, const struct sc_file *saved,
+                      const struct sc_set *s, uint8_t *buffer, size_t room, size_t *count)
+{
+    *count = 0;
+    if (!sc_sound(current) || !sc_sound(saved))
+        return SC_UNSOUND;
+    if (current->chip != saved->chip)
+        return SC_OTHER_CHIP;
+    if (saved->pointer.colour != SC_RED)
+        return SC_NOT_BEFORE_RED;
+    if (!same_outside(current, saved, s))
+        return SC_CHANGED_OUTSIDE;
+    if (room < SC_PLAN_BYTES)
+        return SC_SHORT_BUFFER;
+    *count = put_short(buffer, saved, s);
+    return SC_DONE;
+}
+
+uint8_t sc_short_restore(struct sc_file *current, struct sc_set *s, const struct sc_file *saved,
+                         uint8_t *buffer, size_t room, size_t *count)
+{
+    uint8_t replies[SC_PLAN_BYTES];
+    uint8_t code = sc_short_plan(current, saved, s, buffer, room, count);
+
+    if (code != SC_DONE)
+        return code;
+    sc_run(current, buffer, SC_RECORD_BYTES * *count, replies, sizeof replies);
+    *s = (struct sc_set){ 0 };
     return SC_DONE;
 }

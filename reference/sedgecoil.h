@@ -29,7 +29,8 @@ enum sc_code {
     SC_NOT_BEFORE_RED = 13,
     SC_OTHER_CHIP = 15,         /* 02, 6/13 */
     SC_OTHER_DIRECTION = 16,    /* 02 2/13 */
-    SC_INSIDE_WIDER = 17
+    SC_INSIDE_WIDER = 17,
+    SC_CHANGED_OUTSIDE = 20     /* 02, 11/13 */
 };
 
 /* 01 "Accesses and replies": byte 0 of a record. */
@@ -115,6 +116,19 @@ struct sc_file {
     struct sc_last last;
     uint8_t palette[SC_PALETTE_ENTRIES][SC_COLOURS];
     uint8_t bank[SC_BANK_ENTRIES][SC_COLOURS];
+};
+
+/*
+ * 02, 11/13: "the set of exactly those registers, palette entries, pointer, marks and toggle that an
+ * access, timing write or modeline has stored into (an equal value too) or moved". A member for each
+ * part of a file, the chip and the line apart; what it names where nothing is held is ignored.
+ */
+struct sc_set {
+    bool pci04, misc, srx, crx, grx, arx, pixel_mask;
+    bool toggle, pointer, marks;
+    bool sr[SC_SRS], cr[SC_CRS], gr[SC_GRS], ar[SC_ARS];
+    bool pipe[SC_PIPES], vport[SC_VPORTS];
+    bool palette[SC_PALETTE_ENTRIES], bank[SC_BANK_ENTRIES];
 };
 
 /* 01 "Timing": the fifteen numbers in table order. */
@@ -205,5 +219,31 @@ uint8_t sc_plan(const struct sc_file *wanted, uint8_t *buffer, size_t room, size
  */
 uint8_t sc_restore(struct sc_file *current, const struct sc_file *wanted,
                    uint8_t *buffer, size_t room, size_t *count);
+
+/* 02, 11/13: how many of a file's things the set names. */
+size_t sc_named(const struct sc_set *s);
+
+/*
+ * 02, 11/13: access, run, timing writer and restore beside which the set is kept: the same answers,
+ * and the set with what was stored into or moved, or empty after an accepted restore.
+ */
+struct sc_reply sc_access_kept(struct sc_file *f, struct sc_set *s, const struct sc_record *r);
+struct sc_progress sc_run_kept(struct sc_file *f, struct sc_set *s, const uint8_t *trace,
+                               size_t length, uint8_t *replies, size_t room);
+uint8_t sc_timing_write_kept(struct sc_file *f, struct sc_set *s, const struct sc_timing *t);
+uint8_t sc_restore_kept(struct sc_file *current, struct sc_set *s, const struct sc_file *wanted,
+                        uint8_t *buffer, size_t room, size_t *count);
+
+/*
+ * 02, 11/13: records that lead from the current file to the saved one, its line apart, if they are
+ * the same outside the set. They go by the saved file and the set alone. 0 and their count, or 12
+ * (the current file first), 15, 13, 20, 11 (in this order), count 0 and the buffer as it was.
+ */
+uint8_t sc_short_plan(const struct sc_file *current, const struct sc_file *saved,
+                      const struct sc_set *s, uint8_t *buffer, size_t room, size_t *count);
+
+/* 02, 11/13: the short plan made and run; refusals as the short plan's. */
+uint8_t sc_short_restore(struct sc_file *current, struct sc_set *s, const struct sc_file *saved,
+                         uint8_t *buffer, size_t room, size_t *count);
 
 #endif

@@ -5,6 +5,7 @@ use crate::options::Wish;
 use crate::options::wanted;
 use crate::words::Words;
 use crate::words::read_words;
+use crate::words::read_words_behind;
 use engines::Engine;
 use file::Chip;
 
@@ -84,6 +85,17 @@ pub fn choose() -> Choice
     ensures { λ r. ⌜ r .chosen ≡ chosenBy (r .words) ⌝ }
 {
     let words = read_words();
+    Choice {
+        words,
+        chosen: chosen_by(words),
+    }
+}
+
+// By those behind the first, which is no option.
+pub fn choose_behind() -> Choice
+    ensures { λ r. ⌜ r .chosen ≡ chosenBy (r .words) ⌝ }
+{
+    let words = read_words_behind();
     Choice {
         words,
         chosen: chosen_by(words),

@@ -6,6 +6,7 @@ mod words;
 pub use choosing::Choice;
 pub use choosing::Chosen;
 pub use choosing::choose;
+pub use choosing::choose_behind;
 pub use words::Asked;
 pub use words::Word;
 pub use words::Words;

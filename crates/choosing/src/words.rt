@@ -91,3 +91,17 @@ pub fn read_words() -> Words {
         second: read_asked(3),
     }
 }
+
+// One less, of a count that has one.
+fn but_one(count: usize) -> usize {
+    if count > 0 { count - 1 } else { 0 }
+}
+
+// The same without the first behind the program's own name.
+pub fn read_words_behind() -> Words {
+    Words {
+        count: but_one(os::arg_count()),
+        first: read_asked(2),
+        second: read_asked(4),
+    }
+}

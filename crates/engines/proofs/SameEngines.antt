@@ -14,6 +14,7 @@ use denote.Triple.Spec.{Meets}
 use borrow.Fn.Kinds.{Dens, resT, endedOf}
 use Rattle.file.specs.declared.registers.File.{File}
 use Rattle.trace.specs.declared.running.Ran.{Ran}
+use Rattle.trace.specs.Run.{RunKept}
 use Rattle.trace.proofs.run as quick-run
 use Rattle.trace.proofs.run.Kinds as kinds
 use Rattle.trace.proofs.run.Met as quick-proof
@@ -22,7 +23,6 @@ use Rattle.trace.proofs.run.Symbol as quick-code
 use Rattle.plain.proofs.run.Met as plain-proof
 use Rattle.plain.proofs.run.Reads as plain-reads
 use Rattle.plain.proofs.run.Symbol as plain-code
-use Rattle.engines.specs.Engines.{Runs}
 
 -- code meets the contract of `trace::run`
 abbrev pub RunsAsQuick : Routine → Type 1 → Type 2
@@ -37,10 +37,10 @@ both-meet = (quick-proof.met, plain-proof.met)
 -- ---- what the contract says fixes every part of a run
 
 pub one-run : (f : File) (trace buffer : List ℕ) (r s : Ran) (after-r after-s : List ℕ)
-    → Runs f trace buffer r after-r → Runs f trace buffer s after-s → (r ≡ s) × (after-r ≡ after-s)
+    → RunKept f trace buffer after-r r → RunKept f trace buffer after-s s → (r ≡ s) × (after-r ≡ after-s)
 one-run f trace buffer r s after-r after-s one other = (
-  λ i. record { answer = (one .answer ∙ sym (other .answer)) i; file = (one .file ∙ sym (other .file)) i; count = (one .count ∙ sym (other .count)) i },
-  one .bytes ∙ sym (other .bytes),
+  λ i. record { answer = (one .answered ∙ sym (other .answered)) i; file = (one .ended ∙ sym (other .ended)) i; count = (one .counted ∙ sym (other .counted)) i },
+  one .replied ∙ sym (other .replied),
 )
 
 -- a call: the start file, the trace and the buffer; what comes back, and the buffer then
@@ -52,13 +52,13 @@ module _ (κs : Lfts 2) (call : Dens κs kinds.ps) where
   Left = AtExit (endedOf 2 kinds.ps kinds.r) κs
 
   abbrev RunsSo : Result → Left → Type 0
-  RunsSo r left = Runs (call .0) (now (call .1 .0)) (now (call .1 .1 .0)) r (now (left .1 .1 .0))
+  RunsSo r left = RunKept (call .0) (now (call .1 .0)) (now (call .1 .1 .0)) (now (left .1 .1 .0)) r
 
   quick-runs : (r : Result) (left : Left) → quick-reads.Learnt κs call r left → RunsSo r left
-  quick-runs r left learnt = record { answer = learnt .0 .0; file = learnt .0 .1; count = learnt .0 .2; bytes = learnt .1 }
+  quick-runs r left learnt = record { answered = learnt .0 .0; ended = learnt .0 .1; counted = learnt .0 .2; replied = learnt .1 }
 
   plain-runs : (r : Result) (left : Left) → plain-reads.Learnt κs call r left → RunsSo r left
-  plain-runs r left learnt = record { answer = learnt .0 .0; file = learnt .0 .1; count = learnt .0 .2; bytes = learnt .1 }
+  plain-runs r left learnt = record { answered = learnt .0 .0; ended = learnt .0 .1; counted = learnt .0 .2; replied = learnt .1 }
 
   -- from one file, over one trace and into one buffer, whatever they are, what the contract of `trace::run` allows and what that of `plain::run` allows
   -- is one: the answer, the file, the count and every byte of the buffer

@@ -1,4 +1,4 @@
--- Which of the listed codes a plan answers, from what it promises. Assumes nothing.
+-- Which of the listed codes a plan answers, from what it promises; every answer of a short plan is on the list. Assumes nothing.
 use Prim.Native.Nat.{ℕ}
 use mathlib.Core.Path.{_≡_, sym, subst}
 use mathlib.Core.Bool.{Bool, cond}
@@ -9,11 +9,14 @@ use Rattle.bits.proofs.Test.{chosen}
 use Rattle.file.specs.declared.answer.Answer.{Answer}
 use Rattle.file.specs.declared.answer.Answer.the-variants.{Done, ShortBuffer, NotSound, NotBeforeRed}
 use Rattle.file.specs.declared.registers.File.{File}
-use Rattle.file.specs.Answers.{codeOf, oneOf}
+use Rattle.file.specs.Answers.{codeOf, among, listed, oneOf}
 use Rattle.file.specs.Sound.{sound}
 use Rattle.roads.specs.Refusals.{planAnswer}
 use Rattle.plan.specs.declared.planning.Planned.{Planned}
 use Rattle.plan.specs.Promises.{PlanKept}
+use Rattle.plan.specs.declared.short_answer.ShortAnswer.{ShortAnswer}
+use Rattle.plan.specs.declared.short_answer.ShortAnswer.the-variants.{Done as ShortDone, ShortBuffer as ShortRoom, NotSound as Unsound, NotBeforeRed as AwayFromRed, OtherChip, Elsewhere}
+use Rattle.plan.specs.ShortAnswers.{numberOf}
 
 abbrev pub planning : Answer → Bool
 planning a = oneOf (0 ∷ 11 ∷ 12 ∷ 13 ∷ []) a
@@ -28,3 +31,12 @@ answer-planning w room =
 
 pub plan-codes : (w : File) (before after : List ℕ) (r : Planned) → PlanKept w before after r → T (planning (r .answer))
 plan-codes w before after r kept = subst (λ (a : Answer). T (planning a)) (sym (kept .answered)) (answer-planning w (length before))
+
+pub short-listed : (a : ShortAnswer) → T (among listed (numberOf a))
+unfolding among listed numberOf
+short-listed ShortDone = tt
+short-listed ShortRoom = tt
+short-listed Unsound = tt
+short-listed AwayFromRed = tt
+short-listed OtherChip = tt
+short-listed Elsewhere = tt

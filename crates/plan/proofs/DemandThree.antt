@@ -16,10 +16,11 @@ use Rattle.file.specs.Answers.{codeOf, refused}
 use Rattle.file.specs.File.{Same}
 use Rattle.file.specs.Sound.{sound}
 use Rattle.trace.specs.declared.running.Ran.{Ran}
+use Rattle.trace.specs.Run.{RunKept}
 use Rattle.roads.specs.Refusals.{planAnswer}
 use Rattle.roads.specs.Restores.{IsFile, PlanWritten}
 use Rattle.plan.specs.declared.planning.Planned.{Planned}
-use Rattle.plan.specs.Promises.{PlanKept, RunKept, RunServes}
+use Rattle.plan.specs.Promises.{PlanKept, RunServes}
 use Rattle.plan.proofs.PromisesKept.{written-few, run-answers, run-counts, run-ends, run-line, run-codes}
 
 -- 'For every sound register file whose palette pointer rests before red, and a buffer of 8,192 bytes or more'

@@ -5,3 +5,6 @@ pub mod EntriesAppended
 pub mod PromisesKept
 pub mod DemandThree
 pub mod Codes
+pub mod NamedEntries
+pub mod NamedRows
+pub mod ShortPromisesKept

@@ -36,7 +36,7 @@ module _ (w : File) (before : List ℕ) where
       → PlanKept w before before r
   plan-refused a e t r q =
       subst (λ (x : Planned). PlanKept w before before x) (sym q)
-      (record { answered = e; made = λ n. absurd (true≢false (sym t ∙ n)); none = λ _. refl; kept = λ _. refl })
+      (record { answered = e; made = λ n. absurd (true≢false (sym t ∙ n)); counted = λ n. absurd (true≢false (sym t ∙ n)); none = λ _. refl; kept = λ _. refl })
 
   pub plan-unsound : sound w ≡ false → (r : Planned) → r ≡ record { answer = NotSound; count = 0 } → PlanKept w before before r
   unfolding planAnswer refused codeOf
@@ -59,6 +59,7 @@ module _ (w : File) (before : List ℕ) where
       record {
         answered = rw (s, eq-eqb (w .state .pointer .next) 0 e, le-leb 8192 (length before) l);
         made = λ _. record { records = planRecords w; plans = plan-serves w wf (passes (sound w) s) e; counted = counted; filled = filled };
+        counted = λ _. counted;
         none = λ t. absurd (true≢false (sym t));
         kept = λ t. absurd (true≢false (sym t));
       }
@@ -151,7 +152,7 @@ module _ {w : File} {before after : List ℕ} {count : ℕ} (p : PlanWritten w b
 
 -- ---- what the promise settles
 
--- two plans of one file and buffer answer the same; their bytes and counts may differ, since several plans serve
+-- two plans of one file and buffer answer the same; their bytes may differ, since several plans serve
 pub plans-alike : (w : File) (before after other : List ℕ) (p q : Planned) → PlanKept w before after p → PlanKept w before other q
     → p .answer ≡ q .answer
 plans-alike w before after other p q s t = s .answered ∙ sym (t .answered)

@@ -180,7 +180,7 @@ fn put_index(port: u16, index: u32, buffer: &mut [u8], at: usize) -> usize
 }
 
 // The register of a row.
-fn put_register(row: u64, registers: &[u16], buffer: &mut [u8], at: usize) -> usize
+pub fn put_register(row: u64, registers: &[u16], buffer: &mut [u8], at: usize) -> usize
     requires { ⌜ at + 8 * length (along (now registers) (roadOf row ∷ [])) ≤ length (now buffer) ⌝ }
     ensures { λ r. ⌜ Appended (now (buffer .entry)) at (along (now (registers .entry)) (roadOf row ∷ [])) (now (buffer .exit)) r ⌝ }
 {

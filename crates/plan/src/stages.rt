@@ -43,7 +43,7 @@ fn wide_byte(x: u8) -> u32
 }
 
 // The three bytes of an entry.
-fn put_pixel(colour: Colour, buffer: &mut [u8], at: usize) -> usize
+pub fn put_pixel(colour: Colour, buffer: &mut [u8], at: usize) -> usize
     requires { ⌜ at + 8 * 3 ≤ length (now buffer) ⌝ }
     ensures { λ r. ⌜ Appended (now (buffer .entry)) at (pixel colour) (now (buffer .exit)) r ⌝ }
 {

@@ -2,13 +2,12 @@
 ghost use mathlib.Core.Path.{_≡_};
 ghost use mathlib.Core.Bool.{cond};
 ghost use Rattle.file.specs.declared.answer.Answer.the-variants.{OtherChip as OtherChipAnswer, NotSound as NotSoundAnswer};
-ghost use Rattle.file.specs.Chips.{sameChip};
 ghost use Rattle.file.specs.Sound.{sound};
 ghost use Rattle.restoring.specs.Promises.{RestoreKept};
 use file::Answer;
-use file::Chip;
 use file::File;
 use file::is_sound;
+use plan::on_one_chip;
 use plan::plan;
 use trace::run;
 
@@ -17,33 +16,6 @@ pub struct Restored {
     pub answer: Answer,
     pub count: usize,
     pub file: File,
-}
-
-// The two are one chip.
-fn is_same(one: Chip, other: Chip) -> bool
-    ensures { λ r. ⌜ r ≡ sameChip one other ⌝ }
-{
-    match one {
-        Chip::Gd5462 => match other {
-            Chip::Gd5462 => true,
-            Chip::Gd5464 => false,
-        },
-        Chip::Gd5464 => match other {
-            Chip::Gd5462 => false,
-            Chip::Gd5464 => true,
-        },
-    }
-}
-
-// The two files are of one chip.
-fn on_one_chip(current: File, wanted: File) -> bool
-    ensures { λ r. ⌜ r ≡ sameChip (current .state .chip) (wanted .state .chip) ⌝ }
-{
-    let from = current.state;
-    let one = from.chip;
-    let to = wanted.state;
-    let other = to.chip;
-    is_same(one, other)
 }
 
 // Writes a plan of the wanted file and runs it from the current one: 12 by the current file and by the wanted one, 15 where their chips differ, then 13, 11 by the

@@ -32,7 +32,7 @@ unfolding marksAfter marksSound
 marks-after-sound m [] t = t
 marks-after-sound m (c ∷ cs) t = tt
 
-after-sound : (bank : Bool) (stretch : Stretch) (f : File) → T (sound f) → T (sound (afterStretch bank stretch f))
+pub after-sound : (bank : Bool) (stretch : Stretch) (f : File) → T (sound f) → T (sound (afterStretch bank stretch f))
 unfolding afterStretch withStep
 after-sound bank stretch f s =
     sound-by (afterStretch bank stretch f)

@@ -21,7 +21,7 @@ use Rattle.roads.specs.RoadRecords.{write, selecting, along}
 use Rattle.roads.specs.Restores.{allOrdinary}
 
 -- lists one behind the other
-ordinary-then : (rs ss : List Record) → T (allOrdinary rs) → T (allOrdinary ss) → T (allOrdinary (rs ++ ss))
+pub ordinary-then : (rs ss : List Record) → T (allOrdinary rs) → T (allOrdinary ss) → T (allOrdinary (rs ++ ss))
 unfolding allOrdinary
 ordinary-then [] ss r s = s
 ordinary-then (a ∷ rs) ss r s =
@@ -29,11 +29,11 @@ ordinary-then (a ∷ rs) ss r s =
 
 -- ---- stage by stage
 
-opening-ordinary : (w : List ℕ) → T (allOrdinary (opening w))
+pub opening-ordinary : (w : List ℕ) → T (allOrdinary (opening w))
 unfolding allOrdinary ordinary opening
 opening-ordinary w = tt
 
-pixels-ordinary : (cs : List Colour) → T (allOrdinary (pixels cs))
+pub pixels-ordinary : (cs : List Colour) → T (allOrdinary (pixels cs))
 unfolding allOrdinary ordinary pixels pixel
 pixels-ordinary [] = tt
 pixels-ordinary (c ∷ cs) = pixels-ordinary cs
@@ -43,7 +43,7 @@ unfolding allOrdinary ordinary colours entries
 colours-ordinary palette bank =
     ordinary-then (pixels palette) (write toB0 openBank ∷ entries 0 bank) (pixels-ordinary palette) (pixels-ordinary bank)
 
-steps-ordinary : (reading : Bool) (colour : ℕ) → T (allOrdinary (pixelSteps reading colour))
+pub steps-ordinary : (reading : Bool) (colour : ℕ) → T (allOrdinary (pixelSteps reading colour))
 unfolding allOrdinary ordinary pixelSteps
 steps-ordinary true zero = tt
 steps-ordinary false zero = tt
@@ -56,12 +56,12 @@ registers-ordinary : (w : List ℕ) → T (allOrdinary (along w registerRoads))
 unfolding allOrdinary ordinary along selecting registerRoads
 registers-ordinary w = tt
 
-indices-ordinary : (w : List ℕ) (toggle : Bool) → T (allOrdinary (indices w toggle))
+pub indices-ordinary : (w : List ℕ) (toggle : Bool) → T (allOrdinary (indices w toggle))
 unfolding allOrdinary ordinary indices along selecting indexRoads
 indices-ordinary w true = tt
 indices-ordinary w false = tt
 
-closing-ordinary : (w : List ℕ) (p : Pointer) → T (allOrdinary (closing w p))
+pub closing-ordinary : (w : List ℕ) (p : Pointer) → T (allOrdinary (closing w p))
 unfolding allOrdinary ordinary closing closingRoads along selecting
 closing-ordinary w p = tt
 

@@ -44,7 +44,7 @@ use Rattle.roads.proofs.ToggleReads.{toggle-runs}
 -- ---- colours
 
 -- a ready file stays ready while its registers and its chip stay
-ready-as : (w : List ℕ) (f g : File) → g .registers ≡ f .registers → g .state .chip ≡ f .state .chip → T (stateSound (g .state)) → Ready w f → Ready w g
+pub ready-as : (w : List ℕ) (f g : File) → g .registers ≡ f .registers → g .state .chip ≡ f .state .chip → T (stateSound (g .state)) → Ready w f → Ready w g
 unfolding SpacesOn register
 ready-as w f g e chip p ready =
     record {
@@ -56,13 +56,13 @@ ready-as w f g e chip p ready =
     }
 
 -- as a plan opens it the palette is up, and the palette or the bank is chosen
-chosen-up : (w : List ℕ) (f : File) (bank : Bool) → Ready w f → PaletteOpen f bank → PaletteReady f bank
+pub chosen-up : (w : List ℕ) (f : File) (bank : Bool) → Ready w f → PaletteOpen f bank → PaletteReady f bank
 unfolding openPalette openBank openSync paletteUp inBank bit
 chosen-up w f true ready opens = record { isSound = ready .isSound; on = ready .on; up = rw (opens .b0, opens .sync); chosen = rw (opens .b0) }
 chosen-up w f false ready opens = record { isSound = ready .isSound; on = ready .on; up = rw (opens .b0, opens .sync); chosen = rw (opens .b0) }
 
 -- a file with the bank chosen next
-bank-open : (f : File) → T (sound f) → register f CR1A ≡ openSync → PaletteOpen (withRegister B0 openBank f) true
+pub bank-open : (f : File) → T (sound f) → register f CR1A ≡ openSync → PaletteOpen (withRegister B0 openBank f) true
 bank-open f s sync =
     record { b0 = at-any f B0 openBank B0 s (lit< tt); sync = at-any f B0 openBank CR1A s (lit< tt) ∙ sync }
 
@@ -147,7 +147,7 @@ module _ (w : List ℕ) (palette bank : List Colour) (f : File) (all : length pa
 -- ---- registers
 
 -- a ready file may go every road, by one computed test
-registers-open : T (everyRoad passable registerRoads)
+pub registers-open : T (everyRoad passable registerRoads)
 unfolding everyRoad passable selectable stores onBoth loose isOneOf registerRoads storedBits storedTable within store
 registers-open = tt
 

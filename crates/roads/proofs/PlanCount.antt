@@ -15,18 +15,18 @@ use Rattle.roads.specs.Plan.{openBank, opening, pixel, pixels, entries, 
 use Rattle.roads.specs.RoadRecords.{write, selecting, along}
 use Rattle.roads.specs.Restores.{IsFile}
 
-pixels-count : (cs : List Colour) → length (pixels cs) ≡ 3 * length cs
+pub pixels-count : (cs : List Colour) → length (pixels cs) ≡ 3 * length cs
 unfolding pixels pixel
 pixels-count [] = refl
 pixels-count (c ∷ cs) = omega (arith, pixels-count cs)
 
 -- 769 records for the palette, 50 for the bank
-colour-records : (palette bank : List Colour) → length palette ≡ 256 → length bank ≡ 16 → length (colours palette bank) ≡ 819
+pub colour-records : (palette bank : List Colour) → length palette ≡ 256 → length bank ≡ 16 → length (colours palette bank) ≡ 819
 unfolding colours entries
 colour-records palette bank p b = rw (length-append, pixels-count palette, pixels-count bank, p, b)
 
 -- one or two records for each register
-register-records : (w : List ℕ) → length (along w registerRoads) ≡ 147
+pub register-records : (w : List ℕ) → length (along w registerRoads) ≡ 147
 unfolding along selecting registerRoads
 register-records w = refl
 

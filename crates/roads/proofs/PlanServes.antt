@@ -73,7 +73,7 @@ registers-as-wanted w xs misc many all same =
 -- ---- demand 3
 
 -- a file with whatever line is the same file
-same-by : (f g : File) (line : ℕ) → f ≡ withLine line g → Same f g
+pub same-by : (f g : File) (line : ℕ) → f ≡ withLine line g → Same f g
 unfolding Same withLine
 same-by f g line e = e ∙ ap (λ (n : ℕ). withLine n g) (ap (λ (h : File). h .state .line) (sym e))
 

@@ -85,7 +85,7 @@ unfolding asked partLines itemCount items recordLines
 none-asked true number f = refl
 none-asked false number f = refl
 
-none-after : (f : File) → f ≡ afterPart f []
+pub none-after : (f : File) → f ≡ afterPart f []
 unfolding afterPart itemCount items fileAfter
 none-after f = refl
 
@@ -165,7 +165,7 @@ turns-stand {chip} {prints} (then {trace} {text} {before} part read handed turns
           rw length-append (omega (arith, parts, short, brought .within, brought .count));
     }
 
-counted-on : (before all : ℕ) (xs ys : List ℕ) → before ≡ length xs % 2 ^ 64 → all ≡ counted before (length ys) → all ≡ length (xs ++ ys) % 2 ^ 64
+pub counted-on : (before all : ℕ) (xs ys : List ℕ) → before ≡ length xs % 2 ^ 64 → all ≡ counted before (length ys) → all ≡ length (xs ++ ys) % 2 ^ 64
 counted-on before all xs ys e counts = rw length-append (omega (arith, e, counts))
 
 -- what a course says was read and handed to be written, in all: as many bytes as its trace and its text have

@@ -1,5 +1,6 @@
 // What the programs do between standard input and standard output.
 mod course;
+mod following;
 mod outlining;
 mod printing;
 mod reading;
@@ -8,6 +9,7 @@ mod telling;
 
 pub use course::Course;
 pub use course::run_input;
+pub use following::since;
 pub use outlining::outline;
 pub use printing::replay;
 pub use reading::Filled;

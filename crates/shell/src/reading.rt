@@ -1,4 +1,4 @@
-// Standard input, by buffers.
+// Standard input, or another file that is open, by buffers.
 ghost use mathlib.Core.Bool.{false};
 ghost use mathlib.Core.Path.{_≡_};
 ghost use Prim.Native.Nat.{_+_, _^_, _≤_, _<_};
@@ -61,13 +61,13 @@ fn filled_with(before: Filled, count: usize, failed: bool) -> Filled
 }
 
 // One read into what is left of a buffer from a place on; no bytes where the input ends or the read fails. What stands before the place stays.
-fn read_on(buffer: &mut [u8], at: usize) -> Got
+fn read_on(from: i32, buffer: &mut [u8], at: usize) -> Got
     requires { ⌜ at ≤ length (now buffer) ⌝ }
     ensures { λ r. ⌜ at + r .count ≤ length (now (buffer .exit)) ⌝ }
     ensures { λ _. ⌜ take at (now (buffer .exit)) ≡ take at (now (buffer .entry)) ⌝ }
 {
     let rest = &mut buffer[at..];
-    let got = libc::read(STDIN_FILENO, rest);
+    let got = libc::read(from, rest);
     let count = io::count(got, rest);
     Got {
         count,
@@ -75,20 +75,28 @@ fn read_on(buffer: &mut [u8], at: usize) -> Got
     }
 }
 
-// Reads until the buffer is full, the input ends or a read fails.
-pub fn fill(before: Filled, buffer: &mut [u8]) -> Filled
+// Reads from a file that is open until the buffer is full, the file ends or a read fails.
+pub fn fill_from(from: i32, before: Filled, buffer: &mut [u8]) -> Filled
     ensures { λ r. ⌜ Counts (r .count) (now (buffer .exit)) ⌝ }
     ensures { λ r. ⌜ r .all ≡ counted (before .all) (r .count) ⌝ }
 {
     let mut at = 0;
     while at < buffer.len() {
-        let more = read_on(buffer, at);
+        let more = read_on(from, buffer, at);
         if more.count == 0 {
             return filled_with(before, at, more.failed);
         }
         at += more.count;
     }
     filled_with(before, at, false)
+}
+
+// The same of standard input.
+pub fn fill(before: Filled, buffer: &mut [u8]) -> Filled
+    ensures { λ r. ⌜ Counts (r .count) (now (buffer .exit)) ⌝ }
+    ensures { λ r. ⌜ r .all ≡ counted (before .all) (r .count) ⌝ }
+{
+    fill_from(STDIN_FILENO, before, buffer)
 }
 
 // The next buffer of a trace, of which so many records came before; what goes wrong is told.

@@ -8,7 +8,7 @@ use file::Chip;
 use libc::STDERR_FILENO;
 
 // A refusal in words, with its code.
-fn tell_refusal(code: u8) {
+pub fn tell_refusal(code: u8) {
     io::write_all(STDERR_FILENO, b"snapshot: no plan, code ");
     io::print_decimal(STDERR_FILENO, code as u64);
     if code == 13 {

@@ -3,8 +3,10 @@ ghost use mathlib.Core.Bool.{false};
 ghost use mathlib.Core.Path.{_≡_};
 ghost use lib.ListN.{length};
 ghost use Rattle.shell.specs.Parts.{counted};
+use choosing::Choice;
 use choosing::Chosen;
 use choosing::choose;
+use choosing::choose_behind;
 use libc::STDERR_FILENO;
 use libc::STDOUT_FILENO;
 use std::num::wrapping_add_u64;
@@ -62,9 +64,8 @@ impl Handed {
     }
 }
 
-// The chip and the engine that a program is started for; where its words name none, that is told.
-pub fn choose_course(program: &[u8]) -> Chosen {
-    let choice = choose();
+// What was chosen; where the words name none, that is told.
+fn told(program: &[u8], choice: Choice) -> Chosen {
     let chosen = choice.chosen;
     if let Chosen::Unknown = chosen {
         tell(
@@ -73,4 +74,14 @@ pub fn choose_course(program: &[u8]) -> Chosen {
         );
     }
     chosen
+}
+
+// The chip and the engine that a program is started for.
+pub fn choose_course(program: &[u8]) -> Chosen {
+    told(program, choose())
+}
+
+// The same by the words behind the first.
+pub fn choose_course_behind(program: &[u8]) -> Chosen {
+    told(program, choose_behind())
 }

@@ -136,7 +136,7 @@ fn is_set(value: u16, place: u16) -> bool
 }
 
 // Whether CR1A's blank pieces count.
-fn is_wide(cr1b: u16) -> bool
+pub fn is_wide(cr1b: u16) -> bool
     ensures { λ r. ⌜ r ≡ (eqb (bit 5 cr1b) 1 || eqb (bit 7 cr1b) 1) ⌝ }
 {
     is_set(cr1b, 5) || is_set(cr1b, 7)

@@ -36,7 +36,7 @@ module _ (trace buffer : List ℕ) where
       rw all (min-eq-left (omega (arith, h)))
 
 module _ (f : File) (trace : List ℕ) (n : ℕ) (short : length trace < 8 * n + 8) where
-  fragment-item : itemOf (take 8 (drop (8 * n) trace)) ≡ Fragment (recordOf (take 8 (drop (8 * n) trace)))
+  pub fragment-item : itemOf (take 8 (drop (8 * n) trace)) ≡ Fragment (recordOf (take 8 (drop (8 * n) trace)))
   unfolding itemOf
   fragment-item =
       by-test (leb 8 (length (take 8 (drop (8 * n) trace)))) (λ e. absurd (no (leb→le 8 _ (passes _ e)))) (λ e. rw e)

@@ -163,7 +163,7 @@ module _ (f : File) (trace before : List ℕ) where
       here = replies-length f (items n trace) ∙ ap (λ (k : ℕ). 8 * k) (items-length n trace)
 
   -- the n-th item of a trace long enough is a whole record
-  whole-item : (n : ℕ) → 8 * n + 8 ≤ length trace → itemOf (take 8 (drop (8 * n) trace)) ≡ Whole (recordOf (take 8 (drop (8 * n) trace)))
+  pub whole-item : (n : ℕ) → 8 * n + 8 ≤ length trace → itemOf (take 8 (drop (8 * n) trace)) ≡ Whole (recordOf (take 8 (drop (8 * n) trace)))
   unfolding itemOf
   whole-item n h = rw (le-leb 8 (length (take 8 (drop (8 * n) trace))) (simp (length-take, length-drop) (omega arith)))
 

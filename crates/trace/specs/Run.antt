@@ -2,6 +2,7 @@
 -- Assumes nothing.
 use Prim.Native.Nat.{ℕ, _*_, _/_, min}
 use mathlib.Core.Bool.{cond}
+use mathlib.Core.Path.{_≡_}
 use mathlib.Core.List.{List, [], _∷_, _++_}
 use lib.ListN.{length, take, drop}
 use Rattle.file.specs.declared.answer.Answer.{Answer}
@@ -11,6 +12,7 @@ use Rattle.file.specs.Sound.{sound}
 use Rattle.access.specs.declared.record.Item.{Item}
 use Rattle.access.specs.Access.{accessItem, recordIn, replyTo}
 use Rattle.trace.specs.declared.replying.Replied.{Replied}
+use Rattle.trace.specs.declared.running.Ran.{Ran}
 use Rattle.trace.specs.Records.{itemOf, items, itemCount, replyBytes}
 
 -- the file after the items of a list
@@ -68,3 +70,10 @@ resumed r buffer = run (r .file) (r .rest) buffer
 
 unfoldable pub filled : RunLeft → List ℕ
 filled r = take (8 * r .count) (r .buffer)
+
+-- what the code of a run hands back and leaves in a reply buffer, by what the buffer holds before and after
+pub record RunKept (f : File) (trace before after : List ℕ) (r : Ran) : Type 0 where
+  pub answered : r .answer ≡ run f trace before .answer
+  pub ended : r .file ≡ run f trace before .file
+  pub counted : r .count ≡ run f trace before .count
+  pub replied : after ≡ run f trace before .buffer

@@ -40,20 +40,20 @@ pub struct Ran {
 }
 
 // The entry of the palette that the pointer names, and that of the bank.
-fn palette_entry(state: State) -> usize
+pub fn palette_entry(state: State) -> usize
     ensures { λ r. ⌜ (r ≡ state .pointer .address) × (r < paletteCount) ⌝ }
 {
     state.pointer.address as usize
 }
 
-fn bank_entry(state: State) -> usize
+pub fn bank_entry(state: State) -> usize
     ensures { λ r. ⌜ (r ≡ state .pointer .address % bankCount) × (r < bankCount) ⌝ }
 {
     state.pointer.address as usize % BANK
 }
 
 // The component of the next colour, of the entry of the bank or the palette.
-fn component(bank: bool, in_bank: Colour, in_palette: Colour, state: State) -> u16
+pub fn component(bank: bool, in_bank: Colour, in_palette: Colour, state: State) -> u16
     ensures { λ r. ⌜ r ≡ componentOf (cond bank in_bank in_palette) (state .pointer .next) ⌝ }
 {
     let next = state.pointer.next;
@@ -86,7 +86,7 @@ pub struct Served {
 }
 
 // An access that is answered, before its effect.
-fn answered(answer: Answer, pixel: bool, state: State) -> Served
+pub fn answered(answer: Answer, pixel: bool, state: State) -> Served
     ensures { λ r. ⌜ Answered answer pixel state r ⌝ }
 {
     Served {
@@ -105,7 +105,7 @@ fn answered(answer: Answer, pixel: bool, state: State) -> Served
 }
 
 // An effect on the registers where they stand, and on the other parts by value.
-fn put_effect(registers: &mut [u16; REGISTERS], before: Served, effect: Effect) -> Served
+pub fn put_effect(registers: &mut [u16; REGISTERS], before: Served, effect: Effect) -> Served
     ensures { λ r. ⌜ Puts (now (registers .entry)) before effect (now (registers .exit)) r ⌝ }
 {
     let mut after = before;
@@ -209,7 +209,7 @@ fn run_whole(whole: File, trace: &[u8], replies: &mut [u8], count: usize) -> Fil
 }
 
 // The reply to the fragment at the end of a trace: code 2.
-fn put_fragment(trace: &[u8], replies: &mut [u8], at: usize)
+pub fn put_fragment(trace: &[u8], replies: &mut [u8], at: usize)
     requires { ⌜ at < length (now trace) ⌝ }
     requires { ⌜ at + 8 ≤ length (now replies) ⌝ }
     ensures { λ _. ⌜ now (replies .exit) ≡ take at (now (replies .entry)) ++ replyBytes (replyTo (recordOf (take 8 (drop at (now (trace .entry))))) MalformedAnswer) ++ drop (at + 8) (now (replies .entry)) ⌝ }

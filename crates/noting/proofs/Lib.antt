@@ -1,0 +1,4 @@
+pub mod RunReaches
+pub mod TimingMarked
+pub mod AccessNamed
+pub mod SetsKeepUp

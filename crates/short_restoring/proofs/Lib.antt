@@ -1,0 +1,3 @@
+pub mod ShortRunEnds
+pub mod ShortPromiseKept
+pub mod ShortDemand

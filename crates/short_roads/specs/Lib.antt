@@ -1,0 +1,2 @@
+pub mod ShortPlan
+pub mod Serves

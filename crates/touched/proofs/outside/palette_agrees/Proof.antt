@@ -1,0 +1,88 @@
+-- `palette_agrees` meets its contract. Assumes nothing.
+use Prim.Native.Nat.{ℕ, _-_, _≤_}
+use mathlib.Core.Path.{_≡_, refl, subst}
+use mathlib.Core.Bool.{_||_}
+use native.Mathlib.Omega.{arith}
+use borrow.Author.Needs.{needs}
+use Rattle.bits.specs.Every.{everyBelow}
+use Rattle.file.specs.File.{register, black}
+use Rattle.touched.specs.Outside.{paletteAgrees}
+use Rattle.touched.proofs.Turns.{entryAgrees, every-turn}
+use Rattle.touched.proofs.outside.palette_agrees.Statement.{statement}
+use Rattle.touched.proofs.outside.palette_agrees.Tie as tie
+
+abbrev Inv-loop : tie.InvT-loop
+Inv-loop named from to agree₀ n₀ agree n = (agree ≡ everyBelow (entryAgrees named from to) n) × (n ≤ 256)
+
+abbrev μ-loop : tie.MeasureT-loop
+μ-loop named from to agree₀ n₀ agree n = 256 - n
+
+loop-holds : tie.Need-loop-holds Inv-loop μ-loop
+unfolding everyBelow
+loop-holds c = (refl, omega arith)
+
+array-read-either : tie.Need-array-read-either Inv-loop μ-loop
+array-read-either c = search needs
+
+mul-same-colour : tie.Need-mul-same-colour Inv-loop μ-loop
+mul-same-colour c = search needs
+
+array-copy-out-same-colour : tie.Need-array-copy-out-same-colour Inv-loop μ-loop
+array-copy-out-same-colour c = search needs
+
+mul-same-colour-2 : tie.Need-mul-same-colour-2 Inv-loop μ-loop
+mul-same-colour-2 c = search needs
+
+array-copy-out-same-colour-2 : tie.Need-array-copy-out-same-colour-2 Inv-loop μ-loop
+array-copy-out-same-colour-2 c = search needs
+
+same-colour-requires : tie.Need-same-colour-requires Inv-loop μ-loop
+same-colour-requires c κs = search needs
+
+either-requires : tie.Need-either-requires Inv-loop μ-loop
+either-requires c κs = search needs
+
+both-requires : tie.Need-both-requires Inv-loop μ-loop
+both-requires c κs = search needs
+
+add-n : tie.Need-add-n Inv-loop μ-loop
+add-n c = search needs
+
+loop-less : tie.Need-loop-less Inv-loop μ-loop
+loop-less c = search needs
+
+loop-again : tie.Need-loop-again Inv-loop μ-loop
+unfolding entryAgrees black
+loop-again c =
+    let loop = c .before .before .before .before .before .before in
+    let args = loop .before .before .before .before .args in (
+      every-turn (entryAgrees (args .set .palette) (args .current .palette) (args .saved .palette)) (loop .loop .n) (rw (c .before .before .same-colour .ensures) at (c .before .either .ensures)) (loop .loop .inv .0)
+          (c .both .ensures),
+      omega arith,
+    )
+
+returns : tie.Need-returns Inv-loop μ-loop
+unfolding paletteAgrees entryAgrees
+returns c =
+    let args = c .before .before .before .before .before .args in
+    subst (λ (m : ℕ). c .before .loop .agree ≡ everyBelow (paletteAgrees (args .set) (args .current) (args .saved)) m) (omega arith) (c .before .loop .inv .0)
+
+pub palette-agrees-spec : {M : Type 1} → statement M
+palette-agrees-spec =
+    tie.close
+    (tie.spec
+    Inv-loop
+    μ-loop
+    loop-holds
+    array-read-either
+    mul-same-colour
+    array-copy-out-same-colour
+    mul-same-colour-2
+    array-copy-out-same-colour-2
+    same-colour-requires
+    either-requires
+    both-requires
+    add-n
+    loop-less
+    loop-again
+    returns)

@@ -1,0 +1,65 @@
+-- `many` meets its contract. Assumes nothing.
+use Prim.Native.Nat.{_+_, _-_, _≤_}
+use mathlib.Core.Path.{_≡_}
+use native.Mathlib.Omega.{arith}
+use mathlib.Core.Bool.{false}
+use borrow.Author.Needs.{needs}
+use denote.Ref.{now}
+use lib.ListN.{getD, drop, length}
+use Rattle.touched.specs.Things.{many}
+use Rattle.touched.proofs.Turns.{one-few, many-turn, many-done}
+use Rattle.touched.proofs.sizing.many.Statement.{statement}
+use Rattle.touched.proofs.sizing.many.Tie as tie
+
+abbrev Inv-loop : tie.InvT-loop
+Inv-loop marks count₀ i₀ count i = (count + many (drop i marks) ≡ many marks) × (count ≤ i) × (i ≤ length marks)
+
+abbrev μ-loop : tie.MeasureT-loop
+μ-loop marks count₀ i₀ count i = length marks - i
+
+loop-holds : tie.Need-loop-holds Inv-loop μ-loop
+loop-holds c = (omega arith, omega arith, omega arith)
+
+shared-slice-read-one : tie.Need-shared-slice-read-one Inv-loop μ-loop
+shared-slice-read-one c = search needs
+
+one-requires : tie.Need-one-requires Inv-loop μ-loop
+one-requires c κs = search needs
+
+add-count : tie.Need-add-count Inv-loop μ-loop
+add-count c =
+    let loop = c .before .before .before in
+    omega (arith, c .one .ensures, one-few (getD (now (loop .before .before .args .marks)) (loop .loop .i) false))
+
+add-i : tie.Need-add-i Inv-loop μ-loop
+add-i c = search needs
+
+loop-less : tie.Need-loop-less Inv-loop μ-loop
+loop-less c = search needs
+
+loop-again : tie.Need-loop-again Inv-loop μ-loop
+loop-again c =
+    let loop = c .before .before .before in
+    let marks = now (loop .before .before .args .marks) in (
+      omega (arith, c .one .ensures, loop .loop .inv .0, many-turn marks (loop .loop .i) (omega arith)),
+      omega (arith, c .one .ensures, one-few (getD marks (loop .loop .i) false)),
+      omega arith,
+    )
+
+returns : tie.Need-returns Inv-loop μ-loop
+returns c = omega (arith, c .before .loop .inv .0, many-done (now (c .before .before .before .args .marks)) (c .before .loop .i) (omega arith))
+
+pub many-spec : {M : Type 1} → statement M
+many-spec =
+    tie.close
+    (tie.spec
+    Inv-loop
+    μ-loop
+    loop-holds
+    shared-slice-read-one
+    one-requires
+    add-count
+    add-i
+    loop-less
+    loop-again
+    returns)
