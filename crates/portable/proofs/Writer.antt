@@ -55,7 +55,7 @@ reads-back bytes t a =
     (reads-back-by layout layout-lawful (readable bytes) (locked bytes) (numbersOf t) bytes (accepted bytes t .0 a .counted) a))
 
 -- a timing keeps the numbers that were read
-numbers-kept : (bytes : List ℕ) → numbersOf (timingOf (readNumbers table bytes)) ≡ readNumbers table bytes
+pub numbers-kept : (bytes : List ℕ) → numbersOf (timingOf (readNumbers table bytes)) ≡ readNumbers table bytes
 unfolding timingOf readNumbers readFrom table
 numbers-kept bytes = refl
 

@@ -41,7 +41,7 @@ pub struct Read {
 
 impl Timing {
     // The numbers in table order, each in its low 16 bits, as a timing.
-    fn of(numbers: [u32; 14]) -> Timing
+    pub fn of(numbers: [u32; 14]) -> Timing
         ensures { λ r. ⌜ r ≡ timingBy (λ (k : ℕ). getD numbers k 0 % 65536) ⌝ }
     {
         Timing {
