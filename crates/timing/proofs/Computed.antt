@@ -23,7 +23,7 @@ use Rattle.timing.specs.Ranges.{ranges}
 use Rattle.timing.specs.Table.{table}
 
 -- the pieces lie in the file's registers and are disjoint
-table-fits : (w : Bool) → T (fitting registerCount (table w))
+pub table-fits : (w : Bool) → T (fitting registerCount (table w))
 unfolding fitting disjoint present piecesOf piecesReach pieceReach table
 table-fits true = tt
 table-fits false = tt
@@ -64,7 +64,7 @@ numbers-below w registers k h =
     (read-below (2 ^ 16) 0 (take 14 (table w)) registers (first-bounded w) k (omega (arith, first-count w)))
 
 -- its pieces lie in stored bits, which both chips share
-table-stored : (chip : Chip) (w : Bool) → T (storable (storedTable chip) (piecesOf (table w)))
+pub table-stored : (chip : Chip) (w : Bool) → T (storable (storedTable chip) (piecesOf (table w)))
 unfolding storable piecesOf pieceReach table within store storedTable registers singles sequencer crtc graphics attribute pipeline
 table-stored chip true = tt
 table-stored chip false = tt
