@@ -38,6 +38,10 @@ offset          -       CR1B[4] CR13[7] CR13[6] CR13[5] CR13[4:0]
 """
 # 01, 'Timing': value+5, value+1, value+2
 PLUS = {"H total": 5, "H display": 1, "V total": 2, "V display": 1}
+# The ranges as they were settled, an end's from its start on; by the pieces they must come out the same.
+RANGES = {"H total": (5, 260), "H display": (1, 256), "H blank start": (0, 255), "H blank end": (1, 256), "H sync start": (0, 255),
+          "H sync end": (1, 32), "V total": (2, 1025), "V display": (1, 1024), "V blank start": (0, 1023), "V blank end": (1, 1024),
+          "V sync start": (0, 1023), "V sync end": (1, 16), "line compare": (0, 1023), "offset": (0, 511)}
 SIZE = 28
 # A list that has more bytes than these is none: DECISIONS, point 122.
 LIST_MOST = 256
@@ -124,6 +128,13 @@ class Portable:
         if len(text) > LIST_MOST or not re.fullmatch(rb"[0-9]+( [0-9]+){13}", text):
             return None
         return [int(word) for word in text.split(b" ")]
+
+
+def check_ranges():
+    for name, bits in Portable().rows:
+        least, most = (1 if name.endswith("end") else PLUS.get(name, 0)), 2 ** len(bits) - 1
+        if RANGES[name] != (least, least + most):
+            sys.exit(f"{name}: the range is not the settled one")
 
 
 # ---- Wrong copies ----
@@ -429,6 +440,7 @@ def main():
     if not options.command:
         parser.error("no COMMAND")
     command = options.command if len(options.command) > 1 else shlex.split(options.command[0])
+    check_ranges()
     return compare(command, options.seed)
 
 

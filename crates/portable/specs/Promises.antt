@@ -1,4 +1,4 @@
--- What the theorems on the reader and the writer speak of: the tests that an accepted timing passes, the bits of each byte that the numbers have.
+-- 02, 13/13: what the theorems on the reader and the writer speak of: the tests that an accepted timing passes, the bits of each byte that the numbers have.
 -- Assumes nothing.
 use Prim.Native.Nat.{ℕ, _<_}
 use mathlib.Core.Path.{_≡_}

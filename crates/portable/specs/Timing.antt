@@ -75,7 +75,7 @@ readable bytes = eqb (length bytes) 28
 unfoldable pub locked : List ℕ → Bool
 locked bytes = eqb (bit 7 (getD bytes 0x11 0)) 1
 
--- 'Timing .. readers .. answer 12 with all numbers 0'. The lock refuses no read, and screen start is not read
+-- 01, 'Timing .. readers .. answer 12 with all numbers 0'. The lock refuses no read, and screen start is not read
 unfoldable pub readTiming : List ℕ → Read
 readTiming bytes =
     cond (readable bytes)

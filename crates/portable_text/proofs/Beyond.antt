@@ -17,6 +17,7 @@ use Rattle.bits.proofs.Test.{by-test, is-true, left, passes, right}
 use Rattle.modes.specs.Form.{every, valueOf}
 use Rattle.file.specs.declared.answer.Answer.the-variants.{Done, Locked, OutOfRange, NotSound}
 use Rattle.timing.specs.Layout.{answerBy}
+use Rattle.timing.proofs.Layouts.{accepted-by}
 use Rattle.portable.specs.Table.{table, layout}
 use Rattle.portable.specs.Timing.{locked, numbersOf, readable, timingAnswer, timingOf}
 use Rattle.portable_text.specs.Numbers.{heldOf, isList, listedBy, listedIn, noList, number, parts}
@@ -93,3 +94,26 @@ unfolding timingAnswer listedIn allInRange
 held-alike bytes text t =
     ap (answerBy layout (readable bytes) (locked bytes)) (listed-numbers (parts text) t)
     ∙ by-ranges (readable bytes) (locked bytes) (map heldOf (parts text)) (map valueOf (parts text)) (held-ranges 0 table (parts text) table-low)
+
+-- numbers in their ranges are held as they are
+held-values : (last : ℕ) (table : List Number) (ps : List (List ℕ)) → T (bounded 65535 last table) → T (rangesFrom last table (map valueOf ps))
+    → map heldOf ps ≡ map valueOf ps
+unfolding rangesFrom heldOf
+held-values last [] [] t r = refl
+held-values last [] (p ∷ ps) t r = absurd r
+held-values last (n ∷ ns) [] t r = refl
+held-values last (n ∷ ns) (p ∷ ps) t r =
+    let here = inRange (n .meaning) (width (n .pieces)) last (valueOf p) in
+    let rest = rangesFrom (valueOf p) ns (map valueOf ps) in
+    let low = range-most (n .meaning) (width (n .pieces)) last (valueOf p) (is-true here (left here rest r)) in
+    ap₂ (λ (v : ℕ) (vs : List ℕ). v ∷ vs) (within (valueOf p) (omega (arith, low, bounded-first 65535 last n ns t)))
+    (held-values (valueOf p) ns ps (bounded-rest 65535 last (valueOf p) n ns low t) (right here rest r))
+
+-- and so what an accepted list is written with are the numbers that it says
+pub held-same : (bytes text : List ℕ) → T (isList (parts text)) → timingAnswer bytes (listedIn text .timing) ≡ Done 0
+    → numbersOf (listedIn text .timing) ≡ map valueOf (parts text)
+unfolding listedIn allInRange
+held-same bytes text t done =
+    listed-numbers (parts text) t
+    ∙ held-values 0 table (parts text) table-low
+    (accepted-by layout (readable bytes) (locked bytes) (map valueOf (parts text)) .0 (sym (held-alike bytes text t) ∙ done) .ranged)

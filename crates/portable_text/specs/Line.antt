@@ -1,4 +1,4 @@
--- 02, 13/13, the reader's answer as a line: 'the code and the fourteen numbers .., decimal, one space between'.
+-- The program of 02, 13/13 (DECISIONS, point 125): the reader's answer as a line, the code and the fourteen numbers.
 -- Assumes nothing.
 use Prim.Native.Nat.{ℕ}
 use mathlib.Core.List.{List, []}

@@ -1,4 +1,4 @@
--- 02, 13/13, the writer's numbers as a text: fourteen of them, 'decimal, one space between'.
+-- The program of 02, 13/13 (DECISIONS, points 120 to 123 and 125): the writer's numbers as a text, fourteen of them.
 -- Assumes nothing.
 use Prim.Native.Nat.{ℕ, min}
 use mathlib.Core.Bool.{Bool, true, false, cond, _&&_}

@@ -1,4 +1,4 @@
--- How the code goes through a list of numbers, byte by byte: no part of what a list is.
+-- The program of 02, 13/13: how the code goes through a list of numbers, byte by byte; no part of what a list is.
 -- Assumes nothing.
 use Prim.Native.Nat.{ℕ, _+_, _-_, _*_, _%_, min}
 use mathlib.Core.Bool.{Bool, true, false, cond, _&&_}

@@ -1,5 +1,5 @@
 -- 02, 13/13: 'Both chips' reading, writing and ranges are proved once over a list of pieces.' A layout is a table of numbers in pieces, with its
--- ranges; the reader and the writer of any.
+-- ranges; here is the writer of any.
 -- Assumes nothing.
 use Prim.Native.Nat.{ℕ, _+_, _-_, _^_}
 use mathlib.Core.Path.{_≡_}
@@ -49,12 +49,12 @@ pub record Lawful (l : Layout) : Type 0 where
   pub stores : T (storable (l .stored) (piecesOf (l .table)))
   pub column : map rowRange (l .table) ≡ l .ranges
 
--- 'Timing writer: 12, 8, 10': whether the registers may be read at all, whether they are locked, and the numbers
+-- 01, 'Timing writer: 12, 8, 10': whether the registers may be read at all, whether they are locked, and the numbers
 unfoldable pub answerBy : Layout → Bool → Bool → List ℕ → Answer
 answerBy l readable locked numbers =
     cond readable (cond locked Locked (cond (allInRange (l .table) numbers) (Done 0) OutOfRange)) NotSound
 
--- 'Codes from 2 up leave the file as given and lent bytes as found'; with 0 the numbers are written into their pieces
+-- 01, 'Codes from 2 up leave the file as given and lent bytes as found'; with 0 the numbers are written into their pieces
 unfoldable pub registersAfter : Layout → Answer → List ℕ → List ℕ → List ℕ
 registersAfter l answer numbers registers = cond (refused answer) registers (writeNumbers (l .table) numbers registers)
 
