@@ -23,8 +23,7 @@ use Rattle.file.specs.Sound.{sound, keeps}
 use Rattle.file.specs.State.{flipped}
 use Rattle.file.specs.declared.chip.Chip.{Chip}
 use Rattle.file.specs.declared.registers.File.{File}
-use Rattle.timing.proofs.Computed.{table-stored}
-use Rattle.timing.proofs.Kept.{written-sound}
+use Rattle.timing.proofs.Writer.{with-sound}
 use Rattle.timing.specs.Table.{table, wide}
 use Rattle.timing.specs.Timing.{numbersOf, timingAnswer, withTiming}
 use Rattle.modes.proofs.Once.{told-good, told-once}
@@ -110,7 +109,7 @@ mode-sound : (m : Mode) (f : File) → T (sound f) → T (sound (withMode m f))
 unfolding withMode withTiming withRegisters
 mode-sound m f s =
     apply-sound (flagStore (m .«h_minus») (m .«v_minus»)) (withTiming (timingSaid (m .numbers)) f) (flags-kept (f .state .chip) (m .«h_minus») (m .«v_minus»))
-    (written-sound (table (wide f)) (numbersOf (timingSaid (m .numbers))) f (table-stored (f .state .chip) (wide f)) s)
+    (with-sound (timingSaid (m .numbers)) f s)
 
 -- two answers that the contract allows are equal
 pub read-once : (line : List ℕ) (f : File) (r s : ReadLine) → ReadInto line f r → ReadInto line f s → r ≡ s

@@ -1,4 +1,5 @@
 pub mod Tests
+pub mod Standing
 pub mod Places
 pub mod Stores
 pub mod Spelled

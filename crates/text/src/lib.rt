@@ -9,6 +9,7 @@ pub use line::record_line;
 pub use line::reply_lines;
 pub use numbers::capture_line;
 pub use numbers::cursor_line;
+pub use numbers::numbers_line;
 pub use numbers::plain_text;
 pub use numbers::spaced_numbers;
 pub use numbers::timing_line;

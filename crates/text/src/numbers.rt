@@ -87,7 +87,7 @@ pub fn spaced_numbers(buffer: &mut [u8], at: usize, minus: &[bool], numbers: &[u
 }
 
 // A word and numbers behind it, from a place of the buffer on.
-fn numbers_line(
+pub fn numbers_line(
     buffer: &mut [u8],
     at: usize,
     word: &[u8],

@@ -3,7 +3,7 @@
 use Prim.Native.Nat.{ℕ, _^_, _<_}
 use mathlib.Core.Path.{_≡_, refl, sym, ap, _∙_, subst}
 use mathlib.Core.Bool.{Bool, true, false}
-use mathlib.Core.List.{List}
+use mathlib.Core.List.{List, map}
 use native.Mathlib.Omega.{arith}
 use lib.Dec.{T}
 use lib.ListN.{length, getD, take}
@@ -16,8 +16,10 @@ use Rattle.bits.specs.Words.{most, bounded, readWords}
 use Rattle.bits.proofs.Bounded.{words-numbers, read-below, read-first}
 use Rattle.file.specs.declared.chip.Chip.{Chip}
 use Rattle.file.specs.Names.{CR1A, CR1B}
-use Rattle.file.specs.Registers.{registerCount, storedBits, storedTable, registers, singles, sequencer, crtc, graphics, attribute, pipeline}
-use Rattle.timing.specs.Promises.{storable, free, unused}
+use Rattle.file.specs.Registers.{registerCount, storedTable, registers, singles, sequencer, crtc, graphics, attribute, pipeline}
+use Rattle.timing.specs.Layout.{layout, rangeOf, rowRange, storable, Lawful}
+use Rattle.timing.specs.Promises.{free, unused}
+use Rattle.timing.specs.Ranges.{ranges}
 use Rattle.timing.specs.Table.{table}
 
 -- the pieces lie in the file's registers and are disjoint
@@ -62,8 +64,8 @@ numbers-below w registers k h =
     (read-below (2 ^ 16) 0 (take 14 (table w)) registers (first-bounded w) k (omega (arith, first-count w)))
 
 -- its pieces lie in stored bits, which both chips share
-pub table-stored : (chip : Chip) (w : Bool) → T (storable chip (piecesOf (table w)))
-unfolding storable piecesOf pieceReach table within store storedBits storedTable registers singles sequencer crtc graphics attribute pipeline
+pub table-stored : (chip : Chip) (w : Bool) → T (storable (storedTable chip) (piecesOf (table w)))
+unfolding storable piecesOf pieceReach table within store storedTable registers singles sequencer crtc graphics attribute pipeline
 table-stored chip true = tt
 table-stored chip false = tt
 
@@ -83,3 +85,14 @@ pub wide-reach : (w : Bool) → tableReach (table w) CR1B ≡ 0x1D
 unfolding tableReach piecesOf piecesReach pieceReach table
 wide-reach true = refl
 wide-reach false = refl
+
+-- 01's column of ranges is what its pieces and meanings give
+column : (w : Bool) → map rowRange (table w) ≡ ranges w
+unfolding rowRange rangeOf width table ranges
+column true = refl
+column false = refl
+
+-- so the laws of layouts hold of each
+pub layout-lawful : (chip : Chip) (w : Bool) → Lawful (layout chip w)
+unfolding storedTable
+layout-lawful chip w = record { fits = table-fits w; stores = table-stored chip w; column = column w }

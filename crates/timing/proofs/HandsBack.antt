@@ -6,9 +6,9 @@ use mathlib.Core.List.{[], _∷_}
 use mathlib.Core.Logic.{_↔_}
 use native.Mathlib.Omega.{arith}
 use lib.Dec.{T}
-use Rattle.bits.specs.Numbers.{readNumbers, allInRange}
+use Rattle.bits.specs.Numbers.{readNumbers}
 use Rattle.bits.proofs.Test.{by-test, chosen}
-use Rattle.file.specs.declared.answer.Answer.the-variants.{Done, Locked, OutOfRange, NotSound}
+use Rattle.file.specs.declared.answer.Answer.the-variants.{Done}
 use Rattle.file.specs.declared.registers.File.{File}
 use Rattle.file.specs.Answers.{codeOf, oneOf}
 use Rattle.file.specs.File.{crtcLocked}
@@ -16,10 +16,12 @@ use Rattle.file.specs.Sound.{sound}
 use Rattle.timing.specs.declared.Read.{Read}
 use Rattle.timing.specs.declared.Timing.{Timing}
 use Rattle.timing.specs.declared.Written.{Written}
+use Rattle.timing.specs.Layout.{layout, answerBy}
 use Rattle.timing.specs.Ranges.{allLieIn, ranges}
 use Rattle.timing.specs.Table.{table, wide}
 use Rattle.timing.specs.Timing.{timingOf, numbersOf, timingIn, readTiming, timingAnswer, writeTiming}
 use Rattle.timing.proofs.Cases.{read-unsound, read-done}
+use Rattle.timing.proofs.Layouts.{codes-by}
 use Rattle.timing.proofs.Ranges.{read-in-ranges, accepted-in-ranges}
 use Rattle.timing.proofs.Writer.{reads-back}
 
@@ -41,18 +43,13 @@ module _ (f : File) (r : Read) (met : r ≡ readTiming f) where
       (λ n. let z : _≡_ {A = ℕ} 12 0 = ap (λ (x : Read). codeOf (x .answer)) (read-unsound f (timingOf []) n refl ∙ sym met) ∙ ap codeOf done in
       absurd (omega arith))
 
-answer-codes : (f : File) (t : Timing) → T (oneOf (0 ∷ 8 ∷ 10 ∷ 12 ∷ []) (timingAnswer f t))
-unfolding oneOf codeOf timingAnswer
-answer-codes f t =
-    chosen (oneOf (0 ∷ 8 ∷ 10 ∷ 12 ∷ [])) (sound f) _ NotSound
-    (chosen (oneOf (0 ∷ 8 ∷ 10 ∷ 12 ∷ [])) (crtcLocked f) Locked _ tt
-    (chosen (oneOf (0 ∷ 8 ∷ 10 ∷ 12 ∷ [])) (allInRange (table (wide f)) (numbersOf t)) (Done 0) OutOfRange tt tt)) tt
-
 module _ (f : File) (t : Timing) (w : Written) (met : w ≡ writeTiming f t) where
   -- the writer's code is 0, 8, 10 or 12
   pub written-codes : T (oneOf (0 ∷ 8 ∷ 10 ∷ 12 ∷ []) (w .answer))
-  unfolding writeTiming
-  written-codes = subst (λ (x : Written). T (oneOf (0 ∷ 8 ∷ 10 ∷ 12 ∷ []) (x .answer))) (sym met) (answer-codes f t)
+  unfolding writeTiming timingAnswer answerBy
+  written-codes =
+      subst (λ (x : Written). T (oneOf (0 ∷ 8 ∷ 10 ∷ 12 ∷ []) (x .answer))) (sym met)
+      (codes-by (layout (f .state .chip) (wide f)) (sound f) (crtcLocked f) (numbersOf t))
 
   -- in a sound and unlocked file it is 0 exactly where each number lies in 01's range
   pub written-in-ranges : T (sound f) → crtcLocked f ≡ false → (w .answer ≡ Done 0) ↔ T (allLieIn (ranges (wide f)) (numbersOf t))

@@ -1,6 +1,6 @@
+pub mod Layouts
 pub mod Computed
 pub mod Cases
-pub mod Kept
 pub mod Writer
 pub mod Ranges
 pub mod HandsBack

@@ -8,44 +8,46 @@ use mathlib.Core.Logic.{_↔_}
 use native.Mathlib.Omega.{arith}
 use lib.Bits.{bitAnd}
 use lib.Dec.{T, eqb}
-use lib.ListN.{getD, length}
+use lib.ListN.{getD}
 use Rattle.bits.specs.Numbers.{Number, readFrom, readNumbers, allInRange, writeNumbers}
-use Rattle.bits.specs.Reach.{tableReach, fitting}
+use Rattle.bits.specs.Reach.{tableReach}
 use Rattle.bits.specs.Store.{bit}
 use Rattle.bits.proofs.Bit.{by-bits, bit-of-zero}
 use Rattle.bits.proofs.Split.{apart}
-use Rattle.bits.proofs.Tables.{written-outside, read-back, write-back, read-ranged}
-use Rattle.bits.proofs.Test.{left, right, is-true, passes}
+use Rattle.bits.proofs.Test.{left, right, is-true}
 use Rattle.file.specs.declared.answer.Answer.{Answer}
-use Rattle.file.specs.declared.answer.Answer.the-variants.{Done, Locked, OutOfRange, NotSound}
+use Rattle.file.specs.declared.answer.Answer.the-variants.{Done}
 use Rattle.file.specs.declared.registers.File.{File}
-use Rattle.file.specs.Answers.{refused, codeOf}
+use Rattle.file.specs.Answers.{refused}
 use Rattle.file.specs.File.{register, withRegisters, crtcLocked}
 use Rattle.file.specs.Names.{CR1A, CR1B}
-use Rattle.file.specs.Sound.{sound}
-use Rattle.file.proofs.Soundness.{sound-count}
+use Rattle.file.specs.Registers.{storedTable}
+use Rattle.file.specs.Sound.{allWithin, sound}
+use Rattle.file.proofs.Soundness.{registers-sound, state-sound, sound-by, sound-count}
 use Rattle.timing.specs.declared.Timing.{Timing}
+use Rattle.timing.specs.Layout.{Layout, Lawful, layout, answerBy, registersAfter, Accepted}
 use Rattle.timing.specs.Promises.{Passes, Free, free, noBits, unused, SameOutsideTable}
 use Rattle.timing.specs.Table.{table, wide}
 use Rattle.timing.specs.Timing.{timingOf, numbersOf, timingIn, readTiming, withTiming, timingAnswer, writtenFile, writeTiming}
-use Rattle.timing.proofs.Kept.{written-sound}
-use Rattle.timing.proofs.Computed.{table-unused, table-fits, table-stored, narrow-reach, wide-reach}
+use Rattle.timing.proofs.Computed.{layout-lawful, table-unused, narrow-reach, wide-reach}
+use Rattle.timing.proofs.Layouts.{accepted-by, others-kept, reads-back-by, read-accepted-by, writes-back-by, written-within, within-kept}
+
+abbrev layoutOf : File → Layout
+layoutOf f = layout (f .state .chip) (wide f)
+
+lawful : (f : File) → Lawful (layoutOf f)
+lawful f = layout-lawful (f .state .chip) (wide f)
 
 -- accepted if and only if the file is sound and unlocked and every number is in its range
 pub accepted : (f : File) (t : Timing) → (timingAnswer f t ≡ Done 0) ↔ Passes f t
-unfolding timingAnswer codeOf
+unfolding timingAnswer answerBy
 accepted f t = (
-  by-tests (sound f) (crtcLocked f) (allInRange (table (wide f)) (numbersOf t)) refl refl refl,
-  λ p. rw (is-true (sound f) (p .is-sound), p .unlocked, is-true (allInRange (table (wide f)) (numbersOf t)) (p .ranged)),
+  λ e. let a = by-layout .0 e in record { is-sound = a .is-readable; unlocked = a .unlocked; ranged = a .ranged },
+  λ p. by-layout .1 (record { is-readable = p .is-sound; unlocked = p .unlocked; ranged = p .ranged }),
 )
   where
-    by-tests : (s l r : Bool) → sound f ≡ s → crtcLocked f ≡ l → allInRange (table (wide f)) (numbersOf t) ≡ r
-        → cond s (cond l Locked (cond r (Done 0) OutOfRange)) NotSound ≡ Done 0 → Passes f t
-    by-tests true false true s l r e =
-        record { is-sound = passes (sound f) s; unlocked = l; ranged = passes (allInRange (table (wide f)) (numbersOf t)) r }
-    by-tests true false false s l r e = absurd (let z : _≡_ {A = ℕ} 10 0 = ap codeOf e in omega arith)
-    by-tests true true r s l r′ e = absurd (let z : _≡_ {A = ℕ} 8 0 = ap codeOf e in omega arith)
-    by-tests false l r s l′ r′ e = absurd (let z : _≡_ {A = ℕ} 12 0 = ap codeOf e in omega arith)
+    by-layout : (timingAnswer f t ≡ Done 0) ↔ Accepted (layoutOf f) (sound f) (crtcLocked f) (numbersOf t)
+    by-layout = accepted-by (layoutOf f) (sound f) (crtcLocked f) (numbersOf t)
 
 -- in a sound and unlocked file the ranges alone decide
 pub accepted-by-range : (f : File) (t : Timing) → T (sound f) → crtcLocked f ≡ false
@@ -53,23 +55,24 @@ pub accepted-by-range : (f : File) (t : Timing) → T (sound f) → crtcLocked f
 accepted-by-range f t s u =
     (λ e. accepted f t .0 e .ranged, λ r. accepted f t .1 (record { is-sound = s; unlocked = u; ranged = r }))
 
--- what holds of the file as given and of the file with the timing holds of the file after the writer
-after-writer : (P : File → Type 0) (f : File) (t : Timing) → P f → P (withTiming t f) → P (writeTiming f t .file)
-unfolding writeTiming writtenFile
-after-writer P f t p q = by-refusal (refused (timingAnswer f t))
+-- what the writer hands back is the file with the registers that its layout tells
+written-registers : (f : File) (t : Timing)
+    → writeTiming f t .file ≡ withRegisters (registersAfter (layoutOf f) (timingAnswer f t) (numbersOf t) (f .registers)) f
+unfolding writeTiming writtenFile withTiming withRegisters registersAfter
+written-registers f t = by-refusal (refused (timingAnswer f t))
   where
-    by-refusal : (b : Bool) → P (cond b f (withTiming t f))
-    by-refusal true = p
-    by-refusal false = q
+    by-refusal : (b : Bool)
+        → cond b f (withTiming t f) ≡ withRegisters (cond b (f .registers) (writeNumbers (table (wide f)) (numbersOf t) (f .registers))) f
+    by-refusal true = refl
+    by-refusal false = refl
 
 -- no other bit of the whole file moves, whatever the writer answers
 pub same-outside : (f : File) (t : Timing) → SameOutsideTable f (writeTiming f t .file)
-unfolding withTiming withRegisters register
+unfolding withRegisters register
 same-outside f t =
-    after-writer (SameOutsideTable f) f t
-    (record { registers = λ r i e. refl; palette = refl; bank = refl; state = refl })
+    subst (SameOutsideTable f) (sym (written-registers f t))
     (record {
-      registers = λ r i e. written-outside (table (wide f)) (numbersOf t) (f .registers) r i e;
+      registers = λ r i e. others-kept (layoutOf f) (timingAnswer f t) (numbersOf t) (f .registers) r i e;
       palette = refl;
       bank = refl;
       state = refl;
@@ -115,29 +118,33 @@ unfolding wide bit
 wide-kept f t =
     ap₂ (λ (x y : ℕ). eqb x 1 || eqb y 1) (wide-bits-kept f t 5 refl) (wide-bits-kept f t 7 refl)
 
+-- a sound file is sound with other registers that are within their bits
+sound-with : (f : File) (registers : List ℕ) → T (sound f) → T (allWithin (storedTable (f .state .chip)) registers)
+    → T (sound (withRegisters registers f))
+unfolding withRegisters
+sound-with f registers s w = sound-by (withRegisters registers f) w (state-sound f s)
+
+-- so it is with a timing's numbers in their pieces
+pub with-sound : (t : Timing) (f : File) → T (sound f) → T (sound (withTiming t f))
+unfolding withTiming
+with-sound t f s =
+    sound-with f _ s (written-within (storedTable (f .state .chip)) (table (wide f)) (numbersOf t) (f .registers) (lawful f .stores) (registers-sound f s))
+
 -- a timing write keeps soundness
 pub timing-sound : (f : File) (t : Timing) → T (sound f) → T (sound (writeTiming f t .file))
-unfolding withTiming
 timing-sound f t s =
-    after-writer (λ (g : File). T (sound g)) f t s (written-sound (table (wide f)) (numbersOf t) f (table-stored (f .state .chip) (wide f)) s)
+    subst (λ (g : File). T (sound g)) (sym (written-registers f t))
+    (sound-with f _ s (within-kept (layoutOf f) (lawful f) (timingAnswer f t) (numbersOf t) (f .registers) (registers-sound f s)))
 
-fits : (f : File) → T (sound f) → T (fitting (length (f .registers)) (table (wide f)))
-fits f s =
-    subst (λ (k : ℕ). T (fitting k (table (wide f)))) (sym (sound-count f s)) (table-fits (wide f))
-
--- an accepted timing is written
-accepted-file : (f : File) (t : Timing) → timingAnswer f t ≡ Done 0 → writeTiming f t .file ≡ withTiming t f
-unfolding writeTiming writtenFile refused codeOf
-accepted-file f t a = ap (λ (x : Answer). writtenFile x t f) a
-
--- and its numbers stand in the file
+-- an accepted timing's numbers stand in the file
 timing-in : (f : File) (t : Timing) → timingAnswer f t ≡ Done 0 → timingIn (writeTiming f t .file) ≡ t
-unfolding timingIn withTiming withRegisters timingOf numbersOf
+unfolding timingIn withRegisters timingOf numbersOf timingAnswer answerBy storedTable
 timing-in f t a =
     ap (λ (w : Bool). timingOf (readNumbers (table w) (writeTiming f t .file .registers))) (wide-kept f t)
-    ∙ ap (λ (g : File). timingOf (readNumbers (table (wide f)) (g .registers))) (accepted-file f t a)
+    ∙ ap (λ (g : File). timingOf (readNumbers (table (wide f)) (g .registers))) (written-registers f t)
     ∙ ap timingOf
-    (read-back (table (wide f)) (numbersOf t) (f .registers) (fits f (accepted f t .0 a .is-sound)) (accepted f t .0 a .ranged))
+    (reads-back-by (layoutOf f) (lawful f) (sound f) (crtcLocked f) (numbersOf t) (f .registers)
+    (sound-count f (accepted f t .0 a .is-sound)) a)
 
 -- an accepted timing reads back the same fifteen numbers
 pub reads-back : (f : File) (t : Timing) → timingAnswer f t ≡ Done 0
@@ -154,22 +161,24 @@ numbers-kept false registers = refl
 
 -- what is read from a file is accepted by it
 read-accepted : (f : File) → T (sound f) → crtcLocked f ≡ false → timingAnswer f (timingIn f) ≡ Done 0
-unfolding timingIn
+unfolding timingIn timingAnswer answerBy
 read-accepted f s u =
-    accepted-by-range f (timingIn f) s u .1
-    (subst (λ (ns : List ℕ). T (allInRange (table (wide f)) ns)) (sym (numbers-kept (wide f) (f .registers)))
-    (read-ranged (table (wide f)) (f .registers)))
+    ap (answerBy (layoutOf f) (sound f) (crtcLocked f)) (numbers-kept (wide f) (f .registers))
+    ∙ read-accepted-by (layoutOf f) (lawful f) (sound f) (crtcLocked f) (f .registers) s u
 
 -- and changes nothing
-read-written : (f : File) → withTiming (timingIn f) f ≡ f
-unfolding timingIn withTiming withRegisters
+read-written : (f : File) → writeTiming f (timingIn f) .file ≡ f
+unfolding timingIn withRegisters
 read-written f =
-    ap (λ (xs : List ℕ). withRegisters xs f)
-    (ap (λ (ns : List ℕ). writeNumbers (table (wide f)) ns (f .registers)) (numbers-kept (wide f) (f .registers))
-    ∙ write-back (table (wide f)) (f .registers))
+    written-registers f (timingIn f)
+    ∙ ap (λ (rs : List ℕ). withRegisters rs f)
+    (ap (λ (ns : List ℕ). registersAfter (layoutOf f) (timingAnswer f (timingIn f)) ns (f .registers)) (numbers-kept (wide f) (f .registers))
+    ∙ writes-back-by (layoutOf f) (timingAnswer f (timingIn f)) (f .registers))
 
 -- writing back what was read from a sound and unlocked file is accepted and changes nothing
 pub writes-back : (f : File) → T (sound f) → crtcLocked f ≡ false
     → writeTiming f (readTiming f .timing) ≡ record { answer = Done 0; file = f }
-unfolding readTiming writeTiming writtenFile refused codeOf
-writes-back f s u = rw (is-true (sound f) s, read-accepted f s u, read-written f)
+unfolding readTiming writeTiming
+writes-back f s u =
+    rw (is-true (sound f) s)
+    (ap₂ (λ (a : Answer) (g : File). record { answer = a; file = g }) (read-accepted f s u) (read-written f))

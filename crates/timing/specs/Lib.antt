@@ -1,4 +1,5 @@
 pub mod Table
 pub mod Ranges
+pub mod Layout
 pub mod Timing
 pub mod Promises

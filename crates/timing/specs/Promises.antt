@@ -7,14 +7,11 @@ use mathlib.Core.List.{List, [], _∷_}
 use lib.Bits.{bitAnd}
 use lib.Dec.{T, eqb}
 use Rattle.bits.specs.Numbers.{Number, allInRange}
-use Rattle.bits.specs.Pieces.{Piece, pieceReach}
 use Rattle.bits.specs.Reach.{tableReach}
-use Rattle.bits.specs.Store.{bit, within}
-use Rattle.file.specs.declared.chip.Chip.{Chip}
+use Rattle.bits.specs.Store.{bit}
 use Rattle.file.specs.declared.registers.File.{File}
 use Rattle.file.specs.File.{register, crtcLocked}
 use Rattle.file.specs.Names.{CR3, CR5, CR9, CR11, CR1A, CR1B}
-use Rattle.file.specs.Registers.{storedBits}
 use Rattle.file.specs.Sound.{sound}
 use Rattle.timing.specs.declared.Timing.{Timing}
 use Rattle.timing.specs.Table.{table, wide}
@@ -25,11 +22,6 @@ pub record Passes (f : File) (t : Timing) : Type 0 where
   pub is-sound : T (sound f)
   pub unlocked : crtcLocked f ≡ false
   pub ranged : T (allInRange (table (wide f)) (numbersOf t))
-
--- each piece lies in a chip's stored bits
-unfoldable pub storable : Chip → List Piece → Bool
-storable chip [] = true
-storable chip (p ∷ ps) = within (storedBits chip (p .register)) (pieceReach p) && storable chip ps
 
 -- bits of the table's registers that belong to no number
 pub record Free : Type 0 where

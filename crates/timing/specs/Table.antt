@@ -11,13 +11,13 @@ use Rattle.file.specs.declared.registers.File.{File}
 use Rattle.file.specs.File.{register}
 use Rattle.file.specs.Names.{CR0, CR1, CR2, CR3, CR4, CR5, CR6, CR7, CR9, CRC, CRD, CR10, CR11, CR12, CR13, CR15, CR16, CR18, CR1A, CR1B, CR1D, CR1E}
 
-abbrev whole : ℕ → Piece
+abbrev pub whole : ℕ → Piece
 whole register = piece register 7 0
 
-abbrev one : ℕ → ℕ → Piece
+abbrev pub one : ℕ → ℕ → Piece
 one register place = piece register place place
 
-abbrev number : Meaning → List Piece → Number
+abbrev pub number : Meaning → List Piece → Number
 number meaning pieces = record { pieces = pieces; meaning = meaning }
 
 -- 'CR1A's blank pieces count only if CR1B[5] or CR1B[7] is 1; otherwise the ends have 6 and 8 bits and CR1A[7:4] isn't touched.'
