@@ -1,7 +1,6 @@
 // For bench/run: runs the trace on standard input from power-on and prints nothing of it; then does one thing some hundred times with
-// the file that it ends in. Words: `run`, or `flat`, the run by the plain engine; or `read`, `write` (the timing), `access` (one by value), `plan` or
-// `restore` (from power-on) and a digit for the hundreds. The number that it prints hangs on all that it did.
-use access::Record;
+// the file that it ends in. Words: `run`, or `flat`, the run by the plain engine; or `read`, `write` (the timing), `plan` or `restore` (from
+// power-on) and a digit for the hundreds. The number that it prints hangs on all that it did.
 use engines::Engine;
 use engines::run_by;
 use file::Chip;
@@ -110,28 +109,6 @@ fn write_many(file: File, timing: Timing, times: u64) -> u64 {
     sum
 }
 
-// A write of SRX by its port, each into the file that the one before left.
-fn access_many(file: File, times: u64) -> u64 {
-    let mut current = file;
-    let mut sum = 0;
-    let mut left = times;
-    while left > 0 {
-        let asked = Record {
-            kind: 3,
-            width: 1,
-            address: 0x3C4,
-            value: 5,
-        };
-        let done = asked.access(current);
-        let answer = done.answer;
-        let after = done.file;
-        current = after;
-        sum = mix(sum, to_u64(answer.code()));
-        left -= 1;
-    }
-    sum
-}
-
 // The first byte of a word that the program was started with; the third of `restore`, which begins as `read` does.
 fn letter(place: usize) -> u8 {
     let mut word = [0u8; 16];
@@ -153,8 +130,6 @@ fn main() {
     let times = to_u64(letter(2)) % 16 * 100;
     let done = if what == b'w' {
         write_many(file, read_timing(file).timing, times)
-    } else if what == b'a' {
-        access_many(file, times)
     } else {
         look_many(what, file, times)
     };

@@ -1,7 +1,7 @@
--- `access_many` is safe and ends, as `run_input` does. Assumes nothing.
+-- `access_many` is safe and ends. Assumes nothing.
 use native.Mathlib.Omega.{arith}
-use Rattle.measured.proofs.access_many.Statement.{statement}
-use Rattle.measured.proofs.access_many.Tie as tie
+use Rattle.one_access.proofs.access_many.Statement.{statement}
+use Rattle.one_access.proofs.access_many.Tie as tie
 
 abbrev Inv-loop : tie.InvT-loop
 Inv-loop times current₀ sum₀ left₀ current sum left = Unit {0}
