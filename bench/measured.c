@@ -1,8 +1,8 @@
 /*
  * The C side of crates/measured: runs the trace on standard input from power-on and prints nothing
  * of it; then does one thing some hundred times with the file that it ends in. Words: `run`, or
- * `flat`, which is the same here; or `read`, `write` (the timing), `plan` or `restore` (from
- * power-on) and a digit for the hundreds.
+ * `flat`, which is the same here; or `read`, `write` (the timing), `access` (one by value), `plan`
+ * or `restore` (from power-on) and a digit for the hundreds.
  */
 #include <inttypes.h>
 #include <stdio.h>
@@ -55,6 +55,16 @@ static uint64_t write_many(struct sc_file *f, unsigned times)
     return sum;
 }
 
+static uint64_t access_many(struct sc_file *f, unsigned times)
+{
+    const struct sc_record asked = {3, 1, 0x3C4, 5};
+    uint64_t sum = 0;
+
+    for (; times > 0; times--)
+        sum = mix(sum, sc_access(f, &asked).code);
+    return sum;
+}
+
 static uint64_t plan_many(const struct sc_file *f, unsigned times)
 {
     static uint8_t buffer[SC_PLAN_BYTES];
@@ -92,6 +102,8 @@ int main(int words, char **word)
 
     if (!strcmp(what, "write"))
         done = write_many(&f, times);
+    else if (!strcmp(what, "access"))
+        done = access_many(&f, times);
     else if (!strcmp(what, "plan"))
         done = plan_many(&f, times);
     else if (!strcmp(what, "restore"))

@@ -182,7 +182,7 @@ fn is_locked_out(registers: &[u16; REGISTERS], number: usize) -> bool
     false
 }
 
-fn is_locked(registers: &[u16; REGISTERS]) -> bool
+pub fn is_locked(registers: &[u16; REGISTERS]) -> bool
     ensures { λ r. ⌜ r ≡ crtcLocked (seen (now (registers .entry)) unasked) ⌝ }
 {
     registers[CR11] / 128 % 2 == 1
@@ -204,7 +204,7 @@ fn reach_in(stored: &[u16; REGISTERS], registers: &[u16; REGISTERS], number: usi
 }
 
 // B0[7] stops the palette, and so does static sync, CR1A[3:2].
-fn is_palette_up(registers: &[u16; REGISTERS]) -> bool
+pub fn is_palette_up(registers: &[u16; REGISTERS]) -> bool
     ensures { λ r. ⌜ r ≡ paletteUp (seen (now (registers .entry)) unasked) ⌝ }
 {
     if registers[B0] / 128 % 2 != 0 {
@@ -328,7 +328,7 @@ fn write_pixel(registers: &[u16; REGISTERS], state: State, value: u16) -> Decisi
 }
 
 // The line that the display is at, reduced by the total.
-fn line_shown(registers: &[u16; REGISTERS], state: State) -> u16
+pub fn line_shown(registers: &[u16; REGISTERS], state: State) -> u16
     ensures { λ r. ⌜ r ≡ lineShown (seen (now (registers .entry)) state) ⌝ }
 {
     state.line % timing::v_total(registers).0
@@ -410,14 +410,14 @@ fn read_pixel(registers: &[u16; REGISTERS], state: State) -> Decision
 }
 
 // What B0 reads: the last pixel data access in its low bits.
-fn palette_state(registers: &[u16; REGISTERS], state: State) -> u16
+pub fn palette_state(registers: &[u16; REGISTERS], state: State) -> u16
     ensures { λ r. ⌜ r ≡ storeBits shownState (getD (now (registers .entry)) B0Number 0) (state .marks) ⌝ }
 {
     bits::store(0x07, registers[B0], state.marks as u16)
 }
 
 // What PCI02 reads.
-fn device_id(state: State) -> u16
+pub fn device_id(state: State) -> u16
     ensures { λ r. ⌜ r ≡ pci02 (state .chip) ⌝ }
 {
     let chip = state.chip;
@@ -425,7 +425,7 @@ fn device_id(state: State) -> u16
 }
 
 // What 10Ch reads: on the 5462 two of its bits read 1.
-fn v_port_state(registers: &[u16; REGISTERS], state: State) -> u16
+pub fn v_port_state(registers: &[u16; REGISTERS], state: State) -> u16
     ensures { λ r. ⌜ r ≡ vPortState (seen (now (registers .entry)) state) ⌝ }
 {
     let chip = state.chip;
@@ -444,7 +444,7 @@ fn is_in_sync(registers: &[u16; REGISTERS], line: u16) -> bool
 }
 
 // What 3?Ah reads: bit 3 in vertical sync, bit 0 past the display.
-fn display_state(registers: &[u16; REGISTERS], state: State) -> u16
+pub fn display_state(registers: &[u16; REGISTERS], state: State) -> u16
     ensures { λ r. ⌜ r ≡ displayState (seen (now (registers .entry)) state) ⌝ }
 {
     let line = line_shown(registers, state);

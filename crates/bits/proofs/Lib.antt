@@ -12,4 +12,5 @@ pub mod Enough
 pub mod Encoded
 pub mod Bounded
 pub mod Rows
+pub mod Steps
 pub mod Walk

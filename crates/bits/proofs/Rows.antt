@@ -9,14 +9,24 @@ use borrow.Author.Tests.{leb-true, leb-false}
 use lib.Dec.{leb}
 use lib.ListN.{length, getD, set, take, drop, drop-of-length-le, take-append-drop}
 use lib.Seq.{take-suc-set, drop-set-lt}
-use Rattle.bits.specs.Encoded.{pieceOf, meaningOf, rowOf, tableOf}
+use Rattle.bits.specs.Encoded.{pieceOf, meaningOf, numberOf, rowOf, tableOf}
 use Rattle.bits.specs.Numbers.{Number, meant, storedFor, inRange, rangesFrom, allInRange, writeNumbers}
 use Rattle.bits.specs.Pieces.{width, gather, scatter}
 use Rattle.bits.specs.Words.{word, readWords}
 use Rattle.bits.proofs.Encoded.{from-next, next-row, no-row}
-use Rattle.bits.proofs.Enough.{meant-enough, range-enough}
+use Rattle.bits.proofs.Enough.{meant-enough}
 use Rattle.bits.proofs.Split.{gather-lt}
 use Rattle.bits.proofs.Test.{by-test, and-false}
+
+-- the number that code found is the word of its meaning and its pieces
+pub number-word : (meaning : ℕ) (pieces registers : List ℕ) (last n stored number : ℕ) → stored ≡ gather registers (map pieceOf pieces) % 2 ^ 32
+    → number ≡ meant (meaningOf meaning) n last stored % 2 ^ 32 → n ≡ min 32 (width (map pieceOf pieces))
+    → number ≡ word last (numberOf meaning pieces) registers
+unfolding word
+number-word meaning pieces registers last n stored number e m is-width =
+    m
+    ∙ ap₂ (λ (x y : ℕ). meant (meaningOf meaning) x last y % 2 ^ 32) is-width e
+    ∙ meant-enough (meaningOf meaning) (width (map pieceOf pieces)) last (gather registers (map pieceOf pieces)) (gather-lt (map pieceOf pieces) registers)
 
 -- a turn of a loop over the rows: a row, and the part of the pieces that code found for it
 pub record Turn (rows pieces : List ℕ) (k : ℕ) (part : List ℕ) : Type 0 where
@@ -24,60 +34,47 @@ pub record Turn (rows pieces : List ℕ) (k : ℕ) (part : List ℕ) : Type 0 wh
   pub is-part : part ≡ take (getD rows k 0 % 16) (drop (getD rows k 0 / 256) pieces)
 
 module _ {rows pieces : List ℕ} {k : ℕ} {part : List ℕ} (turn : Turn rows pieces k part) where
-  -- the number that code found is the row's word
-  row-word : (registers : List ℕ) (last stored number : ℕ) → stored ≡ gather registers (map pieceOf part) % 2 ^ 32
-      → number ≡ meant (meaningOf (getD rows k 0 / 16 % 16)) (min 32 (width (map pieceOf part))) last stored % 2 ^ 32
-      → number ≡ word last (rowOf pieces (getD rows k 0)) registers
-  unfolding word rowOf
-  row-word registers last stored number e m =
-      m
-      ∙ ap (λ (x : ℕ). meant (meaningOf (getD rows k 0 / 16 % 16)) (min 32 (width (map pieceOf part))) last x % 2 ^ 32) e
-      ∙ meant-enough (meaningOf (getD rows k 0 / 16 % 16)) (width (map pieceOf part)) last (gather registers (map pieceOf part)) (gather-lt (map pieceOf part) registers)
-      ∙ ap (λ (l : List ℕ). meant (meaningOf (getD rows k 0 / 16 % 16)) (width (map pieceOf l)) last (gather registers (map pieceOf l)) % 2 ^ 32) (turn .is-part)
+  -- it is the row's number
+  row-number : numberOf (getD rows k 0 / 16 % 16) part ≡ rowOf pieces (getD rows k 0)
+  unfolding rowOf
+  row-number = ap (numberOf (getD rows k 0 / 16 % 16)) (turn .is-part)
 
   -- one number more is read
-  pub read-next : (registers numbers : List ℕ) (last stored number : ℕ) → k < length numbers
-      → stored ≡ gather registers (map pieceOf part) % 2 ^ 32
-      → number ≡ meant (meaningOf (getD rows k 0 / 16 % 16)) (min 32 (width (map pieceOf part))) last stored % 2 ^ 32
+  pub read-next : (registers numbers : List ℕ) (last number : ℕ) → k < length numbers
+      → number ≡ word last (numberOf (getD rows k 0 / 16 % 16) part) registers
       → take (k + 1) (set numbers k number) ++ readWords number (tableOf (drop (k + 1) rows) pieces) registers (drop (k + 1) (set numbers k number))
       ≡ take k numbers ++ readWords last (tableOf (drop k rows) pieces) registers (drop k numbers)
   unfolding readWords
-  read-next registers numbers last stored number place e m =
+  read-next registers numbers last number place e =
       ap₂ (λ (l r : List ℕ). l ++ readWords number (tableOf (drop (k + 1) rows) pieces) registers r)
       (ap (λ (x : ℕ). take x (set numbers k number)) (add-one k) ∙ take-suc-set numbers k number place)
       (drop-set-lt (k + 1) numbers k number (omega arith))
       ∙ append-assoc (take k numbers) (number ∷ []) (readWords number (tableOf (drop (k + 1) rows) pieces) registers (drop (k + 1) numbers))
       ∙ ap (λ (x : ℕ). take k numbers ++ x ∷ readWords x (tableOf (drop (k + 1) rows) pieces) registers (drop (k + 1) numbers))
-      (row-word registers last stored number e m)
+      (e ∙ ap (λ (n : Number). word last n registers) row-number)
       ∙ ap₂ (λ (t : List Number) (l : List ℕ). take k numbers ++ readWords last t registers l)
       (sym (next-row rows pieces k (turn .inside))) (sym (from-next numbers k place))
 
   -- one number more is tested
-  pub range-next : (numbers : List ℕ) (last n : ℕ) (good : Bool) → k < length numbers → getD numbers k 0 < 2 ^ 32
-      → n ≡ min 32 (width (map pieceOf part)) → good ≡ inRange (meaningOf (getD rows k 0 / 16 % 16)) n last (getD numbers k 0)
+  pub range-next : (numbers : List ℕ) (last : ℕ) (good : Bool) → k < length numbers
+      → good ≡ inRange (meaningOf (getD rows k 0 / 16 % 16)) (width (map pieceOf part)) last (getD numbers k 0)
       → rangesFrom last (tableOf (drop k rows) pieces) (drop k numbers)
       ≡ (good && rangesFrom (getD numbers k 0) (tableOf (drop (k + 1) rows) pieces) (drop (k + 1) numbers))
-  unfolding rangesFrom rowOf
-  range-next numbers last n good place small is-width e =
+  unfolding rangesFrom
+  range-next numbers last good place e =
       ap₂ (rangesFrom last) (next-row rows pieces k (turn .inside)) (from-next numbers k place)
-      ∙ ap (λ (g : Bool). g && rangesFrom (getD numbers k 0) (tableOf (drop (k + 1) rows) pieces) (drop (k + 1) numbers)) (sym found)
-    where
-      found : good ≡ inRange (meaningOf (getD rows k 0 / 16 % 16)) (width (rowOf pieces (getD rows k 0) .pieces)) last (getD numbers k 0)
-      found =
-          e
-          ∙ ap (λ (x : ℕ). inRange (meaningOf (getD rows k 0 / 16 % 16)) x last (getD numbers k 0)) is-width
-          ∙ range-enough (meaningOf (getD rows k 0 / 16 % 16)) (width (map pieceOf part)) last (getD numbers k 0) small
-          ∙ ap (λ (l : List ℕ). inRange (meaningOf (getD rows k 0 / 16 % 16)) (width (map pieceOf l)) last (getD numbers k 0)) (turn .is-part)
+      ∙ ap (λ (g : Bool). g && rangesFrom (getD numbers k 0) (tableOf (drop (k + 1) rows) pieces) (drop (k + 1) numbers))
+      (sym (e ∙ ap (λ (n : Number). inRange (n .meaning) (width (n .pieces)) last (getD numbers k 0)) row-number))
 
   -- one number more is written
-  pub write-next : (numbers registers next : List ℕ) (stored : ℕ) → k < length numbers
-      → stored ≡ storedFor (meaningOf (getD rows k 0 / 16 % 16)) (getD numbers k 0) → next ≡ scatter (map pieceOf part) stored registers
+  pub write-next : (numbers registers next : List ℕ) → k < length numbers
+      → next ≡ scatter (map pieceOf part) (storedFor (meaningOf (getD rows k 0 / 16 % 16)) (getD numbers k 0)) registers
       → writeNumbers (tableOf (drop (k + 1) rows) pieces) (drop (k + 1) numbers) next
       ≡ writeNumbers (tableOf (drop k rows) pieces) (drop k numbers) registers
-  unfolding writeNumbers rowOf
-  write-next numbers registers next stored place s e =
+  unfolding writeNumbers
+  write-next numbers registers next place e =
       ap (writeNumbers (tableOf (drop (k + 1) rows) pieces) (drop (k + 1) numbers))
-      (e ∙ ap₂ (λ (l : List ℕ) (x : ℕ). scatter (map pieceOf l) x registers) (turn .is-part) s)
+      (e ∙ ap (λ (n : Number). scatter (n .pieces) (storedFor (n .meaning) (getD numbers k 0)) registers) row-number)
       ∙ sym (ap₂ (λ (t : List Number) (l : List ℕ). writeNumbers t l registers) (next-row rows pieces k (turn .inside)) (from-next numbers k place))
 
 -- where rows or numbers end, no row or no number is left

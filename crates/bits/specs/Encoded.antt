@@ -16,10 +16,13 @@ pieceOf n = piece (n / 256) (n / 16 % 16) (n % 16)
 unfoldable pub meaningOf : ℕ → Meaning
 meaningOf k = cond (eqb k 15) endOfLast (plus k)
 
+-- a number by its meaning and its pieces
+abbrev pub numberOf : ℕ → List ℕ → Number
+numberOf meaning pieces = record { pieces = map pieceOf pieces; meaning = meaningOf meaning }
+
 -- SSMCh is a number with meaning M and the C pieces from number SS on
 unfoldable pub rowOf : List ℕ → ℕ → Number
-rowOf pieces row =
-    record { pieces = map pieceOf (take (row % 16) (drop (row / 256) pieces)); meaning = meaningOf (row / 16 % 16) }
+rowOf pieces row = numberOf (row / 16 % 16) (take (row % 16) (drop (row / 256) pieces))
 
 unfoldable pub tableOf : List ℕ → List ℕ → List Number
 tableOf rows pieces = map (rowOf pieces) rows

@@ -3,7 +3,10 @@ mod numbers;
 mod pieces;
 
 pub use numbers::all_in_range;
+pub use numbers::number_in_range;
+pub use numbers::read_number;
 pub use numbers::read_numbers;
+pub use numbers::write_number;
 pub use numbers::write_numbers;
 pub use pieces::gather;
 pub use pieces::scatter;

@@ -3,9 +3,9 @@
 ghost use mathlib.Core.Path.{_≡_};
 ghost use Prim.Native.Nat.{_+_, _/_, _%_, _^_, _≤_, min};
 ghost use lib.ListN.{take, drop};
-ghost use Rattle.bits.specs.Encoded.{pieceOf, meaningOf, tableOf};
-ghost use Rattle.bits.specs.Pieces.{width as widthOf};
-ghost use Rattle.bits.specs.Words.{readWords};
+ghost use Rattle.bits.specs.Encoded.{pieceOf, meaningOf, numberOf, tableOf};
+ghost use Rattle.bits.specs.Pieces.{width as widthOf, scatter as scatterPieces};
+ghost use Rattle.bits.specs.Words.{word, readWords};
 ghost use mathlib.Core.List.{map};
 ghost use Rattle.bits.specs.Numbers.{endAfter, meant as meantBy, storedFor, inRange, allInRange, writeNumbers};
 
@@ -48,12 +48,13 @@ fn end_after(start: u32, n: u32, low: u32) -> u32
     low_bits(end, 32) as u32
 }
 
-// The low 32 bits of the number that stored bits of a row's pieces mean, after the last one. Only an end asks for their width.
-fn meant(meaning: u16, part: &[u16], last: u32, stored: u32) -> u32
-    ensures { λ r. ⌜ r ≡ meantBy (meaningOf meaning) (min 32 (widthOf (map pieceOf (now (part .entry))))) last stored % 2 ^ 32 ⌝ }
+// The low 32 bits of the number that stored bits of a width mean, after the last one.
+fn meant(meaning: u16, n: u32, last: u32, stored: u32) -> u32
+    requires { ⌜ n ≤ 32 ⌝ }
+    ensures { λ r. ⌜ r ≡ meantBy (meaningOf meaning) n last stored % 2 ^ 32 ⌝ }
 {
     if meaning == 15 {
-        end_after(last, crate::width(part, 0), stored)
+        end_after(last, n, stored)
     } else {
         std::num::wrapping_add_u32(stored, meaning as u32)
     }
@@ -87,6 +88,34 @@ fn stored_for(meaning: u16, number: u32) -> u32
     if number < least { 0 } else { number - least }
 }
 
+fn up_to_32(n: u32) -> u32
+    ensures { λ r. ⌜ r ≡ min 32 n ⌝ }
+{
+    if n < 32 { n } else { 32 }
+}
+
+// The low 32 bits of one number, read out of its pieces after the last one. Who lends the pieces says how many bits they have.
+pub fn read_number(registers: &[u16], meaning: u16, pieces: &[u16], n: u32, last: u32) -> u32
+    ensures { λ r. ⌜ (n ≡ min 32 (widthOf (map pieceOf (now (pieces .entry)))) → r ≡ word last (numberOf meaning (now (pieces .entry))) (now (registers .entry))) ⌝ }
+{
+    let stored = crate::gather(registers, pieces);
+    meant(meaning, up_to_32(n), last, stored)
+}
+
+// Whether one number is in the range that its meaning and its pieces give, after the last one.
+pub fn number_in_range(meaning: u16, pieces: &[u16], last: u32, number: u32) -> bool
+    ensures { λ r. ⌜ r ≡ inRange (meaningOf meaning) (widthOf (map pieceOf (now (pieces .entry)))) last number ⌝ }
+{
+    in_range(meaning, crate::width(pieces, 0), last, number)
+}
+
+// One number, written into its pieces.
+pub fn write_number(registers: &mut [u16], meaning: u16, pieces: &[u16], number: u32)
+    ensures { λ _. ⌜ now (registers .exit) ≡ scatterPieces (map pieceOf (now (pieces .entry))) (storedFor (meaningOf meaning) number) (now (registers .entry)) ⌝ }
+{
+    crate::scatter(registers, pieces, stored_for(meaning, number));
+}
+
 // The numbers of the table, read out of the registers into as many places as are lent.
 pub fn read_numbers(registers: &[u16], rows: &[u16], pieces: &[u16], numbers: &mut [u32])
     ensures { λ _. ⌜ now (numbers .exit) ≡ readWords 0 (tableOf (now (rows .entry)) (now (pieces .entry))) (now (registers .entry)) (now (numbers .entry)) ⌝ }
@@ -97,8 +126,7 @@ pub fn read_numbers(registers: &[u16], rows: &[u16], pieces: &[u16], numbers: &m
     while k < count {
         let row = rows[k];
         let part = row_pieces(pieces, row);
-        let stored = crate::gather(registers, part);
-        last = meant(row / 16 % 16, part, last, stored);
+        last = read_number(registers, row / 16 % 16, part, crate::width(part, 0), last);
         numbers[k] = last;
         k += 1;
     }
@@ -117,7 +145,7 @@ pub fn all_in_range(rows: &[u16], pieces: &[u16], numbers: &[u32]) -> bool
         let row = rows[k];
         let part = row_pieces(pieces, row);
         let number = numbers[k];
-        if !in_range(row / 16 % 16, crate::width(part, 0), last, number) {
+        if !number_in_range(row / 16 % 16, part, last, number) {
             return false;
         }
         last = number;
@@ -135,8 +163,7 @@ pub fn write_numbers(registers: &mut [u16], rows: &[u16], pieces: &[u16], number
     while k < count {
         let row = rows[k];
         let part = row_pieces(pieces, row);
-        let stored = stored_for(row / 16 % 16, numbers[k]);
-        crate::scatter(registers, part, stored);
+        write_number(registers, row / 16 % 16, part, numbers[k]);
         k += 1;
     }
 }

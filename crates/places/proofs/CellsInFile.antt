@@ -22,7 +22,7 @@ in-list [] i t = tt
 in-list (p ∷ ps) zero t = left (inFile p) (everyPlace ps) t
 in-list (p ∷ ps) (suc i) t = in-list ps i (right (inFile p) (everyPlace ps) t)
 
-plain-in-file : (cell : ℕ) → T (inFile (plainPlace cell))
+pub plain-in-file : (cell : ℕ) → T (inFile (plainPlace cell))
 unfolding plainPlace everyPlace
 plain-in-file cell =
     by-test (ltb cell registerCount)

@@ -7,3 +7,4 @@ pub mod IndexedPorts
 pub mod RulesOfPlaces
 pub mod CellsInFile
 pub mod SeenRows
+pub mod BehindPorts

@@ -276,6 +276,15 @@ cellWidth cell = cond (ltb cell wider) 1 2
 unfoldable pub attributePlace : Bool → ℕ → Place
 attributePlace toggle cell = cond toggle (cond (ltb cell registerCount) (Attribute cell) UnnamedAttribute) (Attribute ARX)
 
+-- the cell that the index registers choose behind an indexed port's cell; any other cell is itself
+unfoldable pub behindCell : List ℕ → List ℕ → ℕ → ℕ
+behindCell cells registers cell =
+    cond (ltb cell firstIndexed) cell
+    (cond (eqb cell 0x79) (getD cells (behindCRX + getD registers CRX 0 % countCRX) 0)
+    (cond (eqb cell 0x78) (getD cells (behindSRX + getD registers SRX 0 % countSRX) 0)
+    (cond (eqb cell 0x7A) (getD cells (behindGRX + getD registers GRX 0 % countGRX) 0)
+    (getD cells (behindARX + getD registers ARX 0 % countARX) 0))))
+
 -- what stands behind the indexed ports in a file, from their first cell on
 unfoldable pub indexedPlaces : List ℕ → File → List Place
 unfolding plainPlace attributePlace register attributeIndex

@@ -3,7 +3,7 @@
 ghost use mathlib.Core.Path.{_≡_};
 ghost use Rattle.file.specs.declared.chip.Chip.the-variants.{Gd5462, Gd5464};
 ghost use Rattle.file.specs.File.{seen};
-ghost use Rattle.places.specs.EngineCells.{cellTable, cellIn, portCell, cslCell, mmioCell, configCell, isNothing, cellWidth, plainPlace, attributePlace, cellPlace};
+ghost use Rattle.places.specs.EngineCells.{cellTable, cellIn, portCell, cslCell, mmioCell, configCell, isNothing, cellWidth, plainPlace, attributePlace, behindCell, cellPlace};
 use crate::place::Place;
 use file::ARX;
 use file::CRX;
@@ -233,7 +233,7 @@ pub fn width_of(cell: u8) -> u8
 }
 
 // What a cell names, whatever the file holds.
-fn plain(cell: u8) -> Place
+pub fn plain(cell: u8) -> Place
     ensures { λ r. ⌜ r ≡ plainPlace cell ⌝ }
 {
     let number = cell as usize;
@@ -276,6 +276,25 @@ fn to_usize(x: u16) -> usize
     ensures { λ r. ⌜ r ≡ x ⌝ }
 {
     x as usize
+}
+
+// The cell that the index registers choose behind an indexed port's; any other's is itself.
+pub fn behind(cells: &[u8; CELLS], registers: &[u16; REGISTERS], cell: u8) -> u8
+    ensures { λ r. ⌜ r ≡ behindCell (now (cells .entry)) (now (registers .entry)) cell ⌝ }
+{
+    if cell < FIRST_INDEXED {
+        return cell;
+    }
+    if cell == 0x79 {
+        return cells[BEHIND_CRX + to_usize(registers[CRX] % CRX_NUMBERS)];
+    }
+    if cell == 0x78 {
+        return cells[BEHIND_SRX + to_usize(registers[SRX] % SRX_NUMBERS)];
+    }
+    if cell == 0x7A {
+        return cells[BEHIND_GRX + to_usize(registers[GRX] % GRX_NUMBERS)];
+    }
+    cells[BEHIND_ARX + to_usize(registers[ARX] % ARX_NUMBERS)]
 }
 
 // What a cell names in a file of these registers and this state.

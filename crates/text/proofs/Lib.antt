@@ -3,6 +3,8 @@ pub mod Standing
 pub mod Places
 pub mod Stores
 pub mod Spelled
+pub mod Capitals
+pub mod Counted
 pub mod Lines
 pub mod Spaced
 pub mod Replies

@@ -1,7 +1,7 @@
 -- The digits of a number, stored from the back. Assumes nothing.
 use Prim.Native.Nat.{ℕ, zero, suc, _+_, _-_, _*_, _/_, _%_, _<_}
 use mathlib.Core.Path.{_≡_, refl, sym, _∙_}
-use mathlib.Core.List.{List, _++_}
+use mathlib.Core.List.{List}
 use native.Mathlib.Nat.{mod-lt, div-div-eq-div-mul}
 use native.Mathlib.Omega.{arith}
 use borrow.Author.Tests.{lt-ltb}
@@ -10,7 +10,6 @@ use lib.Dec.{lit<}
 use lib.ListN.{length, set, length-append}
 use lib.Seq.{sets}
 use Rattle.io.specs.Digits.{digits}
-use Rattle.text.specs.Text.{space}
 use Rattle.text.proofs.Stores.{sets-last}
 
 pub digits-length : (k n : ℕ) → length (digits 10 k n) ≡ k
@@ -42,7 +41,3 @@ spell-pair l at i n h =
 -- one digit, and none is left
 pub spell-one : (l : List ℕ) (at n : ℕ) → set l at (48 + n % 10) ≡ sets l at (digits 10 1 n)
 spell-one l at n = rw (lt-ltb (n % 10) 10 (mod-lt n (lit< tt)))
-
-pub spaced-length : (k n : ℕ) → length (digits 10 k n ++ space) ≡ k + 1
-unfolding space
-spaced-length k n = rw (length-append, digits-length) refl

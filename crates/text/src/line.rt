@@ -1,17 +1,18 @@
 // The line of a record, and the lines of replies.
 ghost use mathlib.Core.Path.{_≡_};
 ghost use mathlib.Core.List.{_++_};
-ghost use Prim.Native.Nat.{ℕ, _+_, _*_, _≤_};
+ghost use Prim.Native.Nat.{ℕ, _+_, _*_, _≤_, _<_};
 ghost use lib.Dec.{leb};
 ghost use lib.ListN.{length, getD};
-ghost use Rattle.io.specs.Digits.{digits};
 ghost use Rattle.trace.specs.Records.{two as twoIn};
+ghost use Rattle.text.specs.Counted.{Next, Spells};
 ghost use Rattle.text.specs.Lent.{Lined, Wrote, roomAnswer};
-ghost use Rattle.text.specs.Text.{allLines, lineOf, linesAnswer, numbersFit, replyLines, space};
+ghost use Rattle.text.specs.Text.{allLines, decimal, decimalPlaces, hexFour, lineOf, linesAnswer, newline, numbersFit, replyLines, space};
 use crate::number::byte;
 use crate::number::hex;
 use crate::number::places;
 use crate::number::spell;
+use crate::numbers::copy;
 use crate::placed::Placed;
 use crate::placed::has_room;
 use file::Answer;
@@ -108,30 +109,52 @@ fn line_size(number: u64, code: u8) -> usize
     places(number) + places(code as u64) + 7
 }
 
-// The lines of so many replies, from a place of a buffer that has room for them on; the place behind them.
+// The lines of so many replies, from a place of a buffer that has room for them on; the place behind them. The number is counted up in its
+// digits; behind a 9 it is spelled, and so is the first.
 fn lines(number: u64, count: usize, replies: &[u8], buffer: &mut [u8], at: usize) -> usize
     requires { ⌜ 8 * count ≤ length (now replies) ⌝ }
     requires { ⌜ at + length (replyLines count number (now replies)) ≤ length (now buffer) ⌝ }
     requires { ⌜ number + count ≤ 18446744073709551616 ⌝ }
     ensures { λ r. ⌜ Wrote (now (buffer .entry)) at (replyLines count number (now (replies .entry))) (now (buffer .exit)) r ⌝ }
 {
+    let mut figures = [b'9'; 20];
+    let mut size: usize = 1;
     let mut at = at;
     let mut n: usize = 0;
     while n < count {
-        at = reply_line(number + n as u64, replies, 8 * n, buffer, at);
+        size = count_up(number + n as u64, &mut figures, size);
+        at = reply_line(&figures[..size], replies, 8 * n, buffer, at);
         n += 1;
     }
     at
 }
 
-// The line of the reply from a place on.
-fn reply_line(number: u64, replies: &[u8], from: usize, buffer: &mut [u8], at: usize) -> usize
+// The digits of a number from those of the one before it, whose last goes up by one; behind a 9 all are spelled. How many there are.
+fn count_up(number: u64, figures: &mut [u8; 20], size: usize) -> usize
+    requires { ⌜ (0 < size) × (size ≤ 20) ⌝ }
+    requires { ⌜ Next number (now figures) size ⌝ }
+    ensures { λ r. ⌜ (0 < r) × (r ≤ 20) ⌝ }
+    ensures { λ r. ⌜ Spells number (now (figures .exit)) r ⌝ }
+{
+    let last = figures[size - 1];
+    if last < b'9' {
+        figures[size - 1] = last + 1;
+        return size;
+    }
+    let size = places(number);
+    spell(number, size, figures, 0);
+    size
+}
+
+// The line of the reply from a place on, whose number has these digits.
+fn reply_line(figures: &[u8], replies: &[u8], from: usize, buffer: &mut [u8], at: usize) -> usize
     requires { ⌜ from + 8 ≤ length (now replies) ⌝ }
-    requires { ⌜ at + length (lineOf number (getD (now replies) from 0) (twoIn (now replies) (from + 4))) ≤ length (now buffer) ⌝ }
-    ensures { λ r. ⌜ Wrote (now (buffer .entry)) at (lineOf number (getD (now (replies .entry)) from 0) (twoIn (now (replies .entry)) (from + 4))) (now (buffer .exit)) r ⌝ }
+    requires { ⌜ at + length (now figures) + decimalPlaces (getD (now replies) from 0) (getD (now replies) from 0) + 7 ≤ length (now buffer) ⌝ }
+    ensures { λ r. ⌜ ((number : ℕ) → now (figures .entry) ≡ decimal number → Wrote (now (buffer .entry)) at (lineOf number (getD (now (replies .entry)) from 0) (twoIn (now (replies .entry)) (from + 4))) (now (buffer .exit)) r) ⌝ }
 {
     let value = two(replies[from + 4], replies[from + 5]);
-    line(number, replies[from], value, buffer, at)
+    let at = copy(figures, buffer, at);
+    behind_number(replies[from], value, buffer, at)
 }
 
 // A record's line, from a place of a buffer that has room for it on; the place behind it.
@@ -139,18 +162,19 @@ fn line(number: u64, code: u8, value: u16, buffer: &mut [u8], at: usize) -> usiz
     requires { ⌜ at + length (lineOf number code value) ≤ length (now buffer) ⌝ }
     ensures { λ r. ⌜ Wrote (now (buffer .entry)) at (lineOf number code value) (now (buffer .exit)) r ⌝ }
 {
-    let code = code as u64;
-    let at = spell_spaced(number, places(number), buffer, at);
-    let at = spell_spaced(code, places(code), buffer, at);
-    let at = hex(value, buffer, at);
-    byte(b'\n', buffer, at)
+    let at = spell(number, places(number), buffer, at);
+    behind_number(code, value, buffer, at)
 }
 
-// So many digits, and a space behind them.
-fn spell_spaced(n: u64, count: usize, buffer: &mut [u8], at: usize) -> usize
-    requires { ⌜ at + count + 1 ≤ length (now buffer) ⌝ }
-    ensures { λ r. ⌜ Wrote (now (buffer .entry)) at (digits 10 count n ++ space) (now (buffer .exit)) r ⌝ }
+// What a record's line has behind the number.
+fn behind_number(code: u8, value: u16, buffer: &mut [u8], at: usize) -> usize
+    requires { ⌜ at + decimalPlaces code code + 7 ≤ length (now buffer) ⌝ }
+    ensures { λ r. ⌜ Wrote (now (buffer .entry)) at (space ++ decimal code ++ space ++ hexFour value ++ newline) (now (buffer .exit)) r ⌝ }
 {
-    let at = spell(n, count, buffer, at);
-    byte(b' ', buffer, at)
+    let code = code as u64;
+    let at = byte(b' ', buffer, at);
+    let at = spell(code, places(code), buffer, at);
+    let at = byte(b' ', buffer, at);
+    let at = hex(value, buffer, at);
+    byte(b'\n', buffer, at)
 }

@@ -6,7 +6,6 @@ ghost use lib.ListN.{length};
 ghost use Rattle.io.specs.Digits.{digits};
 ghost use Rattle.text.specs.Lent.{Wrote};
 ghost use Rattle.text.specs.Text.{decimalPlaces, hexFour};
-ghost use Rattle.text.specs.Text.{capital as capitalOf};
 
 // A byte at a place; the place behind it.
 pub fn byte(b: u8, buffer: &mut [u8], at: usize) -> usize
@@ -76,22 +75,18 @@ pub fn spell(n: u64, count: usize, buffer: &mut [u8], at: usize) -> usize
     end
 }
 
-// A hex digit.
-fn capital(d: u16) -> u8
-    requires { ⌜ d < 16 ⌝ }
-    ensures { λ r. ⌜ r ≡ capitalOf d ⌝ }
-{
-    if d < 10 { 48 + d as u8 } else { 55 + d as u8 }
-}
+// The hex digits.
+const CAPITALS: [u8; 16] = *b"0123456789ABCDEF";
 
 // Four hex digits from a place on; the place behind them.
 pub fn hex(n: u16, buffer: &mut [u8], at: usize) -> usize
     requires { ⌜ at + 4 ≤ length (now buffer) ⌝ }
     ensures { λ r. ⌜ Wrote (now (buffer .entry)) at (hexFour n) (now (buffer .exit)) r ⌝ }
 {
-    buffer[at] = capital(n / 4096 % 16);
-    buffer[at + 1] = capital(n / 256 % 16);
-    buffer[at + 2] = capital(n / 16 % 16);
-    buffer[at + 3] = capital(n % 16);
+    let capitals = CAPITALS;
+    buffer[at] = capitals[(n / 4096 % 16) as usize];
+    buffer[at + 1] = capitals[(n / 256 % 16) as usize];
+    buffer[at + 2] = capitals[(n / 16 % 16) as usize];
+    buffer[at + 3] = capitals[(n % 16) as usize];
     at + 4
 }

@@ -196,7 +196,7 @@ fn to_u64(n: u32) -> u64
 }
 
 // A text from a place on; the place behind it.
-fn copy(text: &[u8], buffer: &mut [u8], at: usize) -> usize
+pub fn copy(text: &[u8], buffer: &mut [u8], at: usize) -> usize
     requires { ⌜ at + length (now text) ≤ length (now buffer) ⌝ }
     ensures { λ r. ⌜ Wrote (now (buffer .entry)) at (now (text .entry)) (now (buffer .exit)) r ⌝ }
 {

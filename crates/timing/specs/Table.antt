@@ -27,19 +27,25 @@ wide f = eqb (bit 5 (register f CR1B)) 1 || eqb (bit 7 (register f CR1B)) 1
 abbrev ifWide : Bool → Piece → List Piece
 ifWide w p = cond w (p ∷ []) []
 
+abbrev pub hBlankEnd : Bool → List Piece
+hBlankEnd w = ifWide w (piece CR1A 5 4) ++ one CR5 7 ∷ piece CR3 4 0 ∷ []
+
+abbrev pub vBlankEnd : Bool → List Piece
+vBlankEnd w = ifWide w (piece CR1A 7 6) ++ whole CR16 ∷ []
+
 -- H total, H display, H blank start, H blank end, H sync start, H sync end; V likewise; line compare, offset, screen start
 unfoldable pub table : Bool → List Number
 table w =
     number (plus 5) (one CR1E 7 ∷ whole CR0 ∷ [])
     ∷ number (plus 1) (one CR1E 6 ∷ whole CR1 ∷ [])
     ∷ number (plus 0) (one CR1E 5 ∷ whole CR2 ∷ [])
-    ∷ number endOfLast (ifWide w (piece CR1A 5 4) ++ one CR5 7 ∷ piece CR3 4 0 ∷ [])
+    ∷ number endOfLast (hBlankEnd w)
     ∷ number (plus 0) (one CR1E 4 ∷ whole CR4 ∷ [])
     ∷ number endOfLast (piece CR5 4 0 ∷ [])
     ∷ number (plus 2) (one CR1E 3 ∷ one CR7 5 ∷ one CR7 0 ∷ whole CR6 ∷ [])
     ∷ number (plus 1) (one CR1E 2 ∷ one CR7 6 ∷ one CR7 1 ∷ whole CR12 ∷ [])
     ∷ number (plus 0) (one CR1E 1 ∷ one CR9 5 ∷ one CR7 3 ∷ whole CR15 ∷ [])
-    ∷ number endOfLast (ifWide w (piece CR1A 7 6) ++ whole CR16 ∷ [])
+    ∷ number endOfLast (vBlankEnd w)
     ∷ number (plus 0) (one CR1E 0 ∷ one CR7 7 ∷ one CR7 2 ∷ whole CR10 ∷ [])
     ∷ number endOfLast (piece CR11 3 0 ∷ [])
     ∷ number (plus 0) (one CR9 6 ∷ one CR7 4 ∷ whole CR18 ∷ [])

@@ -152,8 +152,7 @@ pub fn read_timing(file: File) -> Read
             timing: Timing::none(),
         };
     }
-    let mut numbers = [0u32; 15];
-    table::read(is_wide(file.registers[CR1B]), &file.registers, &mut numbers);
+    let numbers = table::read(is_wide(file.registers[CR1B]), &file.registers);
     Read {
         answer: Answer::Done(0),
         timing: Timing::of(numbers),
@@ -178,14 +177,14 @@ pub fn write_timing(file: File, timing: Timing) -> Written
     }
     let wide = is_wide(file.registers[CR1B]);
     let numbers = timing.numbers();
-    if !table::in_range(wide, &numbers) {
+    if !table::in_range(wide, numbers) {
         return Written {
             answer: Answer::OutOfRange,
             file,
         };
     }
     let mut registers = file.registers;
-    table::write(wide, &mut registers, &numbers);
+    table::write(wide, &mut registers, numbers);
     let mut written = file;
     written.registers = registers;
     Written {

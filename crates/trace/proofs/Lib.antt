@@ -2,6 +2,7 @@ pub mod RecordBytes
 pub mod RunMore
 pub mod EffectsInParts
 pub mod ServedAccess
+pub mod SlotTurns
 pub mod RunLoop
 pub mod RunEnds
 pub mod BytesAndRecords

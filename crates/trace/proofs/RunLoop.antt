@@ -1,16 +1,18 @@
 -- What the loop of a run holds, and that one record more keeps it. Assumes nothing.
-use Prim.Native.Nat.{ℕ, _+_, _*_, _-_, _%_, _≤_, _<_}
+use Prim.Native.Nat.{ℕ, _+_, _*_, _-_, _/_, _%_, _≤_, _<_}
 use mathlib.Core.Path.{_≡_, refl, sym, ap, ap₂, _∙_, subst}
 use mathlib.Core.Bool.{Bool, true, false, cond, not, _&&_}
 use mathlib.Core.List.{List, _++_}
 use mathlib.Core.Logic.{_⊎_, inl, inr}
 use native.Mathlib.Numerals.{add-one}
 use native.Mathlib.Omega.{arith}
-use borrow.Author.Tests.{le-leb}
+use borrow.Author.Tests.{le-leb, eqb-true}
 use lib.ListN.{length, getD, set, take, drop, length-append, length-take, length-drop}
 use lib.Seq.{take-at, drop-at, drop-drop}
 use Rattle.bits.proofs.Test.{by-test}
 use Rattle.file.specs.declared.answer.Answer.{Answer}
+use Rattle.file.specs.declared.chip.Chip.{Chip}
+use Rattle.file.specs.declared.chip.Chip.the-variants.{Gd5462, Gd5464}
 use Rattle.file.specs.declared.answer.Answer.the-variants.{Done}
 use Rattle.file.specs.declared.effect.Effect.{Effect}
 use Rattle.file.specs.declared.palette.Colour.{Colour}
@@ -25,11 +27,16 @@ use Rattle.access.specs.declared.record.Record.{Record}
 use Rattle.access.specs.Access.{inBank, entryNumber, entry, shownIn, access, accessItem, recordIn, replyTo, answer, effect}
 use Rattle.access.specs.Engine.{asksPixel}
 use Rattle.access.proofs.SeenDecisions.{answer-seen, effect-seen}
+use Rattle.quick.specs.Classes.{codesOf}
+use Rattle.quick.specs.Said.{markIn, pixelIn, paintsIn}
+use Rattle.quick.specs.Slots.{byKey}
+use Rattle.quick.specs.Smalls.{smallsOf, stateOf}
 use Rattle.trace.specs.declared.running.Served.{Served}
 use Rattle.trace.specs.EngineServed.{paints, paintsBank, paintsColour, Serves}
-use Rattle.trace.specs.Records.{recordOf, itemOf, items, replyBytes}
+use Rattle.trace.specs.Records.{four, recordOf, itemOf, items, replyBytes}
 use Rattle.trace.specs.Run.{fileAfter, replies}
 use Rattle.trace.proofs.EffectsInParts.{effect-lands, paletteAfter, bankAfter, parts-after, pixel-keeps}
+use Rattle.trace.proofs.RecordBytes.{record-at-place}
 use Rattle.trace.proofs.RunMore.{items-more, file-more, replies-more, replies-length, items-length}
 use Rattle.trace.proofs.ServedAccess.{colour-told}
 
@@ -232,3 +239,40 @@ module _ (f : File) (trace before : List ℕ) where
           (ap₂ (λ (c v : ℕ). replyBytes (record { code = c; kind = asked .kind; address = asked .address; value = v }))
           (code-served registers palette bank state asked after s served) (value-served registers palette bank state asked after s served value shown)
           ∙ ap₂ (λ (g : File) (r : Record). replyBytes (replyTo r (answer g r))) (h .file) there)
+
+-- ---- the loop, with the state as its bytes and the codes of the classes beside the registers
+
+pub record Going (f : File) (trace before : List ℕ) (count : ℕ) (buffer registers : List ℕ) (palette bank : List Colour) (smalls codes : List ℕ) (chip : Chip) (line n : ℕ) : Type 0 where
+  pub held : Held f trace before count buffer registers palette bank (stateOf chip line smalls) n
+  pub whole : smalls ≡ smallsOf (stateOf chip line smalls)
+  pub coded : codes ≡ codesOf registers
+
+-- what holds of both chips
+pub on-either : (P : Chip → Type 0) (chip : Chip) → P Gd5462 × P Gd5464 → P chip
+on-either P Gd5462 b = b .0
+on-either P Gd5464 b = b .1
+
+pub pixel-paints : (said : ℕ) → pixelIn said ≡ true → paintsIn said ≡ false
+unfolding pixelIn paintsIn
+pixel-paints said p = rw (eqb-true (markIn said) 1 p)
+
+-- a record's key and value
+pub key-record : (bytes : List ℕ) (at : ℕ) → ((i : ℕ) → getD bytes i 0 < 256) → (key value : ℕ) → key ≡ four bytes at → value ≡ four bytes (at + 4)
+    → byKey key value ≡ recordOf (take 8 (drop at bytes))
+unfolding byKey four
+key-record bytes at small key value k v =
+    (λ i. record { kind = kinds i; width = widths i; address = addresses i; value = value })
+    ∙ record-at-place bytes at (getD bytes (at + 2) 0 + 256 * getD bytes (at + 3) 0) value refl
+    (v ∙ (λ i. getD bytes (at + 4) 0 + 256 * getD bytes (after 1 5 refl i) 0 + 65536 * getD bytes (after 2 6 refl i) 0 + 16777216 * getD bytes (after 3 7 refl i) 0))
+  where
+    after : (m n : ℕ) → 4 + m ≡ n → at + 4 + m ≡ at + n
+    after m n e = omega (arith, e)
+
+    kinds : key % 256 ≡ getD bytes at 0
+    kinds = omega (arith, k, small at)
+
+    widths : key / 256 % 256 ≡ getD bytes (at + 1) 0
+    widths = omega (arith, k, small at, small (at + 1))
+
+    addresses : key / 65536 ≡ getD bytes (at + 2) 0 + 256 * getD bytes (at + 3) 0
+    addresses = omega (arith, k, small at, small (at + 1), small (at + 2))

@@ -13,24 +13,51 @@ ghost use Rattle.file.specs.Registers.{registerCount, storedTable};
 ghost use Rattle.file.specs.Sound.{sound};
 ghost use Rattle.places.specs.EngineCells.{cellTable};
 ghost use Rattle.access.specs.Access.{replyTo};
-ghost use Rattle.trace.specs.EngineServed.{Answered, Puts, Serves};
+ghost use Rattle.quick.specs.Slots.{byKey, slotsTrue};
+ghost use Rattle.trace.specs.EngineServed.{Answered, Puts, Serves, Says, Turns, Ready};
 ghost use Rattle.trace.specs.Records.{recordOf, replyBytes, items};
 ghost use Rattle.trace.specs.Run.{fileAfter, replies as repliesOf, runCount, run as runOf};
+use crate::wire::four_at;
 use crate::wire::put_reply;
-use crate::wire::record_at;
+use crate::wire::put_said;
+use crate::wire::record_by;
 use crate::wire::record_of;
 use access::Record;
 use access::decide;
 use access::is_in_bank;
 use file::Answer;
 use file::BANK;
+use file::Chip;
 use file::Colour;
 use file::Effect;
 use file::File;
+use file::Pointer;
 use file::REGISTERS;
 use file::State;
 use file::is_sound;
 use places::CELLS;
+use quick::CLASSES;
+use quick::PLAIN;
+use quick::SLOTS;
+use quick::SMALLS;
+use quick::address_in;
+use quick::all_slots;
+use quick::code_in;
+use quick::codes_of;
+use quick::colour_in;
+use quick::is_pixel;
+use quick::next_in;
+use quick::painted;
+use quick::paints;
+use quick::paints_bank;
+use quick::shown;
+use quick::slot_of;
+use quick::smalls_of;
+use quick::state_in;
+use quick::told;
+use quick::turn_read;
+use quick::turn_write;
+use quick::value_in;
 
 // What a run hands back: its answer, the new file and the count of replies. What is left of the trace begins at 8 times the count.
 pub struct Ran {
@@ -39,29 +66,51 @@ pub struct Ran {
     pub count: usize,
 }
 
-// The entry of the palette that the pointer names, and that of the bank.
-pub fn palette_entry(state: State) -> usize
-    ensures { λ r. ⌜ (r ≡ state .pointer .address) × (r < paletteCount) ⌝ }
+// The entry of the palette that an address names, and that of the bank.
+fn palette_at(address: u8) -> usize
+    ensures { λ r. ⌜ (r ≡ address) × (r < paletteCount) ⌝ }
 {
-    state.pointer.address as usize
+    address as usize
 }
 
-pub fn bank_entry(state: State) -> usize
-    ensures { λ r. ⌜ (r ≡ state .pointer .address % bankCount) × (r < bankCount) ⌝ }
+fn bank_at(address: u8) -> usize
+    ensures { λ r. ⌜ (r ≡ address % bankCount) × (r < bankCount) ⌝ }
 {
-    state.pointer.address as usize % BANK
+    address as usize % BANK
 }
 
 // The component of the next colour, of the entry of the bank or the palette.
-pub fn component(bank: bool, in_bank: Colour, in_palette: Colour, state: State) -> u16
-    ensures { λ r. ⌜ r ≡ componentOf (cond bank in_bank in_palette) (state .pointer .next) ⌝ }
+fn component_of(bank: bool, in_bank: Colour, in_palette: Colour, next: u8) -> u16
+    ensures { λ r. ⌜ r ≡ componentOf (cond bank in_bank in_palette) next ⌝ }
 {
-    let next = state.pointer.next;
     if bank {
         in_bank.component(next) as u16
     } else {
         in_palette.component(next) as u16
     }
+}
+
+// The entry of the palette that the pointer names, and that of the bank.
+pub fn palette_entry(state: State) -> usize
+    ensures { λ r. ⌜ (r ≡ state .pointer .address) × (r < paletteCount) ⌝ }
+{
+    let pointer = state.pointer;
+    palette_at(pointer.address)
+}
+
+pub fn bank_entry(state: State) -> usize
+    ensures { λ r. ⌜ (r ≡ state .pointer .address % bankCount) × (r < bankCount) ⌝ }
+{
+    let pointer = state.pointer;
+    bank_at(pointer.address)
+}
+
+// The component of the next colour, of the entry of the bank or the palette that the pointer names.
+pub fn component(bank: bool, in_bank: Colour, in_palette: Colour, state: State) -> u16
+    ensures { λ r. ⌜ r ≡ componentOf (cond bank in_bank in_palette) (state .pointer .next) ⌝ }
+{
+    let pointer = state.pointer;
+    component_of(bank, in_bank, in_palette, pointer.next)
 }
 
 // One register stored where it stands.
@@ -166,6 +215,109 @@ fn serve(
     put_effect(registers, before, effect)
 }
 
+// What was served, as one number.
+fn said_of(served: Served, pointer: Pointer) -> u64
+    ensures { λ r. ⌜ Says served pointer r ⌝ }
+{
+    if served.paints {
+        return painted(served.bank, served.colour, pointer.address);
+    }
+    if served.pixel {
+        return shown(pointer.address, pointer.next);
+    }
+    told(served.code, served.value)
+}
+
+// One access in the order of the checks.
+fn ordered(
+    cells: &[u8; CELLS],
+    stored: &[u16; REGISTERS],
+    registers: &mut [u16; REGISTERS],
+    smalls: &mut [u8; SMALLS],
+    codes: &mut [u8; CLASSES],
+    line: &mut u16,
+    chip: Chip,
+    asked: Record,
+) -> u64
+    requires { ⌜ Ready (now cells) (now stored) (now registers) (now smalls) (now codes) chip (now line) ⌝ }
+    ensures { λ r. ⌜ Turns (now (registers .entry)) (now (smalls .entry)) chip (now (line .entry)) asked (now (registers .exit)) (now (smalls .exit)) (now (codes .exit)) (now (line .exit)) r ⌝ }
+{
+    let state = state_in(smalls, *line, chip);
+    let served = serve(cells, stored, registers, state, asked);
+    let after = served.state;
+    *line = after.line;
+    *smalls = smalls_of(after);
+    *codes = codes_of(registers);
+    said_of(served, state.pointer)
+}
+
+fn class_of(class: u8) -> usize
+    ensures { λ r. ⌜ (r ≡ class % 8) × (r < 8) ⌝ }
+{
+    class as usize % CLASSES
+}
+
+fn word(value: u32) -> u16
+    ensures { λ r. ⌜ r ≡ value % 65536 ⌝ }
+{
+    (value % 65536) as u16
+}
+
+// One access: by its slot, or in the order of the checks.
+fn turn(
+    keys: &[u32; SLOTS],
+    limits: &[u32; SLOTS],
+    classes: &[u8; SLOTS],
+    named: &[u8; SLOTS],
+    cells: &[u8; CELLS],
+    stored: &[u16; REGISTERS],
+    registers: &mut [u16; REGISTERS],
+    smalls: &mut [u8; SMALLS],
+    codes: &mut [u8; CLASSES],
+    line: &mut u16,
+    chip: Chip,
+    key: u32,
+    value: u32,
+) -> u64
+    requires { ⌜ Ready (now cells) (now stored) (now registers) (now smalls) (now codes) chip (now line) × T (slotsTrue (cellTable chip) (now keys) (now limits) (now classes) (now named)) ⌝ }
+    ensures { λ r. ⌜ Turns (now (registers .entry)) (now (smalls .entry)) chip (now (line .entry)) (byKey key value) (now (registers .exit)) (now (smalls .exit)) (now (codes .exit)) (now (line .exit)) r ⌝ }
+{
+    let slot = slot_of(key);
+    if keys[slot] != key {
+        return ordered(
+            cells,
+            stored,
+            registers,
+            smalls,
+            codes,
+            line,
+            chip,
+            record_by(key, value),
+        );
+    }
+    if limits[slot] <= value {
+        return ordered(
+            cells,
+            stored,
+            registers,
+            smalls,
+            codes,
+            line,
+            chip,
+            record_by(key, value),
+        );
+    }
+    let refusal = codes[class_of(classes[slot])];
+    if refusal != 0 {
+        return told(refusal, 0);
+    }
+    let cell = named[slot];
+    if key % 2 == 1 {
+        return turn_write(cells, stored, registers, smalls, codes, cell, word(value));
+    }
+    turn_read(cells, registers, smalls, *line, chip, cell)
+}
+
 // The first `count` whole records of a trace, which has them, into as many places of a reply buffer, which has them.
 fn run_whole(whole: File, trace: &[u8], replies: &mut [u8], count: usize) -> File
     requires { ⌜ T (sound whole) × (8 * count ≤ length (now trace)) × (8 * count ≤ length (now replies)) ⌝ }
@@ -175,36 +327,61 @@ fn run_whole(whole: File, trace: &[u8], replies: &mut [u8], count: usize) -> Fil
     let mut registers = whole.registers;
     let mut palette = whole.palette;
     let mut bank = whole.bank;
-    let mut state = whole.state;
+    let state = whole.state;
     let chip = state.chip;
     let cells = places::cells(chip);
     let stored = File::stored(chip);
+    let slots = all_slots();
+    let keys = slots.keys;
+    let limits = slots.limits;
+    let classes = slots.classes;
+    let named = slots.named;
+    let mut smalls = smalls_of(state);
+    let mut codes = codes_of(&registers);
+    let mut line = state.line;
     for n in 0..count {
-        let asked = record_at(trace, 8 * n);
-        let served = serve(&cells, &stored, &mut registers, state, asked);
-        let mut value = served.value;
-        if served.pixel {
-            let banked = is_in_bank(&registers);
-            let in_bank = bank[bank_entry(state)];
-            let in_palette = palette[palette_entry(state)];
-            value = component(banked, in_bank, in_palette, state);
-        }
-        put_reply(replies, 8 * n, asked, served.code, value);
-        let colour = served.colour;
-        if served.paints {
-            if served.bank {
-                bank[bank_entry(state)] = colour;
+        let key = four_at(trace, 8 * n);
+        let whole = four_at(trace, 8 * n + 4);
+        let said = turn(
+            &keys,
+            &limits,
+            &classes,
+            &named,
+            &cells,
+            &stored,
+            &mut registers,
+            &mut smalls,
+            &mut codes,
+            &mut line,
+            chip,
+            key,
+            whole,
+        );
+        let mut value = value_in(said);
+        if PLAIN <= said {
+            let address = address_in(said);
+            if is_pixel(said) {
+                let in_bank = bank[bank_at(address)];
+                let in_palette = palette[palette_at(address)];
+                value = component_of(is_in_bank(&registers), in_bank, in_palette, next_in(said));
             } else {
-                palette[palette_entry(state)] = colour;
+                if paints(said) {
+                    let colour = colour_in(said);
+                    if paints_bank(said) {
+                        bank[bank_at(address)] = colour;
+                    } else {
+                        palette[palette_at(address)] = colour;
+                    }
+                }
             }
         }
-        state = served.state;
+        put_said(replies, 8 * n, key, code_in(said), value);
     }
     File {
         registers,
         palette,
         bank,
-        state,
+        state: state_in(&smalls, line, chip),
     }
 }
 

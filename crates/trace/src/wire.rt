@@ -1,9 +1,10 @@
 // Records and replies as bytes: 8 each, little-endian.
 ghost use mathlib.Core.Path.{_≡_};
 ghost use mathlib.Core.List.{_++_};
-ghost use Prim.Native.Nat.{_+_, _*_, _≤_};
+ghost use Prim.Native.Nat.{_+_, _*_, _/_, _%_, _≤_};
 ghost use lib.ListN.{length, getD, take, drop};
-ghost use Rattle.trace.specs.Records.{recordOf, bytesOf, replyBytes, itemOf};
+ghost use Rattle.quick.specs.Slots.{byKey};
+ghost use Rattle.trace.specs.Records.{four as fourOf, recordOf, bytesOf, replyBytes, itemOf};
 use access::Item;
 use access::Record;
 use access::Reply;
@@ -73,6 +74,26 @@ pub fn record_at(bytes: &[u8], at: usize) -> Record
     }
 }
 
+// The number of four bytes from a place on.
+pub fn four_at(bytes: &[u8], at: usize) -> u32
+    requires { ⌜ at + 4 ≤ length (now bytes) ⌝ }
+    ensures { λ r. ⌜ r ≡ fourOf (now (bytes .entry)) at ⌝ }
+{
+    four(bytes[at], bytes[at + 1], bytes[at + 2], bytes[at + 3])
+}
+
+// The record of its first four bytes, as one number, and its value.
+pub fn record_by(key: u32, value: u32) -> Record
+    ensures { λ r. ⌜ r ≡ byKey key value ⌝ }
+{
+    Record {
+        kind: (key % 256) as u8,
+        width: (key / 256 % 256) as u8,
+        address: (key / 65536) as u16,
+        value,
+    }
+}
+
 // A record's 8 bytes.
 pub fn record_bytes(asked: Record) -> [u8; 8]
     ensures { λ r. ⌜ r ≡ bytesOf asked ⌝ }
@@ -114,6 +135,21 @@ pub fn put_reply(replies: &mut [u8], at: usize, asked: Record, code: u8, value: 
     replies[at + 1] = asked.kind;
     replies[at + 2] = (asked.address % 256) as u8;
     replies[at + 3] = (asked.address / 256) as u8;
+    replies[at + 4] = (value % 256) as u8;
+    replies[at + 5] = (value / 256) as u8;
+    replies[at + 6] = 0;
+    replies[at + 7] = 0;
+}
+
+// The same, by the record's first four bytes as one number.
+pub fn put_said(replies: &mut [u8], at: usize, key: u32, code: u8, value: u16)
+    requires { ⌜ at + 8 ≤ length (now replies) ⌝ }
+    ensures { λ _. ⌜ now (replies .exit) ≡ take at (now (replies .entry)) ++ replyBytes (record { code = code; kind = key % 256; address = key / 65536; value = value }) ++ drop (at + 8) (now (replies .entry)) ⌝ }
+{
+    replies[at] = code;
+    replies[at + 1] = (key % 256) as u8;
+    replies[at + 2] = (key / 65536 % 256) as u8;
+    replies[at + 3] = (key / 65536 / 256) as u8;
     replies[at + 4] = (value % 256) as u8;
     replies[at + 5] = (value / 256) as u8;
     replies[at + 6] = 0;

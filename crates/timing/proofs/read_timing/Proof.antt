@@ -17,15 +17,15 @@ returns c = read-unsound (c .before .before .before .args .t1) (c .none .result)
 
 of-requires : tie.Need-of-requires
 of-requires c κs =
-    λ k h. subst (λ (l : List ℕ). getD l k 0 < 2 ^ 16) (sym (c .before .read .ensures)) (numbers-below (c .before .before .before .before .before .before .is-wide .result) (c .before .before .before .before .before .before .before .before .before .before .args .t1 .registers) k h)
+    λ k h. subst (λ (l : List ℕ). getD l k 0 < 2 ^ 16) (sym (c .read .ensures)) (numbers-below (c .before .before .before .before .is-wide .result) (c .before .before .before .before .before .before .before .before .args .t1 .registers) k h)
 
 returns-2 : tie.Need-returns-2
 unfolding wide register
 returns-2 c =
-    read-done (c .before .before .before .before .before .before .before .before .before .before .before .args .t1) (c .of .result) (c .before .before .before .before .before .before .before .is-wide .result) (c .before .before .read .last .1 .1 .0) (sym (c .before .before .before .before .before .before .before .before .before .before .is-sound .ensures) ∙ not-false (c .before .before .before .before .before .before .before .before .before .before .is-sound .result) (c .before .before .before .before .before .before .before .before .before .if1 .left)) (c .before .before .before .before .before .before .before .is-wide .ensures) (c .before .before .read .ensures) (c .of .ensures)
+    read-done (c .before .before .before .before .before .before .before .before .before .args .t1) (c .of .result) (c .before .before .before .before .before .is-wide .result) (c .before .read .result) (sym (c .before .before .before .before .before .before .before .before .is-sound .ensures) ∙ not-false (c .before .before .before .before .before .before .before .before .is-sound .result) (c .before .before .before .before .before .before .before .if1 .left)) (c .before .before .before .before .before .is-wide .ensures) (c .before .read .ensures) (c .of .ensures)
 
 pub read-timing-spec : {M : Type 1} → statement M
 read-timing-spec =
     tie.close
-    (tie.spec (λ c κs. search needs) (λ c κs. search needs) returns (λ c. search needs) (λ c κs. search needs) (λ c. search needs)
-    (λ c κs. search needs) of-requires returns-2)
+    (tie.spec (λ c κs. search needs) (λ c κs. search needs) returns (λ c. search needs) (λ c κs. search needs) (λ c κs. search needs) of-requires
+    returns-2)

@@ -18,18 +18,17 @@ returns-2 c = write-locked (c .before .before .before .before .before .args .t1)
 returns-3 : tie.Need-returns-3
 unfolding crtcLocked wide register
 returns-3 c =
-    write-outside (c .before .before .before .before .before .before .before .before .before .before .before .args .t1) (c .before .before .before .before .before .before .before .before .before .before .before .args .timing) (c .before .before .before .before .is-wide .result) (c .before .before .before .numbers .result) (sym (c .before .before .before .before .before .before .before .before .before .before .is-sound .ensures) ∙ not-false (c .before .before .before .before .before .before .before .before .before .before .is-sound .result) (c .before .before .before .before .before .before .before .before .before .if1 .left)) (sym (c .before .before .before .before .before .before .before .is-set .ensures) ∙ c .before .before .before .before .before .before .if2 .left) (c .before .before .before .before .is-wide .ensures) (c .before .before .before .numbers .ensures)
+    write-outside (c .before .before .before .before .before .before .before .before .before .before .args .t1) (c .before .before .before .before .before .before .before .before .before .before .args .timing) (c .before .before .before .is-wide .result) (c .before .before .numbers .result) (sym (c .before .before .before .before .before .before .before .before .before .is-sound .ensures) ∙ not-false (c .before .before .before .before .before .before .before .before .before .is-sound .result) (c .before .before .before .before .before .before .before .before .if1 .left)) (sym (c .before .before .before .before .before .before .is-set .ensures) ∙ c .before .before .before .before .before .if2 .left) (c .before .before .before .is-wide .ensures) (c .before .before .numbers .ensures)
     (sym (c .before .in-range .ensures) ∙ not-true (c .before .in-range .result) (c .if3 .taken))
 
 returns-4 : tie.Need-returns-4
 unfolding crtcLocked wide register withRegisters
 returns-4 c =
-    write-done (c .before .before .before .before .before .before .before .before .before .before .before .before .before .before .before .before .args .t1) (c .before .before .before .before .before .before .before .before .before .before .before .before .before .before .before .before .args .timing) (c .before .before .before .before .before .before .before .before .before .is-wide .result) (c .before .before .before .before .before .before .before .before .numbers .result) (c .before .write .last .1 .0) (sym (c .before .before .before .before .before .before .before .before .before .before .before .before .before .before .before .is-sound .ensures) ∙ not-false (c .before .before .before .before .before .before .before .before .before .before .before .before .before .before .before .is-sound .result) (c .before .before .before .before .before .before .before .before .before .before .before .before .before .before .if1 .left)) (sym (c .before .before .before .before .before .before .before .before .before .before .before .before .is-set .ensures) ∙ c .before .before .before .before .before .before .before .before .before .before .before .if2 .left) (c .before .before .before .before .before .before .before .before .before .is-wide .ensures) (c .before .before .before .before .before .before .before .before .numbers .ensures)
-    (sym (c .before .before .before .before .before .before .in-range .ensures) ∙ not-false (c .before .before .before .before .before .before .in-range .result) (c .before .before .before .before .before .if3 .left)) (c .before .write .ensures)
+    write-done (c .before .before .before .before .before .before .before .before .before .before .before .before .before .before .args .t1) (c .before .before .before .before .before .before .before .before .before .before .before .before .before .before .args .timing) (c .before .before .before .before .before .before .before .is-wide .result) (c .before .before .before .before .before .before .numbers .result) (c .before .write .last .1 .0) (sym (c .before .before .before .before .before .before .before .before .before .before .before .before .before .is-sound .ensures) ∙ not-false (c .before .before .before .before .before .before .before .before .before .before .before .before .before .is-sound .result) (c .before .before .before .before .before .before .before .before .before .before .before .before .if1 .left)) (sym (c .before .before .before .before .before .before .before .before .before .before .is-set .ensures) ∙ c .before .before .before .before .before .before .before .before .before .if2 .left) (c .before .before .before .before .before .before .before .is-wide .ensures) (c .before .before .before .before .before .before .numbers .ensures)
+    (sym (c .before .before .before .before .before .in-range .ensures) ∙ not-false (c .before .before .before .before .before .in-range .result) (c .before .before .before .before .if3 .left)) (c .before .write .ensures)
 
 pub write-timing-spec : {M : Type 1} → statement M
 write-timing-spec =
     tie.close
     (tie.spec (λ c κs. search needs) returns (λ c. search needs) (λ c κs. search needs) returns-2 (λ c. search needs) (λ c κs. search needs)
-    (λ c κs. search needs) (λ c. search needs) (λ c κs. search needs) returns-3 (λ c. search needs) (λ c. search needs)
-    (λ c κs. search needs) returns-4)
+    (λ c κs. search needs) (λ c κs. search needs) returns-3 (λ c. search needs) (λ c κs. search needs) returns-4)

@@ -32,17 +32,17 @@ turn : (c : tie.After-row-pieces Inv-loop μ-loop) → Turn (now (c .before .bef
 turn c = record { inside = c .before .before .loop-test .taken; is-part = c .row-pieces .ensures }
 
 -- the numbers so far decide, with this one
-step : (c : tie.After-in-range Inv-loop μ-loop) → allInRange (tableOf (now (c .before .before .before .before .before .before .before .before .before .before .before .args .rows)) (now (c .before .before .before .before .before .before .before .before .before .before .before .args .pieces))) (now (c .before .before .before .before .before .before .before .before .before .before .before .args .numbers))
-    ≡ (c .in-range .result && rangesFrom (getD (now (c .before .before .before .before .before .before .before .before .before .before .before .args .numbers)) (c .before .before .before .before .before .before .loop .k) 0) (tableOf (drop (c .before .before .before .before .before .before .loop .k + 1) (now (c .before .before .before .before .before .before .before .before .before .before .before .args .rows))) (now (c .before .before .before .before .before .before .before .before .before .before .before .args .pieces))) (drop (c .before .before .before .before .before .before .loop .k + 1) (now (c .before .before .before .before .before .before .before .before .before .before .before .args .numbers))))
+step : (c : tie.After-number-in-range Inv-loop μ-loop) → allInRange (tableOf (now (c .before .before .before .before .before .before .before .before .before .before .args .rows)) (now (c .before .before .before .before .before .before .before .before .before .before .args .pieces))) (now (c .before .before .before .before .before .before .before .before .before .before .args .numbers))
+    ≡ (c .number-in-range .result && rangesFrom (getD (now (c .before .before .before .before .before .before .before .before .before .before .args .numbers)) (c .before .before .before .before .before .loop .k) 0) (tableOf (drop (c .before .before .before .before .before .loop .k + 1) (now (c .before .before .before .before .before .before .before .before .before .before .args .rows))) (now (c .before .before .before .before .before .before .before .before .before .before .args .pieces))) (drop (c .before .before .before .before .before .loop .k + 1) (now (c .before .before .before .before .before .before .before .before .before .before .args .numbers))))
 step c =
-    sym (c .before .before .before .before .before .before .loop .inv)
-    ∙ range-next (turn (c .before .before .before)) (now (c .before .before .before .before .before .before .before .before .before .before .before .args .numbers)) (c .before .before .before .before .before .before .loop .last) (c .before .width .result) (c .in-range .result) (omega arith) (omega (arith, c .before .before .shared-slice-known5 .given (c .before .before .before .before .before .before .loop .k))) (c .before .width .ensures) (c .in-range .ensures)
+    sym (c .before .before .before .before .before .loop .inv)
+    ∙ range-next (turn (c .before .before)) (now (c .before .before .before .before .before .before .before .before .before .before .args .numbers)) (c .before .before .before .before .before .loop .last) (c .number-in-range .result) (omega arith) (c .number-in-range .ensures)
 
 returns-2 : tie.Need-returns-2 Inv-loop μ-loop
-returns-2 c = sym (rw (not-true (c .before .in-range .result) (c .if2 .taken)) at (step (c .before)))
+returns-2 c = sym (rw (not-true (c .before .number-in-range .result) (c .if2 .taken)) at (step (c .before)))
 
 loop-again : tie.Need-loop-again Inv-loop μ-loop
-loop-again c = sym (rw (not-false (c .before .in-range .result) (c .if2 .left)) at (step (c .before)))
+loop-again c = sym (rw (not-false (c .before .number-in-range .result) (c .if2 .left)) at (step (c .before)))
 
 returns-3 : tie.Need-returns-3 Inv-loop μ-loop
 returns-3 c =
@@ -53,4 +53,4 @@ pub all-in-range-spec : {M : Type 1} → statement M
 all-in-range-spec =
     tie.close
     (tie.spec Inv-loop μ-loop returns loop-holds (λ c. search needs) (λ c. search needs) (λ c κs. search needs) (λ c. search needs)
-    (λ c. search needs) (λ c κs. search needs) (λ c κs. search needs) returns-2 (λ c. search needs) (λ c. search needs) loop-again returns-3)
+    (λ c. search needs) (λ c κs. search needs) returns-2 (λ c. search needs) (λ c. search needs) loop-again returns-3)

@@ -31,7 +31,7 @@ turn c = record { inside = omega arith; is-part = c .row-pieces .ensures }
 loop-again : tie.Need-loop-again Inv-loop μ-loop
 loop-again c = (
   simp length-set (c .before .before .before .before .before .loop .inv .0),
-  read-next (turn (c .before .before)) (now (c .before .before .before .before .before .before .before .before .before .before .before .args .registers)) (c .before .before .before .before .before .loop .numbers) (c .before .before .before .before .before .loop .last) (c .before .gather .result) (c .meant .result) (omega arith) (c .before .gather .ensures) (c .meant .ensures)
+  read-next (turn (c .before .before)) (now (c .before .before .before .before .before .before .before .before .before .before .before .args .registers)) (c .before .before .before .before .before .loop .numbers) (c .before .before .before .before .before .loop .last) (c .read-number .result) (omega arith) (c .read-number .ensures (c .before .width .ensures))
       ∙ c .before .before .before .before .before .loop .inv .1,
 )
 

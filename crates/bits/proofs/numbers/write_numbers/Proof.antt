@@ -28,9 +28,9 @@ turn c = record { inside = omega arith; is-part = c .row-pieces .ensures }
 
 loop-again : tie.Need-loop-again Inv-loop μ-loop
 loop-again c = (
-  c .before .before .scatter .kept .0 ∙ c .before .before .before .before .before .before .before .before .before .loop .inv .0,
-  write-next (turn (c .before .before .before .before .before .before)) (now (c .before .before .before .before .before .before .before .before .before .before .before .before .before .before .before .args .numbers)) (c .before .before .before .before .before .before .before .before .before .loop .registers) (c .before .before .scatter .last .0) (c .before .before .before .before .stored-for .result) (omega arith) (c .before .before .before .before .stored-for .ensures) (c .before .before .scatter .ensures)
-      ∙ c .before .before .before .before .before .before .before .before .before .loop .inv .1,
+  c .before .before .write-number .kept .0 ∙ c .before .before .before .before .before .before .before .before .loop .inv .0,
+  write-next (turn (c .before .before .before .before .before)) (now (c .before .before .before .before .before .before .before .before .before .before .before .before .before .before .args .numbers)) (c .before .before .before .before .before .before .before .before .loop .registers) (c .before .before .write-number .last .0) (omega arith) (c .before .before .write-number .ensures)
+      ∙ c .before .before .before .before .before .before .before .before .loop .inv .1,
 )
 
 same-length : tie.Need-same-length Inv-loop μ-loop
@@ -45,4 +45,4 @@ pub write-numbers-spec : {M : Type 1} → statement M
 write-numbers-spec =
     tie.close
     (tie.spec Inv-loop μ-loop (λ c κs. search needs) loop-holds (λ c. search needs) (λ c. search needs) (λ c κs. search needs) (λ c. search needs)
-    (λ c. search needs) (λ c κs. search needs) (λ c κs. search needs) (λ c. search needs) (λ c. search needs) loop-again same-length returns)
+    (λ c. search needs) (λ c κs. search needs) (λ c. search needs) (λ c. search needs) loop-again same-length returns)

@@ -1,0 +1,32 @@
+// The quick way of an access whose kind, width and address have a slot: no check is made twice, and what changes is changed where it stands.
+mod classes;
+mod pixels;
+mod said;
+mod slots;
+mod smalls;
+mod stores;
+mod turning;
+
+pub use classes::CLASSES;
+pub use classes::codes_of;
+pub use said::PLAIN;
+pub use said::address_in;
+pub use said::code_in;
+pub use said::colour_in;
+pub use said::is_pixel;
+pub use said::next_in;
+pub use said::painted;
+pub use said::paints;
+pub use said::paints_bank;
+pub use said::shown;
+pub use said::told;
+pub use said::value_in;
+pub use slots::SLOTS;
+pub use slots::Slots;
+pub use slots::all_slots;
+pub use slots::slot_of;
+pub use smalls::SMALLS;
+pub use smalls::smalls_of;
+pub use smalls::state_in;
+pub use turning::turn_read;
+pub use turning::turn_write;
