@@ -1,0 +1,155 @@
+-- A turn, and a course of turns: what they handed to be written is what is told of the trace that they read. Assumes nothing.
+use Prim.Native.Nat.{ℕ, _+_, _%_, _^_, _≤_}
+use mathlib.Core.Bool.{Bool, true, false, true≢false}
+use mathlib.Core.List.{List, [], _++_}
+use mathlib.Core.Logic.{_⊎_, inl, inr}
+use mathlib.Core.Path.{_≡_, refl, sym, ap, ap₂, _∙_}
+use native.Mathlib.Nat.{add-zero, zero-add}
+use native.Mathlib.Omega.{arith}
+use borrow.Author.Tests.{eqb-true}
+use lib.Dec.{eqb}
+use lib.ListN.{length, take, drop, length-append}
+use lib.Seq.{take-at}
+use Rattle.io.specs.Counts.{Counts}
+use Rattle.file.specs.declared.chip.Chip.{Chip}
+use Rattle.file.specs.declared.registers.File.{File}
+use Rattle.file.specs.File.{powerOn}
+use Rattle.access.specs.declared.record.Item.{Item}
+use Rattle.access.specs.Access.{accessItem}
+use Rattle.trace.specs.Records.{itemCount, itemOf}
+use Rattle.replaying.specs.Replay.{afterPart}
+use Rattle.replaying.proofs.Pieces.{file-parts, parts-count}
+use Rattle.shell.proofs.Bounds.{counts}
+use Rattle.shell.proofs.Turns.{counted-on, none-after}
+use Rattle.explain.specs.declared.course.Course.{Course}
+use Rattle.explain.specs.declared.course.Turn.{Turn}
+use Rattle.explain.specs.Told.{partTold, recordTold, traceTold}
+use Rattle.explain.specs.Turns.{Turned, Turns, beginning, courseAfter, failedAfter, turnLines}
+use Rattle.explain.specs.Turns.Turns.{none, then, uncounted, unread, unwritten}
+use Rattle.explain.proofs.ToldInParts.{no-after, no-item, no-told, none-told, one-after, one-item, one-told, told-parts}
+
+-- ---- a turn
+
+module _ (sums : Bool) (before : Course) (part lines₀ : List ℕ) where
+  -- nothing was read
+  pub turn-none : length part ≡ 0 → Turned sums before part lines₀ lines₀
+      (record { end = 0; course = record { number = before .number; more = false; failed = false; read = before .read; handed = before .handed; file = before .file } })
+  unfolding courseAfter turnLines
+  turn-none h =
+      record {
+        end = rw (no-told part sums (before .number) (before .file) h) refl;
+        course = rw (no-item part h, no-after part (before .file) h, h, add-zero) refl;
+        printed = rw (no-told part sums (before .number) (before .file) h) refl;
+      }
+
+  -- a record, or its fragment
+  pub turn-one : (length part ≡ 0 → ⊥) → length part ≤ 8 → (item : Item) → item ≡ itemOf (take 8 part) → (end : ℕ) (lines : List ℕ)
+      → end ≡ length (recordTold sums (before .number) (before .file) item)
+      → lines ≡ recordTold sums (before .number) (before .file) item ++ drop end lines₀
+      → (file : File) → file ≡ accessItem (before .file) item .file → (more : Bool) → more ≡ eqb (length part) 8
+      → Turned sums before part lines₀ lines
+      (record { end = end; course = record { number = before .number + 1; more = more; failed = false; read = before .read; handed = before .handed; file = file } })
+  unfolding courseAfter turnLines
+  turn-one some few item e end lines ended printed file went more full =
+      let told : recordTold sums (before .number) (before .file) item ≡ partTold sums (before .number) (before .file) part =
+      ap (recordTold sums (before .number) (before .file)) e ∙ sym (one-told part sums (before .number) (before .file) some few) in
+      record {
+        end = ended ∙ ap length told;
+        course =
+            rw (one-item part some few, full, went ∙ ap (λ (i : Item). accessItem (before .file) i .file) e ∙ sym (one-after part (before .file) some few)) refl;
+        printed = printed ∙ ap (λ (l : List ℕ). l ++ drop end lines₀) told;
+      }
+
+-- what a turn's buffer holds up to where its lines end is its lines
+pub made : {sums : Bool} {before : Course} {part lines₀ lines : List ℕ} {r : Turn} → Turned sums before part lines₀ lines r
+    → take (r .end) lines ≡ turnLines sums before part
+made {sums} {before} {part} {lines₀} {lines} {r} t =
+    ap (take (r .end)) (t .printed) ∙ take-at (turnLines sums before part) (drop (r .end) lines₀) (r .end) (sym (t .end))
+
+-- they are in it
+pub lines-within : {sums : Bool} {before : Course} {part lines₀ lines : List ℕ} {r : Turn} → Turned sums before part lines₀ lines r → Counts (r .end) lines
+lines-within {sums} {before} {part} {lines₀} {lines} {r} t =
+    counts lines (r .end) (omega (arith, t .end, ap length (t .printed) ∙ length-append (turnLines sums before part) (drop (r .end) lines₀)))
+
+-- ---- turns
+
+-- a course with more to read has not failed
+pub more-unfailed : {chip : Chip} {sums : Bool} {trace text : List ℕ} {r : Course} → Turns chip sums trace text r → r .more ≡ true → r .failed ≡ false
+unfolding beginning courseAfter failedAfter
+more-unfailed none more = refl
+more-unfailed (then part read handed turns brought on) more = refl
+more-unfailed (unread part read turns brought) more = absurd (true≢false (sym more))
+more-unfailed (unwritten part read handed turns brought on) more = absurd (true≢false (sym more))
+more-unfailed (uncounted turns goes many) more = absurd (true≢false (sym more))
+
+-- what a course without a failure has come to, by the trace that was read
+pub record Stands (chip : Chip) (sums : Bool) (trace text : List ℕ) (r : Course) : Type 0 where
+  pub file : r .file ≡ afterPart (powerOn chip) trace
+  pub number : r .number ≡ itemCount trace
+  pub printed : text ≡ traceTold sums chip trace
+  pub whole : r .more ≡ true → length trace % 8 ≡ 0
+
+pub turns-stand : {chip : Chip} {sums : Bool} {trace text : List ℕ} {r : Course} → Turns chip sums trace text r → r .failed ≡ false
+    → Stands chip sums trace text r
+unfolding beginning courseAfter failedAfter turnLines traceTold itemCount
+turns-stand (unread part read turns brought) e = absurd (true≢false e)
+turns-stand (unwritten part read handed turns brought on) e = absurd (true≢false e)
+turns-stand (uncounted turns goes many) e = absurd (true≢false e)
+turns-stand {chip} {sums} none e =
+    record { file = none-after (powerOn chip); number = refl; printed = sym (none-told sums 0 (powerOn chip)); whole = λ _. refl }
+turns-stand {chip} {sums} (then {trace} {text} {before} part read handed turns brought on) e =
+    let held = turns-stand turns (more-unfailed turns (brought .goes)) in
+    let whole : length trace % 8 ≡ 0 = held .whole (brought .goes) in
+    record {
+      file = ap (λ (f : File). afterPart f part) (held .file) ∙ sym (file-parts trace part whole (powerOn chip));
+      number = ap (λ (k : ℕ). k + itemCount part) (held .number) ∙ sym (parts-count trace part whole);
+      printed =
+          ap₂ (λ (a b : List ℕ). a ++ b) (held .printed)
+          (ap₂ (λ (k : ℕ) (f : File). partTold sums k f part) (held .number ∙ sym (zero-add _)) (held .file))
+          ∙ sym (told-parts sums 0 (powerOn chip) trace part whole);
+      whole =
+          λ more. let full : length part ≡ 8 = eqb-true _ _ more in
+          rw length-append (omega (arith, whole, full));
+    }
+
+-- 'for each record': what the turns handed to be written is what is told of the trace that they read, from the chip's power-on
+pub turns-told : {chip : Chip} {sums : Bool} {trace text : List ℕ} {r : Course} → Turns chip sums trace text r → r .failed ≡ false
+    → text ≡ traceTold sums chip trace
+turns-told turns e = turns-stand turns e .printed
+
+-- what a course says was read and handed to be written, in all: as many bytes as its trace and its text have
+pub turns-counted : {chip : Chip} {sums : Bool} {trace text : List ℕ} {r : Course} → Turns chip sums trace text r
+    → (r .read .all ≡ length trace % 2 ^ 64) × (r .handed .all ≡ length text % 2 ^ 64)
+unfolding beginning courseAfter failedAfter
+turns-counted none = (refl, refl)
+turns-counted (unread {trace} part read turns brought) =
+    (counted-on _ _ trace part (turns-counted turns .0) (brought .all), turns-counted turns .1)
+turns-counted {chip} {sums} (then {trace} {text} {before} part read handed turns brought on) = (
+  counted-on _ _ trace part (turns-counted turns .0) (brought .all),
+  counted-on _ _ text (turnLines sums before part) (turns-counted turns .1) (on .all),
+)
+turns-counted {chip} {sums} (unwritten {trace} {text} {before} part read handed turns brought on) = (
+  counted-on _ _ trace part (turns-counted turns .0) (brought .all),
+  counted-on _ _ text (turnLines sums before part) (turns-counted turns .1) (on .all),
+)
+turns-counted (uncounted turns goes many) = turns-counted turns
+
+-- a course that has failed has a read or a write that failed, or 64 bits have no number for a record more
+pub turns-failed : {chip : Chip} {sums : Bool} {trace text : List ℕ} {r : Course} → Turns chip sums trace text r → r .failed ≡ true
+    → (r .read .failed ≡ true) ⊎ ((r .handed .failed ≡ true) ⊎ (2 ^ 64 ≤ r .number + 1))
+unfolding beginning courseAfter failedAfter
+turns-failed none e = absurd (true≢false (sym e))
+turns-failed (then part read handed turns brought on) e = absurd (true≢false (sym e))
+turns-failed (unread part read turns brought) e = inl (brought .so)
+turns-failed (unwritten part read handed turns brought on) e = inr (inl (on .so))
+turns-failed (uncounted turns goes many) e = inr (inr many)
+
+-- and where nothing failed, no read and no write did
+pub turns-unfailed : {chip : Chip} {sums : Bool} {trace text : List ℕ} {r : Course} → Turns chip sums trace text r → r .failed ≡ false
+    → (r .read .failed ≡ false) × (r .handed .failed ≡ false)
+unfolding beginning courseAfter failedAfter
+turns-unfailed none e = (refl, refl)
+turns-unfailed (then part read handed turns brought on) e = (brought .so, on .so)
+turns-unfailed (unread part read turns brought) e = absurd (true≢false e)
+turns-unfailed (unwritten part read handed turns brought on) e = absurd (true≢false e)
+turns-unfailed (uncounted turns goes many) e = absurd (true≢false e)
