@@ -5,4 +5,4 @@ pub mod FoundPlaces
 pub mod MovedBits
 pub mod Unmoved
 pub mod PutLines
-pub mod RecordLined
+pub mod RoomLined

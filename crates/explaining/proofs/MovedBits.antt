@@ -5,14 +5,18 @@ use mathlib.Core.List.{List, [], _∷_}
 use mathlib.Core.Path.{_≡_, refl, sym, ap, ap₂, _∙_}
 use native.Mathlib.Omega.{arith}
 use borrow.Author.Tests.{ne-eqb}
+use lib.Bits.{and-zero-r}
 use lib.Dec.{T, eqb, leb, leb→le}
-use lib.ListN.{getD}
+use lib.ListN.{getD, List·getD-eq-default}
 use Rattle.bits.specs.Pieces.{Piece, width}
 use Rattle.bits.specs.Reach.{piecesReach}
 use Rattle.bits.proofs.Test.{left, right}
 use Rattle.file.specs.Names.{CR0, CR1A, CR1E}
-use Rattle.timing.specs.Table.{table}
-use Rattle.explaining.specs.Moves.{movedBits, movedFrom, movedTable, numberCount, origin, readBits, source, sources, startOf, switched}
+use Rattle.timing.specs.Table.{table, wide}
+use Rattle.explaining.specs.declared.explain.Case.{Case}
+use Rattle.explaining.specs.Explained.{numberLine, partLine}
+use Rattle.explaining.specs.Lines.{blank}
+use Rattle.explaining.specs.Moves.{mayMove, movedBits, movedFrom, movedTable, numberCount, origin, readBits, source, sources, startOf, switched}
 
 -- every piece lies in CR0 to CR1E
 unfoldable within : List Piece → Bool
@@ -132,3 +136,17 @@ unfolding movedTable movedBits
 moved-entry number k low high small =
     moved-at 0 450 (numberCount * (number - CR0) + k) (omega (arith, low, high, small))
     ∙ ap₂ (readBits true) (omega (arith, low, high, small)) (omega (arith, low, high, small))
+
+-- there are fifteen numbers, and no line of another
+no-source : (wide : Bool) (k : ℕ) → numberCount ≤ k → source wide k ≡ []
+unfolding source sources startOf table
+no-source true k h = List·getD-eq-default (sources [] (table true)) [] {n = k} h
+no-source false k h = List·getD-eq-default (sources [] (table false)) [] {n = k} h
+
+none-after : (wide : Bool) (number k : ℕ) → numberCount ≤ k → readBits wide number k ≡ 0
+unfolding readBits origin switched width piecesReach
+none-after wide number k h = rw (no-source wide k h, no-source true k h, no-source false k h) refl
+
+pub no-number : (c : Case) (k : ℕ) → numberCount ≤ k → numberLine c k ≡ blank
+unfolding numberLine mayMove partLine
+no-number c k h = rw (none-after (wide (c .before)) (c .reach .register) k h, and-zero-r (c .reach .bits)) refl

@@ -2,6 +2,7 @@
 use Prim.Native.Nat.{ℕ, zero, suc, _+_, _-_, _*_, _≤_, _<_, min}
 use mathlib.Core.List.{List, [], _∷_, _++_}
 use mathlib.Core.Path.{_≡_, refl, sym, ap, _∙_}
+use native.Mathlib.Nat.{sub-zero}
 use native.Mathlib.Omega.{arith}
 use borrow.Author.Tests.{eq-eqb, leb-false, leb-true, ne-eqb}
 use lib.Dec.{eqb, leb}
@@ -12,9 +13,7 @@ use Rattle.text.specs.Lent.{Wrote}
 use Rattle.text.specs.Text.{newline}
 use Rattle.text.proofs.Stores.{copy-byte, one-byte, rest-stored, then-text}
 use Rattle.explaining.specs.declared.line.Line.{Line}
-use Rattle.explaining.specs.declared.explain.Case.{Case}
-use Rattle.explaining.specs.Explained.{lineAt, lineCount, linesFrom}
-use Rattle.explaining.specs.Lines.{lineText}
+use Rattle.explaining.specs.Lines.{lineRoom, lineText, linesOf}
 
 -- one byte more of a text's beginning
 pub next-stored : (buffer bytes : List ℕ) (at count i : ℕ) → i < count → count ≤ length bytes
@@ -52,55 +51,43 @@ whole-line line before buffer at count long e some h =
     first = record { bytes = stored; place = omega (arith, length-take count (line .bytes), e, long) }
 
 -- a line has 160 bytes at most
-pub line-short : (line : Line) → length (line .bytes) ≡ 159 → length (lineText line) ≤ 160
+pub line-short : (line : Line) → length (line .bytes) ≡ 159 → length (lineText line) ≤ lineRoom
 unfolding newline
 line-short line long =
     by-test (eqb (line .end) 0) (λ t. rw t (omega arith))
     (λ t. rw (t, length-append) (omega (arith, length-take (line .end) (line .bytes), long)))
 
 -- behind so many lines: what is left, stored, gives the whole
-pub record Lining (case : Case) (buffer₀ : List ℕ) (at : ℕ) (buffer : List ℕ) (at' k : ℕ) : Type 0 where
-  pub stored : sets buffer at' (linesFrom case k (lineCount - k)) ≡ sets buffer₀ at (linesFrom case 0 lineCount)
-  pub place : at' + length (linesFrom case k (lineCount - k)) ≡ at + length (linesFrom case 0 lineCount)
-  pub near : at' ≤ at + 160 * k
-  pub few : k ≤ lineCount
+pub record Lining (lineOf : ℕ → Line) (count : ℕ) (buffer₀ : List ℕ) (at : ℕ) (buffer : List ℕ) (at' k : ℕ) : Type 0 where
+  pub stored : sets buffer at' (linesOf lineOf k (count - k)) ≡ sets buffer₀ at (linesOf lineOf 0 count)
+  pub place : at' + length (linesOf lineOf k (count - k)) ≡ at + length (linesOf lineOf 0 count)
+  pub near : at' ≤ at + lineRoom * k
+  pub few : k ≤ count
   pub long : length buffer ≡ length buffer₀
 
-pub lining-none : (case : Case) (buffer : List ℕ) (at : ℕ) → Lining case buffer at buffer at 0
-lining-none case buffer at = record { stored = refl; place = refl; near = omega arith; few = omega arith; long = refl }
+module _ (lineOf : ℕ → Line) (count : ℕ) where
+  pub lining-none : (buffer : List ℕ) (at : ℕ) → Lining lineOf count buffer at buffer at 0
+  lining-none buffer at = record { stored = rw sub-zero refl; place = rw sub-zero refl; near = omega arith; few = omega arith; long = refl }
 
-module _ (case : Case) (buffer₀ : List ℕ) (at : ℕ) (buffer : List ℕ) (at' k : ℕ) (held : Lining case buffer₀ at buffer at' k) where
-  pub lining-next : k < lineCount → (line : Line) → line ≡ lineAt case k → length (line .bytes) ≡ 159 → (after : List ℕ) (end : ℕ)
-      → Wrote buffer at' (lineText line) after end → Lining case buffer₀ at after end (k + 1)
-  unfolding linesFrom
-  lining-next more line e count after end wrote =
-      let next : k + 1 ≡ suc k = omega arith in
-      let left : lineCount - k ≡ suc (lineCount - (k + 1)) = omega (arith, more) in
-      let rest : List ℕ = linesFrom case (k + 1) (lineCount - (k + 1)) in
-      let all : linesFrom case k (lineCount - k) ≡ lineText line ++ rest = rw (left, next, e) refl in
-      record {
-        stored = rest-stored rest wrote ∙ ap (sets buffer at') (sym all) ∙ held .stored;
-        place = omega (arith, wrote .place, held .place, ap length all, length-append (lineText line) rest);
-        near = omega (arith, wrote .place, held .near, line-short line count);
-        few = omega (arith, more);
-        long = ap length (wrote .bytes) ∙ length-sets buffer at' (lineText line) ∙ held .long;
-      }
+  module _ (buffer₀ : List ℕ) (at : ℕ) (buffer : List ℕ) (at' k : ℕ) (held : Lining lineOf count buffer₀ at buffer at' k) where
+    pub lining-next : k < count → (line : Line) → line ≡ lineOf k → length (line .bytes) ≡ 159 → (after : List ℕ) (end : ℕ)
+        → Wrote buffer at' (lineText line) after end → Lining lineOf count buffer₀ at after end (k + 1)
+    unfolding linesOf
+    lining-next more line e size after end wrote =
+        let next : k + 1 ≡ suc k = omega arith in
+        let left : count - k ≡ suc (count - (k + 1)) = omega (arith, more) in
+        let rest : List ℕ = linesOf lineOf (k + 1) (count - (k + 1)) in
+        let all : linesOf lineOf k (count - k) ≡ lineText line ++ rest = rw (left, next, e) refl in
+        record {
+          stored = rest-stored rest wrote ∙ ap (sets buffer at') (sym all) ∙ held .stored;
+          place = omega (arith, wrote .place, held .place, ap length all, length-append (lineText line) rest);
+          near = omega (arith, wrote .place, held .near, line-short line size);
+          few = omega (arith, more);
+          long = ap length (wrote .bytes) ∙ length-sets buffer at' (lineText line) ∙ held .long;
+        }
 
-  pub lining-all : lineCount ≤ k → Wrote buffer₀ at (linesFrom case 0 lineCount) buffer at'
-  unfolding linesFrom
-  lining-all all =
-      let none : lineCount - k ≡ 0 = omega (arith, all) in
-      record { bytes = rw none at (held .stored); place = omega (arith, rw none at (held .place)) }
-
--- a line behind the sixth is one of the fifteen numbers'
-pub from-six : (k : ℕ) → (k ≡ 0 → ⊥) → (k ≡ 1 → ⊥) → (k ≡ 2 → ⊥) → (k ≡ 3 → ⊥) → (k ≡ 4 → ⊥) → (k ≡ 5 → ⊥) → k < 21 → k - 6 < 15
-from-six zero a b c d e f h = absurd (a refl)
-from-six (suc zero) a b c d e f h = absurd (b refl)
-from-six (suc (suc zero)) a b c d e f h = absurd (c refl)
-from-six (suc (suc (suc zero))) a b c d e f h = absurd (d refl)
-from-six (suc (suc (suc (suc zero)))) a b c d e f h = absurd (e refl)
-from-six (suc (suc (suc (suc (suc zero))))) a b c d e f h = absurd (f refl)
-from-six (suc (suc (suc (suc (suc (suc k)))))) a b c d e f h = less k h
-  where
-    less : (k : ℕ) → suc (suc (suc (suc (suc (suc k))))) < 21 → suc (suc (suc (suc (suc (suc k))))) - 6 < 15
-    less k h = omega (arith, h)
+    pub lining-all : count ≤ k → Wrote buffer₀ at (linesOf lineOf 0 count) buffer at'
+    unfolding linesOf
+    lining-all all =
+        let none : count - k ≡ 0 = omega (arith, all) in
+        record { bytes = rw none at (held .stored); place = omega (arith, rw none at (held .place)) }

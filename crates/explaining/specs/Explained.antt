@@ -5,10 +5,9 @@
 use Prim.Native.Nat.{ℕ, zero, suc, _+_, _-_, _*_, _/_, _%_}
 use mathlib.Core.Bool.{Bool, true, false, cond, not, _||_}
 use mathlib.Core.List.{List, [], _∷_, _++_}
-use lib.Dec.{eqb, leb, ltb}
-use lib.ListN.{getD, length}
+use lib.Dec.{eqb, ltb}
+use lib.ListN.{getD}
 use Rattle.file.specs.declared.answer.Answer.{Answer}
-use Rattle.file.specs.declared.answer.Answer.the-variants.{Done, ShortBuffer}
 use Rattle.file.specs.declared.effect.Effect.the-variants.{Nothing}
 use Rattle.file.specs.declared.effect.Reach.{Reach}
 use Rattle.file.specs.declared.palette.Colour.{Colour}
@@ -24,7 +23,7 @@ use Rattle.access.specs.Access.{accessItem, readReach, recordIn}
 use Rattle.explaining.specs.declared.line.Line.{Line}
 use Rattle.explaining.specs.declared.token.Token.{Token}
 use Rattle.explaining.specs.declared.explain.Case.{Case}
-use Rattle.explaining.specs.Lines.{blank, columned, decimalToken, hexToken, lineText, nameToken, nothing, phrase, say, told}
+use Rattle.explaining.specs.Lines.{blank, columned, decimalToken, hexToken, linesOf, mostAnswer, nameToken, nothing, phrase, say, told}
 use Rattle.explaining.specs.Moves.{mayMove, numberCount, numberLabel, numbersIn}
 use Rattle.explaining.specs.Words.{answerWords, found, foundWords, recordWords}
 
@@ -185,13 +184,9 @@ lineAt c k =
     (cond (eqb k 2) (pointerLine c)
     (cond (eqb k 3) (marksLine c) (cond (eqb k 4) (entryLine c) (cond (eqb k 5) (beamLine c) (numberLine c (k - 6)))))))
 
-unfoldable pub linesFrom : Case → ℕ → ℕ → List ℕ
-linesFrom c k zero = []
-linesFrom c k (suc count) = lineText (lineAt c k) ++ linesFrom c (suc k) count
-
 -- the explanation of a record: its number, the file before it, and what stands in the trace
 unfoldable pub explained : ℕ → File → Item → List ℕ
-explained number f item = linesFrom (caseOf number f item) 0 lineCount
+explained number f item = linesOf (lineAt (caseOf number f item)) 0 lineCount
 
 -- the most bytes that the lines of a record have: 21 of 160
 abbrev pub recordMost : ℕ
@@ -199,4 +194,5 @@ recordMost = 3360
 
 -- 01, the table of codes: 11 where there are fewer bytes from a place of the buffer on
 unfoldable pub recordAnswer : List ℕ → ℕ → Answer
-recordAnswer buffer at = cond (leb (at + recordMost) (length buffer)) (Done 0) ShortBuffer
+unfolding mostAnswer
+recordAnswer buffer at = mostAnswer recordMost buffer at

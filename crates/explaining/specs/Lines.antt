@@ -5,8 +5,10 @@ use Prim.Native.Nat.{ℕ, zero, suc, _+_, _-_, _*_, _/_, _%_, _^_}
 use Prim.Native.String.{String}
 use mathlib.Core.Bool.{Bool, cond}
 use mathlib.Core.List.{List, [], _∷_, _++_}
-use lib.Dec.{eqb, ltb}
-use lib.ListN.{getD, set, take, replicate}
+use lib.Dec.{eqb, leb, ltb}
+use lib.ListN.{getD, length, set, take, replicate}
+use Rattle.file.specs.declared.answer.Answer.{Answer}
+use Rattle.file.specs.declared.answer.Answer.the-variants.{Done, ShortBuffer}
 use Rattle.file.specs.Readers.{ascii, nameTable}
 use Rattle.text.specs.Text.{capital, decimal, newline}
 use Rattle.explaining.specs.declared.line.Line.{Line}
@@ -100,3 +102,16 @@ columned l column = behind l (replicate (gap (l .end) column) 0x20)
 -- a line as it is printed; one that has nothing is none
 abbrev pub lineText : Line → List ℕ
 lineText l = cond (eqb (l .end) 0) [] (take (l .end) (l .bytes) ++ newline)
+
+-- so many lines, from a number on
+unfoldable pub linesOf : (ℕ → Line) → ℕ → ℕ → List ℕ
+linesOf line k zero = []
+linesOf line k (suc count) = lineText (line k) ++ linesOf line (suc k) count
+
+-- 01, the table of codes: 11 where there are fewer bytes than so many from a place of the buffer on
+unfoldable pub mostAnswer : ℕ → List ℕ → ℕ → Answer
+mostAnswer most buffer at = cond (leb (at + most) (length buffer)) (Done 0) ShortBuffer
+
+-- a line with its newline
+abbrev pub lineRoom : ℕ
+lineRoom = 160

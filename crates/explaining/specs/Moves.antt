@@ -16,7 +16,7 @@ use Rattle.file.specs.Names.{CR0, CR1B}
 use Rattle.timing.specs.Table.{table}
 use Rattle.timing.specs.Timing.{numbersOf, readTiming}
 use Rattle.explaining.specs.declared.token.Token.{Token}
-use Rattle.explaining.specs.Lines.{dotted, phrase, say, wordsToken}
+use Rattle.explaining.specs.Lines.{dotted, nothing, phrase, say, wordsToken}
 
 -- 01, 'Timing', the column 'Number', in table order
 unfoldable pub numberNames : List String
@@ -45,7 +45,7 @@ unfoldable pub numberRows : List (List ℕ)
 numberRows = map (λ (name : String). dotted name) numberNames
 
 unfoldable pub numberLabel : ℕ → List Token
-numberLabel k = phrase (wordsToken (getD numberRows k []) ∷ say " " ∷ [])
+numberLabel k = phrase (wordsToken (getD numberRows k (nothing .bytes)) ∷ say " " ∷ [])
 
 -- the numbers of a file
 unfoldable pub numbersIn : File → List ℕ

@@ -2,10 +2,12 @@
 -- Assumes nothing.
 use Prim.Native.Nat.{ℕ, _-_, _/_}
 use mathlib.Core.Bool.{Bool, true, false, cond, not, _&&_, _||_}
-use mathlib.Core.List.{List, [], _∷_}
+use Prim.Native.String.{String}
+use mathlib.Core.List.{List, [], _∷_, map}
 use mathlib.Core.Option.{Option, none, some}
 use lib.Bits.{bitXor}
 use lib.Dec.{eqb, ltb}
+use lib.ListN.{getD}
 use Rattle.bits.specs.Store.{bit}
 use Rattle.file.specs.declared.answer.Answer.{Answer}
 use Rattle.file.specs.declared.answer.Answer.the-variants.{Done, NoRegister, Malformed, SpaceOff, NotHeld, OtherHalf, WrongWidth, ReadOnly, Locked, PaletteDown, OutOfRange, ShortBuffer, NotSound, NotBeforeRed, OtherChip, OtherDirection, InsideWider}
@@ -22,7 +24,7 @@ use Rattle.access.specs.Checks.{isWrite, isPassing, isPort, carries}
 use Rattle.explaining.specs.declared.token.Token.{Token}
 use Rattle.explaining.specs.declared.words.Found.{Found}
 use Rattle.explaining.specs.declared.words.Found.the-variants.{Held, NotFound}
-use Rattle.explaining.specs.Lines.{decimalToken, hexToken, nameToken, nothing, phrase, say}
+use Rattle.explaining.specs.Lines.{decimalToken, dotted, hexToken, nameToken, nothing, phrase, say, wordsToken}
 
 -- ---- the record
 
@@ -120,9 +122,45 @@ foundWords (Held place) = placeWords place
 
 -- ---- the answer
 
+-- code 8
+unfoldable pub lockedWords : List Token
+lockedWords = phrase (nameToken CR11 ∷ say "[7] locks " ∷ nameToken CR0 ∷ say " to " ∷ nameToken CR6 ∷ [])
+
+-- 01, the table of codes, and 02, 2/13: what a code means, whatever the record, but for 8; an access has no others than these
+unfoldable pub codeNames : List String
+codeNames =
+    "done"
+    ∷ "index names no register"
+    ∷ "malformed"
+    ∷ "space off"
+    ∷ "nothing there"
+    ∷ "other half"
+    ∷ "other width"
+    ∷ "can only be read"
+    ∷ ""
+    ∷ "palette down"
+    ∷ ""
+    ∷ ""
+    ∷ "the file is not sound"
+    ∷ ""
+    ∷ ""
+    ∷ ""
+    ∷ "other direction"
+    ∷ "inside a wider register"
+    ∷ []
+
+unfoldable pub codeRows : List (List ℕ)
+codeRows = map (λ (name : String). dotted name) codeNames
+
+unfoldable pub codeWord : ℕ → Token
+codeWord code = wordsToken (getD codeRows code (nothing .bytes))
+
+unfoldable pub codeWords : ℕ → List Token
+codeWords code = cond (eqb code 8) lockedWords (phrase (codeWord code ∷ []))
+
 -- a write is done, and so are lines that pass; a read tells what it gave, in its width's digits
 unfoldable pub doneWords : Record → ℕ → List Token
-doneWords r value = cond (carries r) (phrase (say "done" ∷ [])) (phrase (say "read " ∷ hexToken (cond (eqb (r .width) 1) 2 4) value ∷ []))
+doneWords r value = cond (carries r) (codeWords 0) (phrase (say "read " ∷ hexToken (cond (eqb (r .width) 1) 2 4) value ∷ []))
 
 -- code 2, and which of its reasons: a fragment's bytes are missing
 unfoldable pub malformedWord : Record → Token
@@ -147,10 +185,6 @@ halfWords f r =
 unfoldable pub widthWords : Record → List Token
 widthWords r = phrase (cond (eqb (r .width) 1) (say "its width is 2") (say "its width is 1") ∷ [])
 
--- code 8
-unfoldable pub lockedWords : List Token
-lockedWords = phrase (nameToken CR11 ∷ say "[7] locks " ∷ nameToken CR0 ∷ say " to " ∷ nameToken CR6 ∷ [])
-
 -- code 9, and the first bit that has the palette down (02, 7/13)
 unfoldable pub downWords : File → List Token
 downWords f =
@@ -168,18 +202,18 @@ insideWords r = phrase (say "inside the register at " ∷ short (r .address - 1)
 -- what a code means: of a read what it gave, of a refusal the bit that refuses. An access has no other answers
 unfoldable pub answerWords : File → Record → Bool → Answer → List Token
 answerWords f r whole (Done value) = doneWords r value
-answerWords f r whole NoRegister = phrase (say "index names no register" ∷ [])
+answerWords f r whole NoRegister = codeWords 1
 answerWords f r whole Malformed = malformedWords whole r
 answerWords f r whole SpaceOff = offWords r
-answerWords f r whole NotHeld = phrase (say "nothing there" ∷ [])
+answerWords f r whole NotHeld = codeWords 4
 answerWords f r whole OtherHalf = halfWords f r
 answerWords f r whole WrongWidth = widthWords r
-answerWords f r whole ReadOnly = phrase (say "can only be read" ∷ [])
-answerWords f r whole Locked = lockedWords
+answerWords f r whole ReadOnly = codeWords 7
+answerWords f r whole Locked = codeWords 8
 answerWords f r whole PaletteDown = downWords f
 answerWords f r whole OutOfRange = phrase (nothing ∷ [])
 answerWords f r whole ShortBuffer = phrase (nothing ∷ [])
-answerWords f r whole NotSound = phrase (say "the file is not sound" ∷ [])
+answerWords f r whole NotSound = codeWords 12
 answerWords f r whole NotBeforeRed = phrase (nothing ∷ [])
 answerWords f r whole OtherChip = phrase (nothing ∷ [])
 answerWords f r whole OtherDirection = directionWords r

@@ -1,11 +1,11 @@
 // The lines of a record.
 ghost use mathlib.Core.Path.{_≡_};
-ghost use Prim.Native.Nat.{_+_, _≤_, _<_, min};
+ghost use Prim.Native.Nat.{_+_, _≤_, min};
 ghost use lib.ListN.{length};
 ghost use Rattle.text.specs.Lent.{Lined, Wrote};
-ghost use Rattle.explaining.specs.Explained.{beamLine, caseOf, entryIn, entryLine, explained, firstLine, headLine, isWhole, lineAt, lineCount, linesFrom, marksLine, numberLine, pointerLine, reachIn, recordAnswer, recordMost, toggleLine};
-ghost use Rattle.explaining.specs.Lines.{lineText};
-ghost use Rattle.explaining.specs.Moves.{numberCount, numbersIn};
+ghost use Rattle.explaining.specs.Explained.{beamLine, caseOf, entryIn, entryLine, explained, firstLine, headLine, isWhole, lineAt, lineCount, marksLine, numberLine, pointerLine, reachIn, recordAnswer, recordMost, toggleLine};
+ghost use Rattle.explaining.specs.Lines.{lineRoom, lineText, linesOf, mostAnswer};
+ghost use Rattle.explaining.specs.Moves.{numbersIn};
 ghost use Rattle.access.specs.Access.{recordIn};
 use crate::line::Line;
 use crate::line::blank_line;
@@ -13,6 +13,7 @@ use crate::line::column;
 use crate::line::told;
 use crate::meaning::answer_words;
 use crate::meaning::register_of;
+use crate::moves::NUMBERS;
 use crate::moves::may_move;
 use crate::moves::number_label;
 use crate::parts::choose_line;
@@ -88,7 +89,7 @@ fn record_in(item: Item) -> Record
 }
 
 // What a record may change in a file; a fragment is refused.
-fn reach_in(file: File, item: Item) -> Reach
+pub fn reach_in(file: File, item: Item) -> Reach
     ensures { λ r. ⌜ r ≡ reachIn file item ⌝ }
 {
     match item {
@@ -100,7 +101,7 @@ fn reach_in(file: File, item: Item) -> Reach
     }
 }
 
-fn numbers_in(file: File) -> [u32; 15]
+pub fn numbers_in(file: File) -> [u32; 15]
     ensures { λ r. ⌜ r ≡ numbersIn file ⌝ }
 {
     let read = read_timing(file);
@@ -152,7 +153,7 @@ fn head_line(case: Case) -> Line
 }
 
 // And the register that it may change.
-fn first_line(case: Case) -> Line
+pub fn first_line(case: Case) -> Line
     ensures { λ r. ⌜ r ≡ firstLine case ⌝ }
 {
     let head = head_line(case);
@@ -277,10 +278,12 @@ fn entry_line(case: Case) -> Line
     )
 }
 
-fn number_line(case: Case, k: usize) -> Line
-    requires { ⌜ k < numberCount ⌝ }
+pub fn number_line(case: Case, k: usize) -> Line
     ensures { λ r. ⌜ r ≡ numberLine case k ⌝ }
 {
+    if k >= NUMBERS {
+        return blank_line();
+    }
     let before = case.before;
     let wide = timing::is_wide(before.registers[CR1B]);
     let shown = may_move(wide, case.reach, k);
@@ -293,7 +296,6 @@ fn number_line(case: Case, k: usize) -> Line
 
 // A record's lines, by number.
 fn line_at(case: Case, k: usize) -> Line
-    requires { ⌜ k < lineCount ⌝ }
     ensures { λ r. ⌜ r ≡ lineAt case k ⌝ }
 {
     if k == 0 {
@@ -327,7 +329,7 @@ fn count_of(line: Line) -> usize
 
 // A line into a lent buffer that has room for it, with its newline; a line that has nothing is none.
 fn put_line(line: Line, buffer: &mut [u8], at: usize) -> usize
-    requires { ⌜ at + 160 ≤ length (now buffer) ⌝ }
+    requires { ⌜ at + lineRoom ≤ length (now buffer) ⌝ }
     ensures { λ r. ⌜ Wrote (now (buffer .entry)) at (lineText line) (now (buffer .exit)) r ⌝ }
 {
     let count = count_of(line);
@@ -343,10 +345,32 @@ fn put_line(line: Line, buffer: &mut [u8], at: usize) -> usize
     at + count + 1
 }
 
+// The same from a place of a buffer on, code 11 where there are fewer bytes than a line may have.
+pub fn place_line(buffer: &mut [u8], at: usize, line: Line) -> Placed
+    ensures { λ r. ⌜ Lined (mostAnswer lineRoom (now (buffer .entry)) at) at (lineText line) (now (buffer .entry)) (now (buffer .exit)) r ⌝ }
+{
+    if buffer.len() < 160 {
+        return Placed {
+            answer: Answer::ShortBuffer,
+            end: at,
+        };
+    }
+    if buffer.len() - 160 < at {
+        return Placed {
+            answer: Answer::ShortBuffer,
+            end: at,
+        };
+    }
+    Placed {
+        answer: Answer::Done(0),
+        end: put_line(line, buffer, at),
+    }
+}
+
 // The lines of a record into a lent buffer that has room for as many as there may be.
 fn put_lines(case: Case, buffer: &mut [u8], at: usize) -> usize
     requires { ⌜ at + recordMost ≤ length (now buffer) ⌝ }
-    ensures { λ r. ⌜ Wrote (now (buffer .entry)) at (linesFrom case 0 lineCount) (now (buffer .exit)) r ⌝ }
+    ensures { λ r. ⌜ Wrote (now (buffer .entry)) at (linesOf (lineAt case) 0 lineCount) (now (buffer .exit)) r ⌝ }
     ensures { λ r. ⌜ r ≤ at + recordMost ⌝ }
 {
     let mut at = at;

@@ -4,7 +4,7 @@ ghost use Prim.Native.Nat.{_-_, _<_};
 ghost use lib.Dec.{eqb};
 ghost use Rattle.bits.specs.Store.{bit};
 ghost use Rattle.file.specs.File.{register as registerIn};
-ghost use Rattle.explaining.specs.Words.{answerWords, directionWords, doneWords, downWords, halfWords, insideWords, lockedWords, malformedWord, malformedWords, offWords, widthWords};
+ghost use Rattle.explaining.specs.Words.{answerWords, codeWord, codeWords, directionWords, doneWords, downWords, halfWords, insideWords, lockedWords, malformedWord, malformedWords, offWords, widthWords};
 use crate::token::Token;
 use crate::token::alone;
 use crate::token::both;
@@ -32,6 +32,31 @@ use file::MISC;
 use file::PCI04;
 use file::REGISTERS;
 
+// The codes that have words.
+const CODES: usize = 18;
+
+// Their words, each before dots.
+const NAMES: [[u8; 24]; CODES] = [
+    *b"done....................",
+    *b"index names no register.",
+    *b"malformed...............",
+    *b"space off...............",
+    *b"nothing there...........",
+    *b"other half..............",
+    *b"other width.............",
+    *b"can only be read........",
+    *b"........................",
+    *b"palette down............",
+    *b"........................",
+    *b"........................",
+    *b"the file is not sound...",
+    *b"........................",
+    *b"........................",
+    *b"........................",
+    *b"other direction.........",
+    *b"inside a wider register.",
+];
+
 // What a register of a file holds.
 pub fn register_of(file: File, number: usize) -> u16
     ensures { λ r. ⌜ r ≡ registerIn file number ⌝ }
@@ -51,14 +76,48 @@ fn is_set(value: u16, place: u16) -> bool
     (value >> place) % 2 == 1
 }
 
+// Code 8.
+fn locked_words() -> [Token; 8]
+    ensures { λ r. ⌜ r ≡ lockedWords ⌝ }
+{
+    let lock = named(CR11);
+    let locks = say(*b"[7] locks ..............");
+    let first = named(CR0);
+    let to = say(*b" to ....................");
+    let last = named(CR6);
+    let none = none();
+    [lock, locks, first, to, last, none, none, none]
+}
+
+// What a code means, whatever the record, but for 8.
+fn code_word(code: u8) -> Token
+    ensures { λ r. ⌜ r ≡ codeWord code ⌝ }
+{
+    let code = code as usize;
+    if code >= CODES {
+        return none();
+    }
+    let names = NAMES;
+    say(names[code])
+}
+
+pub fn code_words(code: u8) -> [Token; 8]
+    ensures { λ r. ⌜ r ≡ codeWords code ⌝ }
+{
+    choose_phrase(code == 8, locked_words(), alone(code_word(code)))
+}
+
 // A write is done, and so are lines that pass; a read tells what it gave.
 fn done_words(asked: Record, value: u16) -> [Token; 8]
     ensures { λ r. ⌜ r ≡ doneWords asked value ⌝ }
 {
     let what = hex(pick(asked.width == 1, 2, 4), wide(value));
     let read = two(say(*b"read ..................."), what);
-    let done = alone(say(*b"done...................."));
-    choose_phrase(either(asked.kind % 2 == 1, asked.kind == 6), done, read)
+    choose_phrase(
+        either(asked.kind % 2 == 1, asked.kind == 6),
+        code_words(0),
+        read,
+    )
 }
 
 fn malformed_word(asked: Record) -> Token
@@ -126,19 +185,6 @@ fn width_words(asked: Record) -> [Token; 8]
     ))
 }
 
-// Code 8.
-fn locked_words() -> [Token; 8]
-    ensures { λ r. ⌜ r ≡ lockedWords ⌝ }
-{
-    let lock = named(CR11);
-    let locks = say(*b"[7] locks ..............");
-    let first = named(CR0);
-    let to = say(*b" to ....................");
-    let last = named(CR6);
-    let none = none();
-    [lock, locks, first, to, last, none, none, none]
-}
-
 // Code 9, and the first bit that has the palette down.
 fn down_words(file: File) -> [Token; 8]
     ensures { λ r. ⌜ r ≡ downWords file ⌝ }
@@ -186,18 +232,18 @@ pub fn answer_words(file: File, asked: Record, whole: bool, answer: Answer) -> [
 {
     match answer {
         Answer::Done(value) => done_words(asked, value),
-        Answer::NoRegister => alone(say(*b"index names no register.")),
+        Answer::NoRegister => code_words(1),
         Answer::Malformed => malformed_words(whole, asked),
         Answer::SpaceOff => off_words(asked),
-        Answer::NotHeld => alone(say(*b"nothing there...........")),
+        Answer::NotHeld => code_words(4),
         Answer::OtherHalf => half_words(file, asked),
         Answer::WrongWidth => width_words(asked),
-        Answer::ReadOnly => alone(say(*b"can only be read........")),
-        Answer::Locked => locked_words(),
+        Answer::ReadOnly => code_words(7),
+        Answer::Locked => code_words(8),
         Answer::PaletteDown => down_words(file),
         Answer::OutOfRange => alone(none()),
         Answer::ShortBuffer => alone(none()),
-        Answer::NotSound => alone(say(*b"the file is not sound...")),
+        Answer::NotSound => code_words(12),
         Answer::NotBeforeRed => alone(none()),
         Answer::OtherChip => alone(none()),
         Answer::OtherDirection => direction_words(asked),

@@ -5,6 +5,7 @@ ghost use Prim.Native.Nat.{_≤_, _<_};
 ghost use Rattle.file.specs.Names.{CR0 as CR0Number, CR1E as CR1ENumber};
 ghost use Rattle.explaining.specs.Moves.{mayMove, movedTable, numberCount, numberLabel, readBits};
 use crate::token::Token;
+use crate::token::none;
 use crate::token::say;
 use crate::token::two;
 use file::CR0;
@@ -534,12 +535,15 @@ pub fn may_move(wide: bool, reach: Reach, k: usize) -> bool
     reach.bits & read_bits(wide, reach.register, k) != 0
 }
 
-// A number's name.
+// A number's name; of a number that there isn't nothing.
 pub fn number_label(k: usize) -> [Token; 8]
-    requires { ⌜ k < numberCount ⌝ }
     ensures { λ r. ⌜ r ≡ numberLabel k ⌝ }
 {
+    let space = say(*b" .......................");
+    if k >= NUMBERS {
+        return two(none(), space);
+    }
     let names = NAMES;
     let name = names[k];
-    two(say(name), say(*b" ......................."))
+    two(say(name), space)
 }

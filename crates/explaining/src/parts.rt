@@ -63,7 +63,7 @@ pub fn part_line(
     choose_line(shown, line, blank_line())
 }
 
-fn bit_digits(bits: u16) -> u8
+pub fn bit_digits(bits: u16) -> u8
     ensures { λ r. ⌜ r ≡ bitDigits bits ⌝ }
 {
     pick(bits < 0x100, 2, 4)

@@ -2,7 +2,6 @@
 use borrow.Author.Needs.{needs}
 use borrow.Author.Tests.{eq-eqb, ne-eqb}
 use Rattle.explaining.specs.Explained.{lineAt}
-use Rattle.explaining.proofs.PutLines.{from-six}
 use Rattle.explaining.proofs.explain.line_at.Statement.{statement}
 use Rattle.explaining.proofs.explain.line_at.Tie as tie
 
@@ -34,11 +33,7 @@ returns-7 : tie.Need-returns-7
 unfolding lineAt
 returns-7 c = rw (ne-eqb _ _ (c .before .before .before .before .before .before .if1 .left), ne-eqb _ _ (c .before .before .before .before .before .if2 .left), ne-eqb _ _ (c .before .before .before .before .if3 .left), ne-eqb _ _ (c .before .before .before .if4 .left), ne-eqb _ _ (c .before .before .if5 .left), ne-eqb _ _ (c .before .if6 .left)) (c .number-line .ensures)
 
-number-line-requires : tie.Need-number-line-requires
-number-line-requires c κs =
-    from-six (c .before .before .before .before .before .before .args .k) (c .before .before .before .before .before .if1 .left) (c .before .before .before .before .if2 .left) (c .before .before .before .if3 .left) (c .before .before .if4 .left) (c .before .if5 .left) (c .if6 .left) (c .before .before .before .before .before .before .pre)
-
 pub line-at-spec : {M : Type 1} → statement M
 line-at-spec =
     tie.close
-    (tie.spec (λ c κs. search needs) returns (λ c κs. search needs) returns-2 (λ c κs. search needs) returns-3 (λ c κs. search needs) returns-4 (λ c κs. search needs) returns-5 (λ c κs. search needs) returns-6 (λ c. search needs) number-line-requires returns-7)
+    (tie.spec (λ c κs. search needs) returns (λ c κs. search needs) returns-2 (λ c κs. search needs) returns-3 (λ c κs. search needs) returns-4 (λ c κs. search needs) returns-5 (λ c κs. search needs) returns-6 (λ c. search needs) (λ c κs. search needs) returns-7)

@@ -11,7 +11,7 @@ returns c = rw (c .before .before .answer .given .1, c .done-words .ensures)
 
 returns-2 : tie.Need-returns-2
 unfolding answerWords ascii
-returns-2 c = rw (c .before .before .before .before .enum-told .given .1, c .alone .ensures, c .before .say .ensures)
+returns-2 c = rw (c .before .enum-told .given .1, c .code-words .ensures)
 
 returns-3 : tie.Need-returns-3
 unfolding answerWords ascii
@@ -23,7 +23,7 @@ returns-4 c = rw (c .before .enum-told3 .given .1, c .off-words .ensures)
 
 returns-5 : tie.Need-returns-5
 unfolding answerWords ascii
-returns-5 c = rw (c .before .before .before .before .enum-told4 .given .1, c .alone2 .ensures, c .before .say2 .ensures)
+returns-5 c = rw (c .before .enum-told4 .given .1, c .code-words2 .ensures)
 
 returns-6 : tie.Need-returns-6
 unfolding answerWords ascii
@@ -35,11 +35,11 @@ returns-7 c = rw (c .before .enum-told6 .given .1, c .width-words .ensures)
 
 returns-8 : tie.Need-returns-8
 unfolding answerWords ascii
-returns-8 c = rw (c .before .before .before .before .enum-told7 .given .1, c .alone3 .ensures, c .before .say3 .ensures)
+returns-8 c = rw (c .before .enum-told7 .given .1, c .code-words3 .ensures)
 
 returns-9 : tie.Need-returns-9
 unfolding answerWords ascii
-returns-9 c = rw (c .before .enum-told8 .given .1, c .locked-words .ensures)
+returns-9 c = rw (c .before .enum-told8 .given .1, c .code-words4 .ensures)
 
 returns-10 : tie.Need-returns-10
 unfolding answerWords ascii
@@ -47,23 +47,23 @@ returns-10 c = rw (c .before .enum-told9 .given .1, c .down-words .ensures)
 
 returns-11 : tie.Need-returns-11
 unfolding answerWords ascii
-returns-11 c = rw (c .before .before .enum-told10 .given .1, c .alone4 .ensures, c .before .none .ensures)
+returns-11 c = rw (c .before .before .enum-told10 .given .1, c .alone .ensures, c .before .none .ensures)
 
 returns-12 : tie.Need-returns-12
 unfolding answerWords ascii
-returns-12 c = rw (c .before .before .enum-told11 .given .1, c .alone5 .ensures, c .before .none2 .ensures)
+returns-12 c = rw (c .before .before .enum-told11 .given .1, c .alone2 .ensures, c .before .none2 .ensures)
 
 returns-13 : tie.Need-returns-13
 unfolding answerWords ascii
-returns-13 c = rw (c .before .before .before .before .enum-told12 .given .1, c .alone6 .ensures, c .before .say4 .ensures)
+returns-13 c = rw (c .before .enum-told12 .given .1, c .code-words5 .ensures)
 
 returns-14 : tie.Need-returns-14
 unfolding answerWords ascii
-returns-14 c = rw (c .before .before .enum-told13 .given .1, c .alone7 .ensures, c .before .none3 .ensures)
+returns-14 c = rw (c .before .before .enum-told13 .given .1, c .alone3 .ensures, c .before .none3 .ensures)
 
 returns-15 : tie.Need-returns-15
 unfolding answerWords ascii
-returns-15 c = rw (c .before .before .enum-told14 .given .1, c .alone8 .ensures, c .before .none4 .ensures)
+returns-15 c = rw (c .before .before .enum-told14 .given .1, c .alone4 .ensures, c .before .none4 .ensures)
 
 returns-16 : tie.Need-returns-16
 unfolding answerWords ascii
@@ -76,4 +76,4 @@ returns-17 c = rw (c .before .enum-told16 .given .1, c .inside-words .ensures)
 pub answer-words-spec : {M : Type 1} → statement M
 answer-words-spec =
     tie.close
-    (tie.spec (λ c. search needs) (λ c κs. search needs) (λ c. search needs) (λ c κs. search needs) (λ c κs. search needs) (λ c. search needs) (λ c κs. search needs) (λ c. search needs) (λ c κs. search needs) (λ c. search needs) (λ c κs. search needs) (λ c κs. search needs) (λ c. search needs) (λ c κs. search needs) (λ c. search needs) (λ c κs. search needs) (λ c. search needs) (λ c κs. search needs) (λ c κs. search needs) (λ c. search needs) (λ c κs. search needs) (λ c. search needs) (λ c κs. search needs) (λ c. search needs) (λ c κs. search needs) (λ c κs. search needs) (λ c. search needs) (λ c κs. search needs) (λ c κs. search needs) (λ c. search needs) (λ c κs. search needs) (λ c κs. search needs) (λ c. search needs) (λ c κs. search needs) (λ c κs. search needs) (λ c. search needs) (λ c κs. search needs) (λ c κs. search needs) (λ c. search needs) (λ c κs. search needs) (λ c. search needs) (λ c κs. search needs) returns returns-2 returns-3 returns-4 returns-5 returns-6 returns-7 returns-8 returns-9 returns-10 returns-11 returns-12 returns-13 returns-14 returns-15 returns-16 returns-17)
+    (tie.spec (λ c. search needs) (λ c κs. search needs) (λ c. search needs) (λ c κs. search needs) (λ c. search needs) (λ c κs. search needs) (λ c. search needs) (λ c κs. search needs) (λ c. search needs) (λ c κs. search needs) (λ c. search needs) (λ c κs. search needs) (λ c. search needs) (λ c κs. search needs) (λ c. search needs) (λ c κs. search needs) (λ c. search needs) (λ c κs. search needs) (λ c. search needs) (λ c κs. search needs) (λ c. search needs) (λ c κs. search needs) (λ c κs. search needs) (λ c. search needs) (λ c κs. search needs) (λ c κs. search needs) (λ c. search needs) (λ c κs. search needs) (λ c. search needs) (λ c κs. search needs) (λ c κs. search needs) (λ c. search needs) (λ c κs. search needs) (λ c κs. search needs) (λ c. search needs) (λ c κs. search needs) (λ c. search needs) (λ c κs. search needs) returns returns-2 returns-3 returns-4 returns-5 returns-6 returns-7 returns-8 returns-9 returns-10 returns-11 returns-12 returns-13 returns-14 returns-15 returns-16 returns-17)
