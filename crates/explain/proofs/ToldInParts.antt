@@ -1,6 +1,6 @@
 -- What is told of a trace in two parts, of a part of at most one record, and of a record in a buffer. Assumes nothing.
 use Prim.Native.Nat.{ℕ, suc, _+_, _%_, _≤_}
-use mathlib.Core.Bool.{Bool, true, false}
+use mathlib.Core.Bool.{Bool}
 use mathlib.Core.List.{List, [], _∷_, _++_, append-assoc, append-nil}
 use mathlib.Core.Path.{_≡_, refl, sym, ap, _∙_}
 use native.Mathlib.Nat.{add-suc, add-zero, suc-add, zero-add}

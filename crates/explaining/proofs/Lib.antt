@@ -6,3 +6,4 @@ pub mod MovedBits
 pub mod Unmoved
 pub mod PutLines
 pub mod RoomLined
+pub mod NothingDropped

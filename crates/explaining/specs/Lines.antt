@@ -1,5 +1,5 @@
 -- 'Explain': what a line is made of. A line is written token by token behind what stands there, and nothing stands behind its last place, so that
--- with its newline it has 160 bytes at most.
+-- with its newline it has 160 bytes at most. No line of an explanation gets that far, so none drops a byte: `nothing-dropped`.
 -- Assumes nothing.
 use Prim.Native.Nat.{ℕ, zero, suc, _+_, _-_, _*_, _/_, _%_, _^_}
 use Prim.Native.String.{String}

@@ -1,5 +1,4 @@
 -- `explain_input` is safe and ends: the measure is the number of turns that are left. Turns lead to its course. Assumes nothing.
-use Prim.Native.Nat.{_+_, _^_, _<_}
 use mathlib.Core.Path.{_≡_, sym, ap, _∙_}
 use native.Mathlib.Omega.{arith}
 use borrow.Author.Needs.{needs}

@@ -1,6 +1,5 @@
 -- `tell_some` tells a record: a turn. Assumes nothing.
 use mathlib.Core.Path.{refl, ap}
-use native.Mathlib.Omega.{arith}
 use borrow.Author.Needs.{needs}
 use denote.Ref.{now}
 use Rattle.access.specs.declared.access.Accessed.{Accessed}
