@@ -1,0 +1,3 @@
+pub mod Summed
+pub mod Together
+pub mod Closing
