@@ -5,7 +5,6 @@ ghost use lib.ListN.{length};
 ghost use Rattle.text.specs.Lent.{Lined, Wrote};
 ghost use Rattle.explaining.specs.Lines.{linesOf};
 ghost use Rattle.summing.specs.Closing.{codeLine, countLine, counted as countedBy, registerLine, summaryAnswer, summaryCount, summaryLine, summaryMost, summaryText, timingLine};
-use crate::summary::CODES;
 use crate::summary::Summary;
 use explaining::Line;
 use explaining::Token;
@@ -28,7 +27,6 @@ use explaining::told;
 use explaining::two;
 use explaining::wide;
 use file::Answer;
-use file::REGISTERS;
 use text::Placed;
 
 // The columns: what was counted or read, what is told of it, and what moved.
@@ -37,6 +35,11 @@ const COUNT: usize = 15;
 const TOLD: usize = 32;
 
 const MOVED: usize = 45;
+
+// The registers stand first, then the codes, then the numbers.
+const CODES_FROM: usize = 108;
+
+const NUMBERS_FROM: usize = 129;
 
 // How many lines there may be, and the most bytes of them.
 const LINES: usize = 144;
@@ -97,14 +100,14 @@ fn summary_line(summary: Summary, k: usize) -> Line
     requires { ⌜ k < summaryCount ⌝ }
     ensures { λ r. ⌜ r ≡ summaryLine summary k ⌝ }
 {
-    if k < REGISTERS {
+    if k < CODES_FROM {
         return register_line(k, summary.writes[k], summary.reaches[k], summary.moved[k]);
     }
-    if k < REGISTERS + CODES {
-        let code = k - REGISTERS;
+    if k < NUMBERS_FROM {
+        let code = k - CODES_FROM;
         return code_line(code as u8, summary.codes[code]);
     }
-    let number = k - REGISTERS - CODES;
+    let number = k - NUMBERS_FROM;
     timing_line(number, summary.first[number], summary.last[number])
 }
 

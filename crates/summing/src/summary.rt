@@ -9,7 +9,7 @@ use file::File;
 use file::REGISTERS;
 
 // The codes from 0 to 20.
-pub const CODES: usize = 21;
+const CODES: usize = 21;
 
 // Of each register how many writes, the union of reaches and the bits that ever moved; how often each code came; the timing numbers at the start and
 // at the end.

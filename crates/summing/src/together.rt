@@ -46,7 +46,9 @@ fn moved_count(old: [u32; 15], new: [u32; 15]) -> usize
 fn is_together(case: Case) -> bool
     ensures { λ r. ⌜ r ≡ together case ⌝ }
 {
-    moved_count(case.old, case.new) > 1
+    let old = case.old;
+    let new = case.new;
+    moved_count(old, new) > 1
 }
 
 // One of the fifteen numbers.
@@ -66,8 +68,10 @@ fn moved_at(old: [u32; 15], new: [u32; 15], k: usize) -> bool
 fn moved_line(case: Case, k: usize) -> Line
     ensures { λ r. ⌜ r ≡ movedLine case k ⌝ }
 {
+    let old = case.old;
+    let new = case.new;
     let line = number_line(case, k);
-    choose_line(moved_at(case.old, case.new, k), line, blank_line())
+    choose_line(moved_at(old, new, k), line, blank_line())
 }
 
 // The record's first line, and those.
