@@ -47,13 +47,14 @@ brought {before = before} goes count so tested test =
 
 -- the course with what was handed to be written
 abbrev withHanded : Handed → Course → Course
-withHanded handed c = record { number = c .number; more = c .more; failed = c .failed; read = c .read; handed = handed; file = c .file }
+withHanded handed c =
+    record { number = c .number; more = c .more; failed = c .failed; read = c .read; handed = handed; file = c .file; summary = c .summary }
 
 -- a turn that was taken: its part was read, and its lines were handed on
 module _ {chip : Chip} {sums : Bool} {turns : ℕ} {before : Course} (read : Filled) (part lines₀ lines : List ℕ) (r : Turn) (handed : Handed)
     (come : Coming chip sums turns before) (turned : Turned sums (withRead read before) part lines₀ lines r) (brought : Brought false before part read)
     (all : handed .all ≡ counted (r .course .handed .all) (length (take (r .end) lines))) where
-  after : withHanded handed (r .course) ≡ courseAfter read handed before part
+  after : withHanded handed (r .course) ≡ courseAfter sums read handed before part
   unfolding courseAfter
   after = ap (withHanded handed) (turned .course)
 

@@ -1,6 +1,6 @@
--- What is told of a trace in two parts, of a part of at most one record, and of a record in a buffer. Assumes nothing.
+-- What is told of a trace in two parts, and summed, of a part of at most one record, and of a record in a buffer. Assumes nothing.
 use Prim.Native.Nat.{ℕ, suc, _+_, _%_, _≤_}
-use mathlib.Core.Bool.{Bool}
+use mathlib.Core.Bool.{Bool, true, false}
 use mathlib.Core.List.{List, [], _∷_, _++_, append-assoc, append-nil}
 use mathlib.Core.Path.{_≡_, refl, sym, ap, _∙_}
 use native.Mathlib.Nat.{add-suc, add-zero, suc-add, zero-add}
@@ -21,7 +21,9 @@ use Rattle.text.specs.Lent.{Lined, behindBy, placedBy}
 use Rattle.replaying.specs.Replay.{afterPart}
 use Rattle.replaying.proofs.Pieces.{trace-cut}
 use Rattle.shell.proofs.Bounds.{counts}
-use Rattle.explain.specs.Told.{partTold, recordTold, recordsTold}
+use Rattle.summing.specs.declared.summary.Summary.{Summary}
+use Rattle.summing.specs.Summed.{takenAll, takenIn}
+use Rattle.explain.specs.Told.{partSummed, partTold, recordSummed, recordTold, recordsTold}
 
 -- items in two parts
 records-in-parts : (sums : Bool) (number : ℕ) (f : File) (a b : List Item)
@@ -40,10 +42,28 @@ unfolding partTold afterPart itemCount
 told-parts sums number f part rest whole =
     rw (trace-cut (itemCount part) part rest (omega (arith, whole)), records-in-parts sums number f (items (itemCount part) part) (items (itemCount rest) rest), items-length)
 
+taken-in-parts : (s : Summary) (f : File) (a b : List Item) → takenAll s f (a ++ b) ≡ takenAll (takenAll s f a) (fileAfter f a) b
+unfolding takenAll fileAfter
+taken-in-parts s f [] b = refl
+taken-in-parts s f (i ∷ a) b = taken-in-parts (takenIn s f i) (accessItem f i .file) a b
+
+pub summed-parts : (sums : Bool) (s : Summary) (f : File) (part rest : List ℕ) → length part % 8 ≡ 0
+    → partSummed sums s f (part ++ rest) ≡ partSummed sums (partSummed sums s f part) (afterPart f part) rest
+unfolding partSummed afterPart itemCount
+summed-parts true s f part rest whole =
+    rw (trace-cut (itemCount part) part rest (omega (arith, whole)))
+    (taken-in-parts s f (items (itemCount part) part) (items (itemCount rest) rest))
+summed-parts false s f part rest whole = refl
+
 -- nothing is told of no part
 pub none-told : (sums : Bool) (number : ℕ) (f : File) → partTold sums number f [] ≡ []
 unfolding partTold itemCount items recordsTold
 none-told sums number f = refl
+
+pub none-summed : (sums : Bool) (s : Summary) (f : File) → partSummed sums s f [] ≡ s
+unfolding partSummed itemCount items takenAll
+none-summed true s f = refl
+none-summed false s f = refl
 
 -- no bytes are no record, and up to eight are one
 module _ (part : List ℕ) where
@@ -63,6 +83,11 @@ module _ (part : List ℕ) where
   unfolding afterPart items fileAfter
   no-after f h = rw (no-item h) refl
 
+  pub no-summed : (sums : Bool) (s : Summary) (f : File) → length part ≡ 0 → partSummed sums s f part ≡ s
+  unfolding partSummed items takenAll
+  no-summed true s f h = rw (no-item h) refl
+  no-summed false s f h = refl
+
   pub one-told : (sums : Bool) (number : ℕ) (f : File) → (length part ≡ 0 → ⊥) → length part ≤ 8
       → partTold sums number f part ≡ recordTold sums number f (itemOf (take 8 part))
   unfolding partTold items recordsTold
@@ -71,6 +96,12 @@ module _ (part : List ℕ) where
   pub one-after : (f : File) → (length part ≡ 0 → ⊥) → length part ≤ 8 → afterPart f part ≡ accessItem f (itemOf (take 8 part)) .file
   unfolding afterPart items fileAfter
   one-after f some h = rw (one-item some h) refl
+
+  pub one-summed : (sums : Bool) (s : Summary) (f : File) → (length part ≡ 0 → ⊥) → length part ≤ 8
+      → partSummed sums s f part ≡ recordSummed sums s f (itemOf (take 8 part))
+  unfolding partSummed recordSummed items takenAll
+  one-summed true s f some h = rw (one-item some h) refl
+  one-summed false s f some h = refl
 
 -- a text that is not refused stands from the start of its buffer on
 module _ (answer : Answer) (text before after : List ℕ) (r : Placed) (done : answer ≡ Done 0) (lined : Lined answer 0 text before after r) where

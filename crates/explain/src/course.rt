@@ -1,4 +1,4 @@
-// A trace on standard input, told record by record from power-on, in fixed memory.
+// A trace on standard input, told record by record from power-on, or summed, in fixed memory.
 ghost use mathlib.Core.List.{_++_};
 ghost use mathlib.Core.Path.{_≡_};
 ghost use Prim.Native.Nat.{_+_, _^_, _≤_, _<_};
@@ -6,8 +6,9 @@ ghost use lib.ListN.{length, drop};
 ghost use Rattle.io.specs.Counts.{Counts};
 ghost use Rattle.shell.specs.Parts.{counted};
 ghost use Rattle.explaining.specs.Explained.{recordMost};
-ghost use Rattle.explain.specs.Told.{recordTold};
-ghost use Rattle.explain.specs.Turns.{Came, Turned, beginning, failedAfter, overAfter};
+ghost use Rattle.summing.specs.Closing.{summaryMost, summaryText};
+ghost use Rattle.explain.specs.Told.{recordSummed, recordTold};
+ghost use Rattle.explain.specs.Turns.{Came, Closed, Finished, Turned, beginning, failedAfter, overAfter};
 use access::Item;
 use explaining::record_lines;
 use file::Chip;
@@ -20,10 +21,14 @@ use shell::nothing_read;
 use shell::tell;
 use shell::tell_failure;
 use shell::write_out;
+use summing::Summary;
+use summing::summary_lines;
+use summing::take_in;
+use summing::together_lines;
 use trace::item_of;
 
 // How far a run has come: how many records there were, whether there is more to read, whether something failed, what was read and what
-// was handed to be written, and the file after the records.
+// was handed to be written, the file after the records, and their summary, where they are summed.
 pub struct Course {
     pub number: u64,
     pub more: bool,
@@ -31,6 +36,7 @@ pub struct Course {
     pub read: Filled,
     pub handed: Handed,
     pub file: File,
+    pub summary: Summary,
 }
 
 // One turn: where its lines end, and the course after it.
@@ -43,13 +49,15 @@ struct Turn {
 fn begin(chip: Chip) -> Course
     ensures { λ r. ⌜ r ≡ beginning chip ⌝ }
 {
+    let file = File::power_on(chip);
     Course {
         number: 0,
         more: true,
         failed: false,
         read: nothing_read(),
         handed: nothing_handed(),
-        file: File::power_on(chip),
+        file,
+        summary: summing::begin(file),
     }
 }
 
@@ -95,9 +103,19 @@ fn told_end(sums: bool, number: u64, file: File, item: Item, lines: &mut [u8]) -
     ensures { λ r. ⌜ now (lines .exit) ≡ recordTold sums number file item ++ drop r (now (lines .entry)) ⌝ }
 {
     if sums {
-        return 0;
+        return together_lines(lines, 0, number, file, item).end;
     }
     record_lines(lines, 0, number, file, item).end
+}
+
+// The summary with a record more, where one is kept.
+fn summed(sums: bool, summary: Summary, file: File, item: Item) -> Summary
+    ensures { λ r. ⌜ r ≡ recordSummed sums summary file item ⌝ }
+{
+    if sums {
+        return take_in(summary, file, item);
+    }
+    summary
 }
 
 // One turn, a function of the bytes that were read: a record, its fragment, or none.
@@ -110,6 +128,7 @@ fn tell_some(sums: bool, before: Course, bytes: &[u8], lines: &mut [u8; 3360]) -
     let read = before.read;
     let handed = before.handed;
     let file = before.file;
+    let summary = before.summary;
     if bytes.len() == 0 {
         return Turn {
             end: 0,
@@ -120,11 +139,13 @@ fn tell_some(sums: bool, before: Course, bytes: &[u8], lines: &mut [u8; 3360]) -
                 read,
                 handed,
                 file,
+                summary,
             },
         };
     }
     let item = item_of(bytes);
     let end = told_end(sums, number, file, item, lines);
+    let summary = summed(sums, summary, file, item);
     let accessed = item.access(file);
     let file = accessed.file;
     Turn {
@@ -136,12 +157,13 @@ fn tell_some(sums: bool, before: Course, bytes: &[u8], lines: &mut [u8; 3360]) -
             read,
             handed,
             file,
+            summary,
         },
     }
 }
 
 // The whole of a trace, on a chip. A proved loop has to end, so this one counts its turns down.
-pub fn explain_input(chip: Chip, sums: bool) -> Course
+fn tell_input(chip: Chip, sums: bool) -> Course
     ensures { λ r. ⌜ Came chip sums r ⌝ }
 {
     let mut bytes = [0u8; 8];
@@ -166,4 +188,40 @@ pub fn explain_input(chip: Chip, sums: bool) -> Course
         turns -= 1;
     }
     over(course)
+}
+
+// The summary, from the start of a buffer on, and where it ends.
+fn summary_end(summary: Summary, lines: &mut [u8]) -> usize
+    requires { ⌜ summaryMost ≤ length (now lines) ⌝ }
+    ensures { λ r. ⌜ Counts r (now (lines .exit)) ⌝ }
+    ensures { λ r. ⌜ r ≡ length (summaryText summary) ⌝ }
+    ensures { λ r. ⌜ now (lines .exit) ≡ summaryText summary ++ drop r (now (lines .entry)) ⌝ }
+{
+    summary_lines(lines, 0, summary).end
+}
+
+// The end of a course: where records are summed and nothing failed, the summary is written.
+fn close(sums: bool, before: Course) -> Course
+    ensures { λ r. ⌜ Closed sums before r ⌝ }
+{
+    if before.failed {
+        return before;
+    }
+    if !sums {
+        return before;
+    }
+    let mut lines = [0u8; 23040];
+    let end = summary_end(before.summary, &mut lines);
+    let handed = write_out(b"explain", before.handed, &lines[..end]);
+    let mut course = before;
+    course.failed = handed.has_failed();
+    course.handed = handed;
+    course
+}
+
+// Explains the trace on standard input, or sums it, from a chip's power-on on standard output.
+pub fn explain(chip: Chip, sums: bool) -> Course
+    ensures { λ r. ⌜ Finished chip sums r ⌝ }
+{
+    close(sums, tell_input(chip, sums))
 }

@@ -1,4 +1,4 @@
--- `explain_input` is safe and ends: the measure is the number of turns that are left. Turns lead to its course. Assumes nothing.
+-- `tell_input` is safe and ends: the measure is the number of turns that are left. Turns lead to its course. Assumes nothing.
 use mathlib.Core.Path.{_≡_, sym, ap, _∙_}
 use native.Mathlib.Omega.{arith}
 use borrow.Author.Needs.{needs}
@@ -11,8 +11,8 @@ use Rattle.explain.specs.declared.course.Course.{Course}
 use Rattle.explain.specs.Turns.{beginning}
 use Rattle.explain.proofs.Coming.{Coming, brought, came-last, came-stopped, came-unread, came-unwritten, coming-none, coming-on}
 use Rattle.explain.proofs.TurnsTold.{lines-within}
-use Rattle.explain.proofs.course.explain_input.Statement.{statement}
-use Rattle.explain.proofs.course.explain_input.Tie as tie
+use Rattle.explain.proofs.course.tell_input.Statement.{statement}
+use Rattle.explain.proofs.course.tell_input.Tie as tie
 
 abbrev Inv-loop : tie.InvT-loop
 Inv-loop sums bytes₀ lines₀ course₀ turns₀ name bytes lines course turns = Coming (course₀ .file .state .chip) sums turns course
@@ -85,8 +85,8 @@ returns-3 c =
     (λ stopped. came-stopped (at .loop .inv) (stopped .1 .left) _ (c .over .ensures))
     (λ none. let turns : at .loop .turns ≡ 0 = omega (arith, none .left) in came-last (rw turns at (at .loop .inv)) _ (c .over .ensures)))
 
-pub explain-input-spec : {M : Type 1} → statement M
-explain-input-spec =
+pub tell-input-spec : {M : Type 1} → statement M
+tell-input-spec =
     tie.close
     (tie.spec Inv-loop μ-loop (λ c κs. search needs) loop-holds (λ c κs. search needs) (λ c κs. search needs) (λ c κs. search needs) returns
     (λ c. search needs) (λ c. search needs) tell-some-requires (λ c. search needs) array-share-prefix-lines slice-aggregate-write-out-2
