@@ -36,12 +36,12 @@ use Rattle.explain.proofs.ToldInParts.{no-after, no-item, no-summed, no
 module _ (sums : Bool) (before : Course) (part lines₀ : List ℕ) where
   -- nothing was read
   pub turn-none : length part ≡ 0 → Turned sums before part lines₀ lines₀
-      (record { end = 0; course = record { number = before .number; more = false; failed = false; read = before .read; handed = before .handed; file = before .file; summary = before .summary } })
+      (record { end = 0; course = record { number = before .number; more = eqb (length part) 8; failed = false; read = before .read; handed = before .handed; file = before .file; summary = before .summary } })
   unfolding courseAfter turnLines
   turn-none h =
       record {
         end = rw (no-told part sums (before .number) (before .file) h) refl;
-        course = rw (no-item part h, no-after part (before .file) h, no-summed part sums (before .summary) (before .file) h, h, add-zero) refl;
+        course = rw (no-item part h, no-after part (before .file) h, no-summed part sums (before .summary) (before .file) h, add-zero) refl;
         printed = rw (no-told part sums (before .number) (before .file) h) refl;
       }
 

@@ -124,42 +124,21 @@ fn tell_some(sums: bool, before: Course, bytes: &[u8], lines: &mut [u8; 3360]) -
     requires { ⌜ before .number + 1 < 2 ^ 64 ⌝ }
     ensures { λ r. ⌜ Turned sums before (now (bytes .entry)) (now (lines .entry)) (now (lines .exit)) r ⌝ }
 {
-    let number = before.number;
-    let read = before.read;
-    let handed = before.handed;
-    let file = before.file;
-    let summary = before.summary;
+    let mut course = before;
+    course.more = bytes.len() == 8;
+    course.failed = false;
     if bytes.len() == 0 {
-        return Turn {
-            end: 0,
-            course: Course {
-                number,
-                more: false,
-                failed: false,
-                read,
-                handed,
-                file,
-                summary,
-            },
-        };
+        return Turn { end: 0, course };
     }
     let item = item_of(bytes);
-    let end = told_end(sums, number, file, item, lines);
-    let summary = summed(sums, summary, file, item);
-    let accessed = item.access(file);
+    let end = told_end(sums, before.number, before.file, item, lines);
+    let summary = summed(sums, before.summary, before.file, item);
+    let accessed = item.access(before.file);
     let file = accessed.file;
-    Turn {
-        end,
-        course: Course {
-            number: number + 1,
-            more: bytes.len() == 8,
-            failed: false,
-            read,
-            handed,
-            file,
-            summary,
-        },
-    }
+    course.number = before.number + 1;
+    course.file = file;
+    course.summary = summary;
+    Turn { end, course }
 }
 
 // The whole of a trace, on a chip. A proved loop has to end, so this one counts its turns down.

@@ -10,6 +10,7 @@ use lib.ListN.{getD, length, length-append, length-replicate, replicate, List·g
 use lib.Bits.{bitXor}
 use Rattle.bits.specs.Every.{everyBelow}
 use Rattle.bits.specs.Store.{bit}
+use Rattle.bits.proofs.Bounded.{read-below}
 use Rattle.bits.proofs.Test.{below, by-test}
 use Rattle.file.specs.declared.answer.Answer.{Answer}
 use Rattle.file.specs.declared.answer.Answer.the-variants.{Done, NoRegister, Malformed, SpaceOff, NotHeld, OtherHalf, WrongWidth, ReadOnly, Locked, PaletteDown, OutOfRange, ShortBuffer, NotSound, NotBeforeRed, OtherChip, OtherDirection, InsideWider}
@@ -20,12 +21,22 @@ use Rattle.file.specs.File.{register}
 use Rattle.file.specs.Names.{B0, CR1A, MISC, PCI04, captureYStart}
 use Rattle.file.specs.Readers.{ascii, nameTable}
 use Rattle.file.specs.Registers.{registers}
+use Rattle.file.specs.Sound.{sound}
+use Rattle.file.specs.State.{lastLine}
+use Rattle.file.proofs.Soundness.{line-sound}
 use Rattle.file.proofs.NameBytes.{name-short}
 use Rattle.places.specs.declared.place.Place.{Place}
 use Rattle.places.specs.declared.place.Place.the-variants.{Register, Attribute, Fixed, DeviceId, ToggleState, AttributeIndex, PaletteState, VPortState, ReadAddress, WriteAddress, PixelData, ToggleReset, Unnamed, UnnamedAttribute, CurrentLine, Passing}
 use Rattle.places.specs.Places.{pci00}
 use Rattle.access.specs.declared.record.Record.{Record}
+use Rattle.access.specs.declared.record.Item.{Item}
+use Rattle.access.specs.declared.record.Item.the-variants.{Whole, Fragment}
+use Rattle.access.specs.Access.{accessItem, recordIn}
 use Rattle.access.specs.Checks.{carries, isPassing, isPort, isWrite}
+use Rattle.access.proofs.Soundness.{access-sound}
+use Rattle.timing.specs.Table.{table, wide}
+use Rattle.timing.specs.Timing.{numbersOf, readTiming}
+use Rattle.timing.proofs.Computed.{table-bounded}
 use Rattle.text.specs.Text.{decimal}
 use Rattle.text.proofs.Places.{most-places}
 use Rattle.text.proofs.Spelled.{digits-length}
@@ -34,10 +45,11 @@ use Rattle.explaining.specs.declared.line.Line.{Line}
 use Rattle.explaining.specs.declared.token.Token.{Token}
 use Rattle.explaining.specs.declared.words.Found.{Found}
 use Rattle.explaining.specs.declared.words.Found.the-variants.{Held, NotFound}
-use Rattle.explaining.specs.Explained.{beamLine, bitDigits, byteToken, changed, colourWord, entryLine, firstLine, headLine, lineAt, marksLine, marksWords, numberLine, partLine, pointerLine, pointerWords, registerPart, toggleLine, toggleWords}
+use Rattle.explaining.specs.Explained.{beamLine, bitDigits, byteToken, caseOf, changed, colourWord, entryLine, firstLine, headLine, lineAt, marksLine, marksWords, numberLine, partLine, pointerLine, pointerWords, registerPart, toggleLine, toggleWords}
 use Rattle.explaining.specs.Lines.{behind, blank, byteBehind, columned, decimalToken, formText, gap, hexOf, hexToken, lineMost, nameToken, nothing, phrase, say, told, tokenText, tokensText, upToDot, wordsToken}
-use Rattle.explaining.specs.Moves.{numberLabel, numberNames, numberRows}
+use Rattle.explaining.specs.Moves.{numberLabel, numberNames, numberRows, numbersIn}
 use Rattle.explaining.specs.Words.{accessWords, answerWords, bytesWord, codeNames, codeRows, codeWord, codeWords, commaWord, directionWords, doneWords, downWords, equalsWord, fixedWords, foundWords, halfWords, hasValue, hasWidth, insideWords, lockedWords, malformedWord, malformedWords, offWords, placeWords, recordWords, short, spaceWord, valueDigits, valueToken, wayWord, widthToken, widthWords}
+use Rattle.explaining.proofs.Unmoved.{number-in}
 
 -- ---- how far a line goes
 
@@ -411,12 +423,49 @@ module _ (c : Case) (fits : Fitting c) where
   line-ends true a b = a
   line-ends false a b = b
 
-  -- no line of a record reaches its last place, so that none drops a byte
-  pub nothing-dropped : (k : ℕ) → lineAt c k .end < lineMost
+  -- no line of a case reaches its last place
+  pub none-full : (k : ℕ) → lineAt c k .end < lineMost
   unfolding lineAt
-  nothing-dropped k =
+  none-full k =
       let all = line-ends (eqb k 0) first-ends
       (line-ends (eqb k 1) toggle-ends
       (line-ends (eqb k 2) pointer-ends
       (line-ends (eqb k 3) marks-ends (line-ends (eqb k 4) entry-ends (line-ends (eqb k 5) beam-ends (number-ends (k - 6))))))) in
       omega (arith, all .most)
+
+-- ---- a record
+
+table-long : (w : Bool) → length (table w) ≡ 15
+unfolding table
+table-long true = refl
+table-long false = refl
+
+numbers-low : (f : File) → T (sound f) → (k : ℕ) → getD (numbersIn f) k 0 < 2 ^ 32
+unfolding numbersIn numbersOf
+numbers-low f s k =
+    by-test (ltb k 15)
+    (λ e. let small = ltb-true k 15 e in
+    omega (arith, number-in f s k small, read-below (2 ^ 31) 0 (table (wide f)) (f .registers) (table-bounded (wide f)) k (omega (arith, table-long (wide f), small))))
+    (λ e. rw (List·getD-eq-default (numbersOf (readTiming f .timing)) 0 {n = k} (ltb-false k 15 e)) (omega arith))
+
+after-sound : (f : File) → T (sound f) → (item : Item) → T (sound (accessItem f item .file))
+unfolding accessItem
+after-sound f s (Whole r) = access-sound f s r
+after-sound f s (Fragment r) = s
+
+-- a record whose fields fit its bytes, a number of 64 bits and a sound file: no line drops a byte
+pub nothing-dropped : (number : ℕ) (f : File) (item : Item) → number < 2 ^ 64 → T (sound f) → recordIn item .kind < 2 ^ 8 → recordIn item .width < 2 ^ 8
+    → recordIn item .value < 2 ^ 32 → (k : ℕ) → lineAt (caseOf number f item) k .end < lineMost
+unfolding caseOf lastLine
+nothing-dropped number f item low s kind width value =
+    none-full (caseOf number f item)
+    (record {
+      number = low;
+      kind = kind;
+      width = width;
+      value = value;
+      before = omega (arith, line-sound f s);
+      after = omega (arith, line-sound (accessItem f item .file) (after-sound f s item));
+      old = numbers-low f s;
+      new = numbers-low (accessItem f item .file) (after-sound f s item);
+    })

@@ -107,7 +107,8 @@ number-of n (suc (suc (suc (suc (suc (suc (suc (suc (suc (suc (suc (suc (suc zer
 number-of n (suc (suc (suc (suc (suc (suc (suc (suc (suc (suc (suc (suc (suc (suc zero)))))))))))))) h = refl
 number-of n (suc (suc (suc (suc (suc (suc (suc (suc (suc (suc (suc (suc (suc (suc (suc k))))))))))))))) h = absurd (omega arith)
 
-number-in : (f : File) → T (sound f) → (k : ℕ) → k < numberCount → getD (numbersIn f) k 0 ≡ getD (readFrom 0 (table (wide f)) (f .registers)) k 0
+-- a number of a sound file, by the table
+pub number-in : (f : File) → T (sound f) → (k : ℕ) → k < numberCount → getD (numbersIn f) k 0 ≡ getD (readFrom 0 (table (wide f)) (f .registers)) k 0
 unfolding numbersIn readTiming timingIn readNumbers
 number-in f s k h = rw (is-true (sound f) s) (number-of (readFrom 0 (table (wide f)) (f .registers)) k h)
 
