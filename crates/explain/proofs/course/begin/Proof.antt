@@ -1,4 +1,5 @@
 -- `begin` starts from power-on. Assumes nothing.
+use mathlib.Core.Bool.{true, false}
 use mathlib.Core.Path.{ap, _∙_}
 use borrow.Author.Needs.{needs}
 use Rattle.summing.specs.Summed.{begun}
@@ -10,8 +11,15 @@ returns : tie.Need-returns
 unfolding beginning
 returns c =
     let on = c .before .before .before in
-    let summed = c .begin .ensures ∙ ap begun (on .power-on .ensures) in
-    cc (summed, on .power-on .ensures, c .before .nothing-handed .ensures, c .before .before .nothing-read .ensures)
+    λ i. record {
+      number = 0;
+      more = true;
+      failed = false;
+      read = c .before .before .nothing-read .ensures i;
+      handed = c .before .nothing-handed .ensures i;
+      file = on .power-on .ensures i;
+      summary = (c .begin .ensures ∙ ap begun (on .power-on .ensures)) i;
+    }
 
 pub begin-spec : {M : Type 1} → statement M
 begin-spec = tie.close (tie.spec (λ c κs. search needs) (λ c κs. search needs) (λ c κs. search needs) (λ c κs. search needs) returns)

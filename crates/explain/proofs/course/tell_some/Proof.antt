@@ -11,7 +11,7 @@ use Rattle.explain.proofs.course.tell_some.Tie as tie
 returns : tie.Need-returns
 returns c =
     let start = c .before .before in
-    turn-none (start .args .sums) (start .args .before) (now (start .args .bytes)) (now (start .args .lines)) (c .if1 .taken)
+    turn-none (start .args .sums) (start .args .before) (now (start .args .bytes)) (now (start .args .lines)) (omega (arith, c .if1 .taken))
 
 add-number : tie.Need-add-course
 add-number c = omega (arith, c .before .before .before .before .before .before .before .before .before .pre .1)
