@@ -48,7 +48,7 @@ use Rattle.explaining.specs.declared.words.Found.the-variants.{Held, Not
 use Rattle.explaining.specs.Explained.{beamLine, bitDigits, byteToken, caseOf, changed, colourWord, entryLine, firstLine, headLine, lineAt, marksLine, marksWords, numberLine, partLine, pointerLine, pointerWords, registerPart, toggleLine, toggleWords}
 use Rattle.explaining.specs.Lines.{behind, blank, byteBehind, columned, decimalToken, formText, gap, hexOf, hexToken, lineMost, nameToken, nothing, phrase, say, told, tokenText, tokensText, upToDot, wordsToken}
 use Rattle.explaining.specs.Moves.{numberLabel, numberNames, numberRows, numbersIn}
-use Rattle.explaining.specs.Words.{accessWords, answerWords, bytesWord, codeNames, codeRows, codeWord, codeWords, commaWord, directionWords, doneWords, downWords, equalsWord, fixedWords, foundWords, halfWords, hasValue, hasWidth, insideWords, lockedWords, malformedWord, malformedWords, offWords, placeWords, recordWords, short, spaceWord, valueDigits, valueToken, wayWord, widthToken, widthWords}
+use Rattle.explaining.specs.Words.{accessWhy, accessWords, answerWords, bytesWord, codeNames, codeRows, codeWord, codeWords, commaWord, directionWords, doneWords, downWords, equalsWord, fixedWords, foundWords, halfWords, hasValue, hasWidth, insideWords, isOdd, itemWords, lockedWords, lookedWords, malformedWord, malformedWords, offWords, passingWhy, passingWords, placeWords, readAddressWord, recordWords, short, spaceWord, valueDigits, valueToken, wayWord, widthToken, widthWords, writeAddressWord}
 use Rattle.explaining.proofs.Unmoved.{number-in}
 
 -- ---- how far a line goes
@@ -149,38 +149,59 @@ module _ (r : Record) where
           one-of {m = 2} {n = cond (ltb (r .value) 0x10000) 4 8} 9 (eqb (r .width) 1 && ltb (r .value) 0x100) (omega arith)
           (one-of {m = 4} {n = 8} 9 (ltb (r .value) 0x10000) (omega arith) (omega arith))
 
+  passing-short : r .width < 256 → r .value < 2 ^ 32 → Total (passingWords r) 41
+  unfolding passingWords tokensText formText ascii upToDot
+  passing-short width value =
+      more (spoken 11 refl)
+      (more (decimal-within 9 (r .value) (omega (arith, value)))
+      (more (either (isOdd r) (spoken 8 refl) (spoken 8 refl))
+      (more (either (isOdd r) (decimal-within 2 (r .width) (omega (arith, width))) (spoken 3 refl))
+      (more (either (isOdd r) (spoken 4 refl) (spoken 4 refl))
+      (more (either (isOdd r) (short-within (r .address)) (spoken 5 refl)) (ended refl))))))
+
   record-short : r .kind < 256 → r .width < 256 → r .value < 2 ^ 32 → Total (recordWords r) 41
   unfolding recordWords tokensText formText ascii upToDot
   record-short kind width value =
       eithers (ltb (r .kind) 6) (access-short width)
-      (eithers (isPassing r) (up 41 (omega arith) (more (spoken 11 refl) (more (decimal-within 9 (r .value) (omega (arith, value))) (ended refl))))
+      (eithers (isPassing r) (passing-short width value)
       (up 41 (omega arith) (more (spoken 5 refl) (more (decimal-within 2 (r .kind) (omega (arith, kind))) (ended refl)))))
+
+item-short : (r : Record) (whole : Bool) → r .kind < 256 → r .width < 256 → r .value < 2 ^ 32 → Total (itemWords whole r) 41
+unfolding itemWords tokensText formText ascii upToDot
+item-short r whole kind width value = eithers whole (record-short r kind width value) (up 41 (omega arith) (more (spoken 8 refl) (ended refl)))
 
 -- ---- the place
 
-place-short : (place : Place) → Total (placeWords place) 19
-unfolding placeWords fixedWords tokensText formText ascii upToDot
-place-short (Register number) = up 19 (omega arith) (more (name-within number) (ended refl))
-place-short (Attribute number) = up 19 (omega arith) (more (name-within number) (more (spoken 8 refl) (ended refl)))
-place-short (Fixed value) = up 19 (omega arith) (more (either (eqb value pci00) (spoken 5 refl) (spoken 5 refl)) (ended refl))
-place-short DeviceId = up 19 (omega arith) (more (spoken 5 refl) (ended refl))
-place-short ToggleState = up 19 (omega arith) (more (spoken 4 refl) (ended refl))
-place-short AttributeIndex = up 19 (omega arith) (more (spoken 4 refl) (ended refl))
-place-short PaletteState = up 19 (omega arith) (more (name-within B0) (ended refl))
-place-short VPortState = up 19 (omega arith) (more (name-within captureYStart) (ended refl))
-place-short ReadAddress = up 19 (omega arith) (more (spoken 12 refl) (ended refl))
-place-short WriteAddress = up 19 (omega arith) (more (spoken 13 refl) (ended refl))
-place-short PixelData = up 19 (omega arith) (more (spoken 10 refl) (ended refl))
-place-short ToggleReset = up 19 (omega arith) (more (spoken 13 refl) (ended refl))
-place-short Unnamed = up 19 (omega arith) (more (spoken 11 refl) (ended refl))
-place-short UnnamedAttribute = more (spoken 19 refl) (ended refl)
-place-short CurrentLine = up 19 (omega arith) (more (spoken 4 refl) (ended refl))
-place-short Passing = up 19 (omega arith) (more (spoken 4 refl) (ended refl))
+module _ (r : Record) where
+  place-short : (place : Place) → Total (placeWords r place) 19
+  unfolding placeWords readAddressWord writeAddressWord fixedWords tokensText formText ascii upToDot
+  place-short (Register number) = up 19 (omega arith) (more (name-within number) (ended refl))
+  place-short (Attribute number) = up 19 (omega arith) (more (name-within number) (more (spoken 8 refl) (ended refl)))
+  place-short (Fixed value) = up 19 (omega arith) (more (either (eqb value pci00) (spoken 5 refl) (spoken 5 refl)) (ended refl))
+  place-short DeviceId = up 19 (omega arith) (more (spoken 5 refl) (ended refl))
+  place-short ToggleState = up 19 (omega arith) (more (spoken 4 refl) (ended refl))
+  place-short AttributeIndex = up 19 (omega arith) (more (spoken 4 refl) (ended refl))
+  place-short PaletteState = up 19 (omega arith) (more (name-within B0) (ended refl))
+  place-short VPortState = up 19 (omega arith) (more (name-within captureYStart) (ended refl))
+  place-short ReadAddress = up 19 (omega arith) (more (either (isWrite r) (spoken 12 refl) (spoken 12 refl)) (ended refl))
+  place-short WriteAddress = up 19 (omega arith) (more (either (isWrite r) (spoken 15 refl) (spoken 15 refl)) (ended refl))
+  place-short PixelData = up 19 (omega arith) (more (spoken 10 refl) (ended refl))
+  place-short ToggleReset = up 19 (omega arith) (more (spoken 13 refl) (ended refl))
+  place-short Unnamed = up 19 (omega arith) (more (spoken 11 refl) (ended refl))
+  place-short UnnamedAttribute = more (spoken 19 refl) (ended refl)
+  place-short CurrentLine = up 19 (omega arith) (more (spoken 4 refl) (ended refl))
+  place-short Passing = up 19 (omega arith) (more (spoken 4 refl) (ended refl))
 
-found-short : (found : Found) → Total (foundWords found) 19
-unfolding foundWords tokensText formText ascii upToDot
-found-short NotFound = up 19 (omega arith) (more (spoken 12 refl) (ended refl))
-found-short (Held place) = place-short place
+  found-short : (found : Found) → Total (foundWords r found) 19
+  unfolding foundWords tokensText formText ascii upToDot
+  found-short NotFound = up 19 (omega arith) (more (spoken 12 refl) (ended refl))
+  found-short (Held place) = place-short place
+
+  looked-short : (whole : Bool) (code : ℕ) (found : Found) → Total (lookedWords whole code r found) 19
+  unfolding lookedWords tokensText formText ascii upToDot
+  looked-short whole code found =
+      eithers (not whole || eqb code 12) (up 19 (omega arith) (more (spoken 13 refl) (ended refl)))
+      (eithers (eqb code 16 || eqb code 17) (up 19 (omega arith) (more (spoken 14 refl) (ended refl))) (found-short found))
 
 -- ---- the answer
 
@@ -216,18 +237,20 @@ lock-short =
 
 module _ (f : File) (r : Record) (whole : Bool) where
   answer-short : (a : Answer) → Total (answerWords f r whole a) 36
-  unfolding answerWords codeWords codeWord codeRows codeNames lockedWords doneWords malformedWords malformedWord offWords halfWords widthWords downWords directionWords insideWords tokensText formText ascii upToDot
+  unfolding answerWords codeWords codeWord codeRows codeNames lockedWords doneWords malformedWords malformedWord passingWhy accessWhy offWords halfWords widthWords downWords directionWords insideWords tokensText formText ascii upToDot
   answer-short (Done value) =
       eithers (carries r) (up 36 (omega arith) (more (spoken 4 refl) (ended refl)))
       (up 36 (omega arith) (more (spoken 5 refl) (more (hex-within 5 _ value (one-of {m = 2} {n = 4} 5 (eqb (r .width) 1) (omega arith) (omega arith))) (ended refl))))
   answer-short NoRegister = up 36 (omega arith) (more (spoken 24 refl) (ended refl))
   answer-short Malformed =
-      more
+      up 36 (omega arith)
+      (more
       (either whole
-      (either (ltb 6 (r .kind)) (spoken 20 refl)
-      (either (isPassing r) (spoken 20 refl) (either (eqb (r .width) 1 || eqb (r .width) 2) (spoken 20 refl) (spoken 20 refl))))
-      (spoken 20 refl))
-      (more (either (whole && isPassing r) (spoken 16 refl) (spoken 16 refl)) (ended refl))
+      (either (ltb 6 (r .kind)) (spoken 24 refl)
+      (either (isPassing r) (either (not (eqb (r .width) 2)) (spoken 24 refl) (either (not (eqb (r .address) 0)) (spoken 24 refl) (spoken 24 refl)))
+      (either (eqb (r .width) 1 || eqb (r .width) 2) (either (isWrite r) (spoken 24 refl) (spoken 24 refl)) (spoken 24 refl))))
+      (spoken 24 refl))
+      (ended refl))
   answer-short SpaceOff = up 36 (omega arith) (more (name-within PCI04) (more (either (isPort r) (spoken 16 refl) (spoken 16 refl)) (ended refl)))
   answer-short NotHeld = up 36 (omega arith) (more (spoken 24 refl) (ended refl))
   answer-short OtherHalf =
@@ -337,14 +360,14 @@ module _ (c : Case) (fits : Fitting c) where
   unfolding headLine
   head-ends =
       ends-told
-      (ends-column 57 (omega arith)
+      (ends-column 59 (omega arith)
       (ends-told
-      (ends-column 54 (omega arith)
+      (ends-column 56 (omega arith)
       (ends-told
-      (ends-column 34 (omega arith)
+      (ends-column 36 (omega arith)
       (ends-told (ends-column 8 (omega arith) (ends-told nothing-yet number-total))
-      (record-short (c .asked) (omega (arith, fits .kind)) (omega (arith, fits .width)) (fits .value))))
-      (found-short (c .found))))
+      (item-short (c .asked) (c .whole) (omega (arith, fits .kind)) (omega (arith, fits .width)) (fits .value))))
+      (looked-short (c .asked) (c .whole) (codeOf (c .answer)) (c .found))))
       (code-short (c .answer))))
       (answer-short (c .before) (c .asked) (c .whole) (c .answer))
 
@@ -354,17 +377,17 @@ module _ (c : Case) (fits : Fitting c) where
       by-test (eqb (c .reach .bits) 0) (λ e. rw e (ends-up 157 (omega arith) head-ends))
       (λ e. rw e
       (ends-changed 11 (not (eqb (register (c .before) (c .reach .register)) (register (c .after) (c .reach .register)))) (omega arith) (omega arith)
-      (ends-told (ends-column 63 (omega arith) head-ends)
+      (ends-told (ends-column 65 (omega arith) head-ends)
       (reach-short (c .reach .register) (c .reach .bits)))
       (bits-short (c .reach .bits) _) (bits-short (c .reach .bits) _)))
 
   part-ends : {label before after : List Token} {p n : ℕ} (k : ℕ) (shown moved : Bool) → 11 ≤ k → 4 + n ≤ k → Total label p → Total before n → Total after n
-      → Ends (partLine (c .number) shown label before after moved) (63 + p + n + k)
+      → Ends (partLine (c .number) shown label before after moved) (65 + p + n + k)
   unfolding partLine
   part-ends k true moved a b label before after =
       ends-changed k moved a b
-      (ends-told (ends-column 63 (omega arith) (ends-up 62 (omega arith) (ends-told nothing-yet number-total))) label) before after
-  part-ends {p = p} {n = n} k false moved a b label before after = ends-up (63 + p + n + k) (omega arith) nothing-yet
+      (ends-told (ends-column 65 (omega arith) (ends-up 64 (omega arith) (ends-told nothing-yet number-total))) label) before after
+  part-ends {p = p} {n = n} k false moved a b label before after = ends-up (65 + p + n + k) (omega arith) nothing-yet
 
   toggle-ends : Ends (toggleLine c) 157
   unfolding toggleLine toggleWords tokensText formText ascii upToDot

@@ -25,7 +25,7 @@ use Rattle.explaining.specs.declared.token.Token.{Token}
 use Rattle.explaining.specs.declared.explain.Case.{Case}
 use Rattle.explaining.specs.Lines.{blank, columned, decimalToken, hexToken, linesOf, mostAnswer, nameToken, nothing, phrase, say, told}
 use Rattle.explaining.specs.Moves.{mayMove, numberCount, numberLabel, numbersIn}
-use Rattle.explaining.specs.Words.{answerWords, found, foundWords, recordWords}
+use Rattle.explaining.specs.Words.{answerWords, found, itemWords, lookedWords}
 
 -- ---- what is told of a record
 
@@ -57,7 +57,7 @@ caseOf number f item =
 
 -- the column of what may change
 abbrev pub reachColumn : ℕ
-reachColumn = 63
+reachColumn = 65
 
 -- 'what did change (3Eh -> 2Eh)'; 'V total 525, not moved'
 unfoldable pub changed : Line → List Token → List Token → Bool → Line
@@ -87,10 +87,10 @@ headLine c =
     (columned
     (told
     (columned
-    (told (columned (told (columned (told blank (phrase (decimalToken (c .number) ∷ []))) 8) (recordWords (c .asked))) 34) (foundWords (c .found)))
-    54)
+    (told (columned (told (columned (told blank (phrase (decimalToken (c .number) ∷ []))) 8) (itemWords (c .whole) (c .asked))) 36) (lookedWords (c .whole) (codeOf (c .answer)) (c .asked) (c .found)))
+    56)
     (phrase (decimalToken (codeOf (c .answer)) ∷ [])))
-    57)
+    59)
     (answerWords (c .before) (c .asked) (c .whole) (c .answer))
 
 unfoldable pub firstLine : Case → Line

@@ -43,9 +43,9 @@ hasValue r = isWrite r || not (eqb (r .value) 0)
 abbrev pub valueDigits : Record → ℕ
 valueDigits r = cond (eqb (r .width) 1 && ltb (r .value) 0x100) 2 (cond (ltb (r .value) 0x10000) 4 8)
 
--- the width, where the value's digits don't tell it: one other than 1 of a read, and one other than 1 and 2 of a write
+-- the width, where the value's digits don't tell it: they do where it is 1, or 2 of a write, and the value fits
 abbrev pub hasWidth : Record → Bool
-hasWidth r = not (eqb (r .width) 1) && not (isWrite r && eqb (r .width) 2)
+hasWidth r = not (eqb (r .width) 1 && ltb (r .value) 0x100) && not (isWrite r && eqb (r .width) 2 && ltb (r .value) 0x10000)
 
 -- the parts of 'port write 3D5h = 1Fh'
 unfoldable pub wayWord : Record → Token
@@ -72,11 +72,29 @@ accessWords r =
     phrase
     (spaceWord (r .kind) ∷ wayWord r ∷ short (r .address) ∷ equalsWord r ∷ valueToken r ∷ commaWord r ∷ widthToken r ∷ bytesWord r ∷ [])
 
+-- lines that pass, with width and address where they aren't 2 and 0
+abbrev pub isOdd : Record → Bool
+isOdd r = not (eqb (r .width) 2 && eqb (r .address) 0)
+
+unfoldable pub passingWords : Record → List Token
+passingWords r =
+    phrase
+    (say "lines pass "
+    ∷ decimalToken (r .value)
+    ∷ cond (isOdd r) (say ", width ") nothing
+    ∷ cond (isOdd r) (decimalToken (r .width)) nothing
+    ∷ cond (isOdd r) (say " at ") nothing
+    ∷ cond (isOdd r) (short (r .address)) nothing
+    ∷ [])
+
 -- an access, lines that pass, or a kind that there is none of
 unfoldable pub recordWords : Record → List Token
 recordWords r =
-    cond (ltb (r .kind) 6) (accessWords r)
-    (cond (isPassing r) (phrase (say "lines pass " ∷ decimalToken (r .value) ∷ [])) (phrase (say "kind " ∷ decimalToken (r .kind) ∷ [])))
+    cond (ltb (r .kind) 6) (accessWords r) (cond (isPassing r) (passingWords r) (phrase (say "kind " ∷ decimalToken (r .kind) ∷ [])))
+
+-- 01, 'a missing byte counts as zero': what a fragment lacks is not told as if it stood there
+unfoldable pub itemWords : Bool → Record → List Token
+itemWords whole r = cond whole (recordWords r) (phrase (say "fragment" ∷ []))
 
 -- ---- the place that it found
 
@@ -98,27 +116,40 @@ found f r =
 unfoldable pub fixedWords : ℕ → List Token
 fixedWords value = phrase (cond (eqb value pci00) (say "PCI00") (say "SR6") ∷ [])
 
-unfoldable pub placeWords : Place → List Token
-placeWords (Register number) = phrase (nameToken number ∷ [])
-placeWords (Attribute number) = phrase (nameToken number ∷ say " by 3C0h" ∷ [])
-placeWords (Fixed value) = fixedWords value
-placeWords DeviceId = phrase (say "PCI02" ∷ [])
-placeWords ToggleState = phrase (say "CR24" ∷ [])
-placeWords AttributeIndex = phrase (say "CR26" ∷ [])
-placeWords PaletteState = phrase (nameToken B0 ∷ [])
-placeWords VPortState = phrase (nameToken captureYStart ∷ [])
-placeWords ReadAddress = phrase (say "read address" ∷ [])
-placeWords WriteAddress = phrase (say "write address" ∷ [])
-placeWords PixelData = phrase (say "pixel data" ∷ [])
-placeWords ToggleReset = phrase (say "display state" ∷ [])
-placeWords Unnamed = phrase (say "no register" ∷ [])
-placeWords UnnamedAttribute = phrase (say "no register by 3C0h" ∷ [])
-placeWords CurrentLine = phrase (say "line" ∷ [])
-placeWords Passing = phrase (say "line" ∷ [])
+-- 3C7h and 3C8h are written as addresses for reading and for writing; the one reads as the DAC state, the other as the address
+unfoldable pub readAddressWord : Record → Token
+readAddressWord r = cond (isWrite r) (say "read address") (say "DAC state")
 
-unfoldable pub foundWords : Found → List Token
-foundWords NotFound = phrase (say "nothing held" ∷ [])
-foundWords (Held place) = placeWords place
+unfoldable pub writeAddressWord : Record → Token
+writeAddressWord r = cond (isWrite r) (say "write address") (say "palette address")
+
+unfoldable pub placeWords : Record → Place → List Token
+placeWords r (Register number) = phrase (nameToken number ∷ [])
+placeWords r (Attribute number) = phrase (nameToken number ∷ say " by 3C0h" ∷ [])
+placeWords r (Fixed value) = fixedWords value
+placeWords r DeviceId = phrase (say "PCI02" ∷ [])
+placeWords r ToggleState = phrase (say "CR24" ∷ [])
+placeWords r AttributeIndex = phrase (say "CR26" ∷ [])
+placeWords r PaletteState = phrase (nameToken B0 ∷ [])
+placeWords r VPortState = phrase (nameToken captureYStart ∷ [])
+placeWords r ReadAddress = phrase (readAddressWord r ∷ [])
+placeWords r WriteAddress = phrase (writeAddressWord r ∷ [])
+placeWords r PixelData = phrase (say "pixel data" ∷ [])
+placeWords r ToggleReset = phrase (say "display state" ∷ [])
+placeWords r Unnamed = phrase (say "no register" ∷ [])
+placeWords r UnnamedAttribute = phrase (say "no register by 3C0h" ∷ [])
+placeWords r CurrentLine = phrase (say "line" ∷ [])
+placeWords r Passing = phrase (say "line" ∷ [])
+
+unfoldable pub foundWords : Record → Found → List Token
+foundWords r NotFound = phrase (say "nothing held" ∷ [])
+foundWords r (Held place) = placeWords r place
+
+-- with its code: a fragment and an unsound file are not looked at, and where a code says that the place is held in another way, it is so held
+unfoldable pub lookedWords : Bool → ℕ → Record → Found → List Token
+lookedWords whole code r found =
+    cond (not whole || eqb code 12) (phrase (say "not looked at" ∷ []))
+    (cond (eqb code 16 || eqb code 17) (phrase (say "held otherwise" ∷ [])) (foundWords r found))
 
 -- ---- the answer
 
@@ -162,15 +193,20 @@ codeWords code = cond (eqb code 8) lockedWords (phrase (codeWord code ∷ []))
 unfoldable pub doneWords : Record → ℕ → List Token
 doneWords r value = cond (carries r) (codeWords 0) (phrase (say "read " ∷ hexToken (cond (eqb (r .width) 1) 2 4) value ∷ []))
 
--- code 2, and which of its reasons: a fragment's bytes are missing
+-- code 2, and which of its reasons: 02, 10/13, of lines that pass; 01 of an access; a fragment's bytes are missing
+unfoldable pub passingWhy : Record → Token
+passingWhy r = cond (not (eqb (r .width) 2)) (say "its width is not 2") (cond (not (eqb (r .address) 0)) (say "its address is not 0") (say "1 to 65535 lines"))
+
+unfoldable pub accessWhy : Record → Token
+accessWhy r =
+    cond (eqb (r .width) 1 || eqb (r .width) 2) (cond (isWrite r) (say "value beyond its width") (say "a read has no value"))
+    (say "no such width")
+
 unfoldable pub malformedWord : Record → Token
-malformedWord r =
-    cond (ltb 6 (r .kind)) (say "no such kind")
-    (cond (isPassing r) (say "width 2, address 0, ") (cond (eqb (r .width) 1 || eqb (r .width) 2) (say "no such value") (say "no such width")))
+malformedWord r = cond (ltb 6 (r .kind)) (say "no such kind") (cond (isPassing r) (passingWhy r) (accessWhy r))
 
 unfoldable pub malformedWords : Bool → Record → List Token
-malformedWords whole r =
-    phrase (cond whole (malformedWord r) (say "bytes are missing") ∷ cond (whole && isPassing r) (say "1 to 65535 lines") nothing ∷ [])
+malformedWords whole r = phrase (cond whole (malformedWord r) (say "bytes are missing") ∷ [])
 
 -- code 3
 unfoldable pub offWords : Record → List Token

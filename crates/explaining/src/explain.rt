@@ -36,8 +36,8 @@ use crate::token::say;
 use crate::token::three;
 use crate::words::Found;
 use crate::words::find;
-use crate::words::found_words;
-use crate::words::record_words;
+use crate::words::item_words;
+use crate::words::looked_words;
 use access::Item;
 use access::Record;
 use file::Answer;
@@ -143,9 +143,13 @@ fn head_line(case: Case) -> Line
     let found = case.found;
     let answer = case.answer;
     let line = column(told(blank_line(), alone(decimal(case.number))), 8);
-    let line = column(told(line, record_words(case.asked)), 34);
-    let line = column(told(line, found_words(found)), 54);
-    let line = column(told(line, alone(decimal(answer.code() as u64))), 57);
+    let code = answer.code();
+    let line = column(told(line, item_words(case.whole, case.asked)), 36);
+    let line = column(
+        told(line, looked_words(case.whole, code, case.asked, found)),
+        56,
+    );
+    let line = column(told(line, alone(decimal(code as u64))), 59);
     told(
         line,
         answer_words(case.before, case.asked, case.whole, answer),

@@ -4,10 +4,9 @@ ghost use Prim.Native.Nat.{_-_, _<_};
 ghost use lib.Dec.{eqb};
 ghost use Rattle.bits.specs.Store.{bit};
 ghost use Rattle.file.specs.File.{register as registerIn};
-ghost use Rattle.explaining.specs.Words.{answerWords, codeWord, codeWords, directionWords, doneWords, downWords, halfWords, insideWords, lockedWords, malformedWord, malformedWords, offWords, widthWords};
+ghost use Rattle.explaining.specs.Words.{accessWhy, answerWords, codeWord, codeWords, directionWords, doneWords, downWords, halfWords, insideWords, lockedWords, malformedWord, malformedWords, offWords, passingWhy, widthWords};
 use crate::token::Token;
 use crate::token::alone;
-use crate::token::both;
 use crate::token::choose;
 use crate::token::choose_phrase;
 use crate::token::either;
@@ -120,16 +119,35 @@ fn done_words(asked: Record, value: u16) -> [Token; 8]
     )
 }
 
+// Lines that can't pass, and why.
+fn passing_why(asked: Record) -> Token
+    ensures { λ r. ⌜ r ≡ passingWhy asked ⌝ }
+{
+    let lines = choose(
+        asked.address != 0,
+        say(*b"its address is not 0...."),
+        say(*b"1 to 65535 lines........"),
+    );
+    choose(asked.width != 2, say(*b"its width is not 2......"), lines)
+}
+
+// An access that is none, and why.
+fn access_why(asked: Record) -> Token
+    ensures { λ r. ⌜ r ≡ accessWhy asked ⌝ }
+{
+    let value = choose(
+        asked.kind % 2 == 1,
+        say(*b"value beyond its width.."),
+        say(*b"a read has no value....."),
+    );
+    let sized = either(asked.width == 1, asked.width == 2);
+    choose(sized, value, say(*b"no such width..........."))
+}
+
 fn malformed_word(asked: Record) -> Token
     ensures { λ r. ⌜ r ≡ malformedWord asked ⌝ }
 {
-    let sized = either(asked.width == 1, asked.width == 2);
-    let access = choose(
-        sized,
-        say(*b"no such value..........."),
-        say(*b"no such width..........."),
-    );
-    let known = choose(asked.kind == 6, say(*b"width 2, address 0, ...."), access);
+    let known = choose(asked.kind == 6, passing_why(asked), access_why(asked));
     choose(6 < asked.kind, say(*b"no such kind............"), known)
 }
 
@@ -137,17 +155,11 @@ fn malformed_word(asked: Record) -> Token
 fn malformed_words(whole: bool, asked: Record) -> [Token; 8]
     ensures { λ r. ⌜ r ≡ malformedWords whole asked ⌝ }
 {
-    let more = choose(
-        both(whole, asked.kind == 6),
-        say(*b"1 to 65535 lines........"),
-        none(),
-    );
-    let why = choose(
+    alone(choose(
         whole,
         malformed_word(asked),
         say(*b"bytes are missing......."),
-    );
-    two(why, more)
+    ))
 }
 
 // Code 3.

@@ -26,7 +26,7 @@ use file::Colour;
 use file::Pointer;
 
 // The column of what may change.
-const REACH: usize = 63;
+const REACH: usize = 65;
 
 pub fn choose_line(first: bool, one: Line, other: Line) -> Line
     ensures { λ r. ⌜ r ≡ cond first one other ⌝ }

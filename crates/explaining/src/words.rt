@@ -1,6 +1,6 @@
 // A record, the place that it found and its answer, in words.
 ghost use mathlib.Core.Path.{_≡_};
-ghost use Rattle.explaining.specs.Words.{accessWords, bytesWord, commaWord, equalsWord, fixedWords, found as foundIn, foundWords, hasValue, hasWidth, passingFound, placeWords, recordWords, short as shortToken, spaceWord, valueDigits, valueToken, wayWord, widthToken};
+ghost use Rattle.explaining.specs.Words.{accessWords, bytesWord, commaWord, equalsWord, fixedWords, found as foundIn, foundWords, hasValue, hasWidth, itemWords, lookedWords, passingFound, passingWords, placeWords, readAddressWord, recordWords, short as shortToken, spaceWord, valueDigits, valueToken, wayWord, widthToken, writeAddressWord};
 use crate::token::Token;
 use crate::token::alone;
 use crate::token::both;
@@ -68,8 +68,10 @@ fn value_digits(asked: Record) -> u8
 fn has_width(asked: Record) -> bool
     ensures { λ r. ⌜ r ≡ hasWidth asked ⌝ }
 {
-    let told = both(asked.kind % 2 == 1, asked.width == 2);
-    both(asked.width != 1, !told)
+    let byte = both(asked.width == 1, asked.value < 0x100);
+    let written = both(asked.kind % 2 == 1, asked.width == 2);
+    let word = both(written, asked.value < 0x10000);
+    both(!byte, !word)
 }
 
 fn way_word(asked: Record) -> Token
@@ -128,14 +130,26 @@ fn access_words(asked: Record) -> [Token; 8]
     [space, way, address, equals, value, comma, width, bytes]
 }
 
+// Lines that pass, with width and address where they aren't 2 and 0.
+fn passing_words(asked: Record) -> [Token; 8]
+    ensures { λ r. ⌜ r ≡ passingWords asked ⌝ }
+{
+    let odd = !both(asked.width == 2, asked.address == 0);
+    let none = none();
+    let pass = say(*b"lines pass .............");
+    let lines = decimal(asked.value as u64);
+    let wide = choose(odd, say(*b", width ................"), none);
+    let width = choose(odd, decimal(asked.width as u64), none);
+    let at = choose(odd, say(*b" at ...................."), none);
+    let address = choose(odd, short(asked.address), none);
+    [pass, lines, wide, width, at, address, none, none]
+}
+
 // A record: an access, lines that pass, or a kind that there is none of.
-pub fn record_words(asked: Record) -> [Token; 8]
+fn record_words(asked: Record) -> [Token; 8]
     ensures { λ r. ⌜ r ≡ recordWords asked ⌝ }
 {
-    let lines = two(
-        say(*b"lines pass ............."),
-        decimal(asked.value as u64),
-    );
+    let lines = passing_words(asked);
     let unknown = two(
         say(*b"kind ..................."),
         decimal(asked.kind as u64),
@@ -144,9 +158,38 @@ pub fn record_words(asked: Record) -> [Token; 8]
     choose_phrase(asked.kind < 6, access_words(asked), other)
 }
 
+// A record of a trace, or the fragment at its end.
+pub fn item_words(whole: bool, asked: Record) -> [Token; 8]
+    ensures { λ r. ⌜ r ≡ itemWords whole asked ⌝ }
+{
+    let fragment = alone(say(*b"fragment................"));
+    choose_phrase(whole, record_words(asked), fragment)
+}
+
+// What is written at 3C7h and 3C8h, and what is read there.
+fn read_address_word(asked: Record) -> Token
+    ensures { λ r. ⌜ r ≡ readAddressWord asked ⌝ }
+{
+    choose(
+        asked.kind % 2 == 1,
+        say(*b"read address............"),
+        say(*b"DAC state..............."),
+    )
+}
+
+fn write_address_word(asked: Record) -> Token
+    ensures { λ r. ⌜ r ≡ writeAddressWord asked ⌝ }
+{
+    choose(
+        asked.kind % 2 == 1,
+        say(*b"write address..........."),
+        say(*b"palette address........."),
+    )
+}
+
 // What a place is called.
-fn place_words(place: Place) -> [Token; 8]
-    ensures { λ r. ⌜ r ≡ placeWords place ⌝ }
+fn place_words(asked: Record, place: Place) -> [Token; 8]
+    ensures { λ r. ⌜ r ≡ placeWords asked place ⌝ }
 {
     match place {
         Place::Register(number) => alone(named(number)),
@@ -157,8 +200,8 @@ fn place_words(place: Place) -> [Token; 8]
         Place::AttributeIndex => alone(say(*b"CR26....................")),
         Place::PaletteState => alone(named(B0)),
         Place::VPortState => alone(named(CAPTURE_Y_START)),
-        Place::ReadAddress => alone(say(*b"read address............")),
-        Place::WriteAddress => alone(say(*b"write address...........")),
+        Place::ReadAddress => alone(read_address_word(asked)),
+        Place::WriteAddress => alone(write_address_word(asked)),
         Place::PixelData => alone(say(*b"pixel data..............")),
         Place::ToggleReset => alone(say(*b"display state...........")),
         Place::Unnamed => alone(say(*b"no register.............")),
@@ -180,13 +223,27 @@ fn fixed_words(value: u16) -> [Token; 8]
 }
 
 // Where a record looked, in words.
-pub fn found_words(found: Found) -> [Token; 8]
-    ensures { λ r. ⌜ r ≡ foundWords found ⌝ }
+fn found_words(asked: Record, found: Found) -> [Token; 8]
+    ensures { λ r. ⌜ r ≡ foundWords asked found ⌝ }
 {
     match found {
-        Found::Held(place) => place_words(place),
+        Found::Held(place) => place_words(asked, place),
         Found::NotFound => alone(say(*b"nothing held............")),
     }
+}
+
+// The same with the record's code: what wasn't looked at, and what is held in another way.
+pub fn looked_words(whole: bool, code: u8, asked: Record, found: Found) -> [Token; 8]
+    ensures { λ r. ⌜ r ≡ lookedWords whole code asked found ⌝ }
+{
+    let unseen = alone(say(*b"not looked at..........."));
+    let other = alone(say(*b"held otherwise.........."));
+    let seen = choose_phrase(
+        either(code == 16, code == 17),
+        other,
+        found_words(asked, found),
+    );
+    choose_phrase(either(!whole, code == 12), unseen, seen)
 }
 
 // What stands at a kind and an address; lines that pass stand in no space.

@@ -39,35 +39,35 @@ returns-8 c = rw (c .before .before .enum-told5 .given .1, c .alone6 .ensures, c
 
 returns-9 : tie.Need-returns-9
 unfolding placeWords ascii
-returns-9 c = rw (c .before .before .before .before .enum-told6 .given .1, c .alone7 .ensures, c .before .say5 .ensures)
+returns-9 c = rw (c .before .before .enum-told6 .given .1, c .alone7 .ensures, c .before .read-address-word .ensures)
 
 returns-10 : tie.Need-returns-10
 unfolding placeWords ascii
-returns-10 c = rw (c .before .before .before .before .enum-told7 .given .1, c .alone8 .ensures, c .before .say6 .ensures)
+returns-10 c = rw (c .before .before .enum-told7 .given .1, c .alone8 .ensures, c .before .write-address-word .ensures)
 
 returns-11 : tie.Need-returns-11
 unfolding placeWords ascii
-returns-11 c = rw (c .before .before .before .before .enum-told8 .given .1, c .alone9 .ensures, c .before .say7 .ensures)
+returns-11 c = rw (c .before .before .before .before .enum-told8 .given .1, c .alone9 .ensures, c .before .say5 .ensures)
 
 returns-12 : tie.Need-returns-12
 unfolding placeWords ascii
-returns-12 c = rw (c .before .before .before .before .enum-told9 .given .1, c .alone10 .ensures, c .before .say8 .ensures)
+returns-12 c = rw (c .before .before .before .before .enum-told9 .given .1, c .alone10 .ensures, c .before .say6 .ensures)
 
 returns-13 : tie.Need-returns-13
 unfolding placeWords ascii
-returns-13 c = rw (c .before .before .before .before .enum-told10 .given .1, c .alone11 .ensures, c .before .say9 .ensures)
+returns-13 c = rw (c .before .before .before .before .enum-told10 .given .1, c .alone11 .ensures, c .before .say7 .ensures)
 
 returns-14 : tie.Need-returns-14
 unfolding placeWords ascii
-returns-14 c = rw (c .before .before .before .before .enum-told11 .given .1, c .alone12 .ensures, c .before .say10 .ensures)
+returns-14 c = rw (c .before .before .before .before .enum-told11 .given .1, c .alone12 .ensures, c .before .say8 .ensures)
 
 returns-15 : tie.Need-returns-15
 unfolding placeWords ascii
-returns-15 c = rw (c .before .before .before .before .enum-told12 .given .1, c .alone13 .ensures, c .before .say11 .ensures)
+returns-15 c = rw (c .before .before .before .before .enum-told12 .given .1, c .alone13 .ensures, c .before .say9 .ensures)
 
 returns-16 : tie.Need-returns-16
 unfolding placeWords ascii
-returns-16 c = rw (c .before .before .before .before .enum-told13 .given .1, c .alone14 .ensures, c .before .say12 .ensures)
+returns-16 c = rw (c .before .before .before .before .enum-told13 .given .1, c .alone14 .ensures, c .before .say10 .ensures)
 
 pub place-words-spec : {M : Type 1} → statement M
 place-words-spec =
