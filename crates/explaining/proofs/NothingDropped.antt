@@ -74,34 +74,34 @@ all-kept l (b ∷ bs) h =
 
 -- ---- how long tokens are
 
-record Within (t : Token) (n : ℕ) : Type 0 where
-  most : length (tokenText t) ≤ n
+pub record Within (t : Token) (n : ℕ) : Type 0 where
+  pub most : length (tokenText t) ≤ n
 
-record Total (ts : List Token) (n : ℕ) : Type 0 where
-  most : length (tokensText ts) ≤ n
+pub record Total (ts : List Token) (n : ℕ) : Type 0 where
+  pub most : length (tokensText ts) ≤ n
 
 -- words, by computation
-spoken : {t : Token} (n : ℕ) → leb (length (tokenText t)) n ≡ true → Within t n
+pub spoken : {t : Token} (n : ℕ) → leb (length (tokenText t)) n ≡ true → Within t n
 spoken {t} n e = record { most = leb-true (length (tokenText t)) n e }
 
 -- no more of them
-ended : {ts : List Token} → leb (length (tokensText ts)) 0 ≡ true → Total ts 0
+pub ended : {ts : List Token} → leb (length (tokensText ts)) 0 ≡ true → Total ts 0
 ended {ts} e = record { most = leb-true (length (tokensText ts)) 0 e }
 
-more : {t : Token} {ts : List Token} {n m : ℕ} → Within t n → Total ts m → Total (t ∷ ts) (n + m)
+pub more : {t : Token} {ts : List Token} {n m : ℕ} → Within t n → Total ts m → Total (t ∷ ts) (n + m)
 unfolding tokensText
 more {t} {ts} a b = record { most = omega (arith, length-append (tokenText t) (tokensText ts), a .most, b .most) }
 
-either : {x y : Token} {n : ℕ} (b : Bool) → Within x n → Within y n → Within (cond b x y) n
+pub either : {x y : Token} {n : ℕ} (b : Bool) → Within x n → Within y n → Within (cond b x y) n
 either true a b = a
 either false a b = b
 
-eithers : {xs ys : List Token} {n : ℕ} (b : Bool) → Total xs n → Total ys n → Total (cond b xs ys) n
+pub eithers : {xs ys : List Token} {n : ℕ} (b : Bool) → Total xs n → Total ys n → Total (cond b xs ys) n
 eithers true a b = a
 eithers false a b = b
 
 -- fewer are within more
-up : {ts : List Token} {n : ℕ} (m : ℕ) → n ≤ m → Total ts n → Total ts m
+pub up : {ts : List Token} {n : ℕ} (m : ℕ) → n ≤ m → Total ts n → Total ts m
 up m h a = record { most = omega (arith, h, a .most) }
 
 digits-hex : (digits n : ℕ) → length (hexOf digits n) ≡ digits
@@ -109,15 +109,15 @@ unfolding hexOf
 digits-hex zero n = refl
 digits-hex (suc k) n = ap suc (digits-hex k n)
 
-hex-within : (most digits n : ℕ) → digits < most → Within (hexToken digits n) most
+pub hex-within : (most digits n : ℕ) → digits < most → Within (hexToken digits n) most
 unfolding formText ascii
 hex-within most digits n h = record { most = rw length-append (omega (arith, digits-hex digits n, h)) }
 
-decimal-within : (j n : ℕ) → n < 10 ^ suc j → Within (decimalToken n) (suc j)
+pub decimal-within : (j n : ℕ) → n < 10 ^ suc j → Within (decimalToken n) (suc j)
 unfolding formText decimal
 decimal-within j n h = record { most = rw digits-length (most-places j n n h) }
 
-name-within : (n : ℕ) → Within (nameToken n) 10
+pub name-within : (n : ℕ) → Within (nameToken n) 10
 unfolding formText
 name-within n = record { most = name-short n }
 
@@ -205,7 +205,7 @@ module _ (r : Record) where
 
 -- ---- the answer
 
-one-decimal : (j n : ℕ) → n < 10 ^ suc j → Total (phrase (decimalToken n ∷ [])) (suc j + 0)
+pub one-decimal : (j n : ℕ) → n < 10 ^ suc j → Total (phrase (decimalToken n ∷ [])) (suc j + 0)
 unfolding tokensText formText upToDot
 one-decimal j n h = more (decimal-within j n h) (ended refl)
 
@@ -230,7 +230,7 @@ code-short OtherDirection = one-decimal 1 16 (omega arith)
 code-short InsideWider = one-decimal 1 17 (omega arith)
 
 -- three registers' names
-lock-short : Total lockedWords 36
+pub lock-short : Total lockedWords 36
 unfolding lockedWords nameTable registers tokensText formText ascii upToDot
 lock-short =
     up 36 (omega arith) (more (spoken 4 refl) (more (spoken 10 refl) (more (spoken 3 refl) (more (spoken 4 refl) (more (spoken 3 refl) (ended refl))))))
@@ -271,23 +271,23 @@ module _ (f : File) (r : Record) (whole : Bool) where
 
 -- ---- the lines
 
-record Ends (l : Line) (n : ℕ) : Type 0 where
-  most : l .end ≤ n
+pub record Ends (l : Line) (n : ℕ) : Type 0 where
+  pub most : l .end ≤ n
 
-nothing-yet : Ends blank 0
+pub nothing-yet : Ends blank 0
 nothing-yet = record { most = omega arith }
 
-ends-up : {l : Line} {n : ℕ} (m : ℕ) → n ≤ m → Ends l n → Ends l m
+pub ends-up : {l : Line} {n : ℕ} (m : ℕ) → n ≤ m → Ends l n → Ends l m
 ends-up m h a = record { most = omega (arith, h, a .most) }
 
-ends-told : {l : Line} {ts : List Token} {m n : ℕ} → Ends l m → Total ts n → Ends (told l ts) (m + n)
+pub ends-told : {l : Line} {ts : List Token} {m n : ℕ} → Ends l m → Total ts n → Ends (told l ts) (m + n)
 ends-told {l} {ts} a b = record { most = omega (arith, behind-end l (tokensText ts), a .most, b .most) }
 
 gap-end : (end column m : ℕ) → end ≤ m → column ≤ m + 1 → end + gap end column ≤ m + 1
 gap-end end column m h c =
     by-test (ltb end column) (λ e. rw e (omega (arith, ltb-true end column e, c))) (λ e. rw e (omega (arith, h)))
 
-ends-column : {l : Line} {m : ℕ} (column : ℕ) → column ≤ m + 1 → Ends l m → Ends (columned l column) (m + 1)
+pub ends-column : {l : Line} {m : ℕ} (column : ℕ) → column ≤ m + 1 → Ends l m → Ends (columned l column) (m + 1)
 ends-column {l} {m} column c a =
     let spaces : List ℕ = replicate (gap (l .end) column) 0x20 in
     record { most = omega (arith, behind-end l spaces, length-replicate {A = ℕ} (gap (l .end) column) 0x20, gap-end (l .end) column m (a .most) c) }
@@ -304,7 +304,7 @@ no-word : Total (phrase (nothing ∷ [])) 0
 unfolding tokensText formText ascii upToDot
 no-word = more (spoken 0 refl) (ended refl)
 
-ends-changed : {l : Line} {before after : List Token} {m n : ℕ} (k : ℕ) (moved : Bool) → 11 ≤ k → 4 + n ≤ k → Ends l m → Total before n → Total after n
+pub ends-changed : {l : Line} {before after : List Token} {m n : ℕ} (k : ℕ) (moved : Bool) → 11 ≤ k → 4 + n ≤ k → Ends l m → Total before n → Total after n
     → Ends (changed l before after moved) (m + n + k)
 unfolding changed
 ends-changed {m = m} {n = n} k true a b l before after =
@@ -323,7 +323,7 @@ pub record Fitting (c : Case) : Type 0 where
   pub old : (k : ℕ) → getD (c .old) k 0 < 2 ^ 32
   pub new : (k : ℕ) → getD (c .new) k 0 < 2 ^ 32
 
-few-digits : (bits : ℕ) → bitDigits bits < 5
+pub few-digits : (bits : ℕ) → bitDigits bits < 5
 unfolding bitDigits
 few-digits bits = one-of {m = 2} {n = 4} 5 (ltb bits 0x100) (omega arith) (omega arith)
 
@@ -340,7 +340,7 @@ colour-within : (n : ℕ) → Within (colourWord n) 5
 unfolding colourWord formText ascii upToDot
 colour-within n = either (eqb n 0) (spoken 5 refl) (either (eqb n 1) (spoken 5 refl) (spoken 5 refl))
 
-row-within : (k : ℕ) → Within (wordsToken (getD numberRows k (nothing .bytes))) 24
+pub row-within : (k : ℕ) → Within (wordsToken (getD numberRows k (nothing .bytes))) 24
 unfolding formText upToDot numberRows numberNames everyBelow ascii
 row-within k =
     by-test (ltb k 15) (λ e. record { most = leb→le _ 24 (below (λ (j : ℕ). leb (length (upToDot (getD numberRows j (nothing .bytes)))) 24) 15 rows k (ltb-true k 15 e)) })
