@@ -142,7 +142,7 @@ module _ (r : Record) where
       (more (either (hasValue r) (hex-within 9 (valueDigits r) (r .value) few) (spoken 9 refl))
       (more (either (hasWidth r) (spoken 2 refl) (spoken 2 refl))
       (more (either (hasWidth r) (decimal-within 2 (r .width) (omega (arith, h))) (spoken 3 refl))
-      (more (either (hasWidth r) (spoken 6 refl) (spoken 6 refl)) (ended refl))))))))
+      (more (either (hasWidth r) (either (eqb (r .width) 1) (spoken 6 refl) (spoken 6 refl)) (spoken 6 refl)) (ended refl))))))))
     where
       few : valueDigits r < 9
       few =

@@ -64,7 +64,7 @@ unfoldable pub widthToken : Record → Token
 widthToken r = cond (hasWidth r) (decimalToken (r .width)) nothing
 
 unfoldable pub bytesWord : Record → Token
-bytesWord r = cond (hasWidth r) (say " bytes") nothing
+bytesWord r = cond (hasWidth r) (cond (eqb (r .width) 1) (say " byte") (say " bytes")) nothing
 
 -- and all of it
 unfoldable pub accessWords : Record → List Token

@@ -112,7 +112,12 @@ fn width_token(asked: Record) -> Token
 fn bytes_word(asked: Record) -> Token
     ensures { λ r. ⌜ r ≡ bytesWord asked ⌝ }
 {
-    choose(has_width(asked), say(*b" bytes.................."), none())
+    let bytes = choose(
+        asked.width == 1,
+        say(*b" byte..................."),
+        say(*b" bytes.................."),
+    );
+    choose(has_width(asked), bytes, none())
 }
 
 // An access.
