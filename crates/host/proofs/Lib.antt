@@ -1,0 +1,4 @@
+pub mod Painted
+pub mod RestHeld
+pub mod Accessed
+pub mod Told

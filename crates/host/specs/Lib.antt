@@ -1,0 +1,4 @@
+pub mod Numbers
+pub mod Left
+pub mod Calls
+pub mod Runs
