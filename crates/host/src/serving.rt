@@ -22,7 +22,7 @@ use file::Colour;
 use file::File;
 use file::REGISTERS;
 use file::State;
-use image::are_sound;
+use file::are_sound;
 use image::fits;
 use image::state_bytes;
 use image::state_in;

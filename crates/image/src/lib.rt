@@ -18,4 +18,3 @@ pub use saving::save;
 pub use sets::SET;
 pub use sets::set_bytes;
 pub use sets::set_in;
-pub use soundness::are_sound;
