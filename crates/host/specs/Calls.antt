@@ -6,13 +6,10 @@ use mathlib.Core.List.{List, [], _∷_}
 use lib.Dec.{leb}
 use lib.ListN.{getD}
 use Rattle.file.specs.declared.registers.File.{File}
-use Rattle.file.specs.Answers.{codeOf}
 use Rattle.file.specs.File.{powerOn}
 use Rattle.file.specs.Registers.{registerCount}
-use Rattle.timing.specs.declared.Read.{Read}
-use Rattle.timing.specs.Timing.{numbersOf, readTiming}
 use Rattle.image.specs.Image.{imageCount}
-use Rattle.image.specs.Parts.{paletteAt, bankAt, restCount, setCount, chipIn, fitsIn, restOf, heldIn}
+use Rattle.image.specs.Parts.{paletteAt, bankAt, restCount, setCount, chipIn, restOf}
 
 -- how much of each thing there is: registers, bytes of a rest, of a set and of an image, the image's version, where palette and bank begin in a rest
 unfoldable pub layoutOf : ℕ → ℕ
@@ -31,15 +28,3 @@ leaving code f = record { code = code; registers = f .registers; rest = restOf f
 -- power-on by the chip's number; 2, 'malformed', for a number that is no chip's
 unfoldable pub poweredOn : ℕ → List ℕ → List ℕ → Left
 poweredOn chip registers rest = cond (leb chip 1) (leaving 0 (powerOn (chipIn chip))) (record { code = 2; registers = registers; rest = rest })
-
--- a code, and the numbers as they are left
-pub record Numbers : Type 0 where
-  pub code : ℕ
-  pub numbers : List ℕ
-
--- the fifteen numbers; 12 leaves them as they were
-unfoldable pub timingTold : Read → List ℕ → Numbers
-timingTold read before = cond (leb 2 (codeOf (read .answer))) (record { code = codeOf (read .answer); numbers = before }) (record { code = codeOf (read .answer); numbers = numbersOf (read .timing) })
-
-unfoldable pub timingRead : List ℕ → List ℕ → List ℕ → Numbers
-timingRead registers rest before = cond (fitsIn rest) (timingTold (readTiming (heldIn registers rest)) before) (record { code = 12; numbers = before })

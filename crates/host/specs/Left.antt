@@ -14,7 +14,8 @@ use Rattle.access.specs.declared.record.Record.{Record}
 use Rattle.access.specs.Access.{access}
 use Rattle.trace.specs.declared.running.Served.{Served}
 use Rattle.image.specs.Bytes.{colourBytes}
-use Rattle.image.specs.Parts.{paletteAt, bankAt, stateBytes, heldIn, soundIn}
+use Rattle.timing.specs.Timing.{timingOf, writeTiming}
+use Rattle.image.specs.Parts.{paletteAt, bankAt, stateBytes, fitsIn, heldIn, soundIn}
 use Rattle.host.specs.Numbers.{told, notSound}
 
 -- the colour of three bytes
@@ -43,3 +44,9 @@ pub record Refuses (words bytes words′ bytes′ : List ℕ) (number : ℕ) : T
 pub record AccessLeft (asked : Record) (words bytes words′ bytes′ : List ℕ) (number : ℕ) : Type 0 where
   pub done : soundIn words bytes ≡ true → Accesses asked words bytes words′ bytes′ number
   pub refused : soundIn words bytes ≡ false → Refuses words bytes words′ bytes′ number
+
+-- a timing written: 01's file with the numbers, of any size, in its registers; a rest that is no file's is refused with 12 and the registers as they were
+pub record TimingLeft (numbers words bytes words′ : List ℕ) (number : ℕ) : Type 0 where
+  pub unfit : fitsIn bytes ≡ false → (number ≡ 12) × (words′ ≡ words)
+  pub said : fitsIn bytes ≡ true → number ≡ codeOf (writeTiming (heldIn words bytes) (timingOf numbers) .answer)
+  pub left : fitsIn bytes ≡ true → heldIn words′ bytes ≡ writeTiming (heldIn words bytes) (timingOf numbers) .file

@@ -4,6 +4,7 @@ use Prim.Native.Nat.{ℕ}
 use mathlib.Core.Path.{_≡_}
 use mathlib.Core.Bool.{true, false, cond, _&&_}
 use mathlib.Core.List.{List}
+use lib.Dec.{leb}
 use lib.ListN.{length}
 use Rattle.file.specs.Answers.{codeOf}
 use Rattle.access.specs.declared.record.Record.{Record}
@@ -20,22 +21,26 @@ use Rattle.restoring.specs.Promises.{RestoreKept}
 use Rattle.short_restoring.specs.Promises.{ShortRestoreKept}
 use Rattle.image.specs.Parts.{fitsIn, restOf, heldIn, setBytes, setIn}
 
--- bytes that are no file's: 12, nothing counted, and all as it was
-pub record Unfit (number count : ℕ) (words bytes words′ bytes′ before after : List ℕ) : Type 0 where
-  pub said : number ≡ 12
+-- a call that left all as it was, and counted nothing
+pub record Untouched (count : ℕ) (words bytes words′ bytes′ before after : List ℕ) : Type 0 where
   pub counted : count ≡ 0
   pub registers : words′ ≡ words
   pub rest : bytes′ ≡ bytes
   pub buffer : after ≡ before
 
--- a run of a trace: 01's run of the file behind the references; a refusal leaves them
+-- bytes that are no file's: 12, and all as it was
+pub record Unfit (number count : ℕ) (words bytes words′ bytes′ before after : List ℕ) : Type 0 where
+  pub said : number ≡ 12
+  pub kept : Untouched count words bytes words′ bytes′ before after
+
+-- a run of a trace: 01's run of the file behind the references; a refusal, a code from 2 up, leaves them
 pub record RunTold (words bytes trace before : List ℕ) (number count : ℕ) (words′ bytes′ after : List ℕ) : Type 0 where
   pub unfit : fitsIn bytes ≡ false → Unfit number count words bytes words′ bytes′ before after
   pub said : fitsIn bytes ≡ true → number ≡ codeOf (run (heldIn words bytes) trace before .answer)
   pub counted : fitsIn bytes ≡ true → count ≡ run (heldIn words bytes) trace before .count
   pub replied : fitsIn bytes ≡ true → after ≡ run (heldIn words bytes) trace before .buffer
-  pub registers : fitsIn bytes ≡ true → words′ ≡ run (heldIn words bytes) trace before .file .registers
-  pub rest : fitsIn bytes ≡ true → bytes′ ≡ restOf (run (heldIn words bytes) trace before .file)
+  pub registers : fitsIn bytes ≡ true → words′ ≡ cond (leb 2 number) words (run (heldIn words bytes) trace before .file .registers)
+  pub rest : fitsIn bytes ≡ true → bytes′ ≡ cond (leb 2 number) bytes (restOf (run (heldIn words bytes) trace before .file))
 
 -- a plan of the file behind the references
 pub record PlanTold (words bytes before : List ℕ) (number count : ℕ) (after : List ℕ) : Type 0 where
@@ -50,14 +55,14 @@ pub record RestoreTold (words bytes wanted others before : List ℕ) (number cou
   pub kept : (fitsIn bytes && fitsIn others) ≡ true
       → RestoreKept (heldIn words bytes) (heldIn wanted others) before after
       (record { answer = restoreAnswer (heldIn words bytes) (heldIn wanted others) (length before); count = count; file = fileAfter (heldIn words bytes) (items count after) })
-  pub registers : (fitsIn bytes && fitsIn others) ≡ true → words′ ≡ fileAfter (heldIn words bytes) (items count after) .registers
-  pub rest : (fitsIn bytes && fitsIn others) ≡ true → bytes′ ≡ restOf (fileAfter (heldIn words bytes) (items count after))
+  pub registers : (fitsIn bytes && fitsIn others) ≡ true → words′ ≡ cond (leb 2 number) words (fileAfter (heldIn words bytes) (items count after) .registers)
+  pub rest : (fitsIn bytes && fitsIn others) ≡ true → bytes′ ≡ cond (leb 2 number) bytes (restOf (fileAfter (heldIn words bytes) (items count after)))
 
 -- a set with what an access may change, noted before it is made
 pub record NoteTold (words bytes set : List ℕ) (asked : Record) (number : ℕ) (set′ : List ℕ) : Type 0 where
   pub unfit : fitsIn bytes ≡ false → (number ≡ 12) × (set′ ≡ set)
   pub said : fitsIn bytes ≡ true → number ≡ codeOf (readReach (heldIn words bytes) asked .answer)
-  pub noted : fitsIn bytes ≡ true → set′ ≡ setBytes (notedIn (readReach (heldIn words bytes) asked .reach) (setIn set))
+  pub noted : fitsIn bytes ≡ true → set′ ≡ cond (leb 2 number) set (setBytes (notedIn (readReach (heldIn words bytes) asked .reach) (setIn set)))
 
 -- a short plan from the first file to the second, by the set since that one was saved
 pub record ShortTold (words bytes saved others set before : List ℕ) (number count : ℕ) (after : List ℕ) : Type 0 where
@@ -79,7 +84,6 @@ pub record ShortRestoreTold (words bytes saved others set before : List ℕ) (nu
         file = fileAfter (heldIn words bytes) (items count after);
         touched = cond (isRefused (shortAnswer (heldIn words bytes) (heldIn saved others) (setIn set) (length before))) (setIn set) nothing;
       })
-  pub registers : (fitsIn bytes && fitsIn others) ≡ true → words′ ≡ fileAfter (heldIn words bytes) (items count after) .registers
-  pub rest : (fitsIn bytes && fitsIn others) ≡ true → bytes′ ≡ restOf (fileAfter (heldIn words bytes) (items count after))
-  pub noted : (fitsIn bytes && fitsIn others) ≡ true
-      → set′ ≡ setBytes (cond (isRefused (shortAnswer (heldIn words bytes) (heldIn saved others) (setIn set) (length before))) (setIn set) nothing)
+  pub registers : (fitsIn bytes && fitsIn others) ≡ true → words′ ≡ cond (leb 2 number) words (fileAfter (heldIn words bytes) (items count after) .registers)
+  pub rest : (fitsIn bytes && fitsIn others) ≡ true → bytes′ ≡ cond (leb 2 number) bytes (restOf (fileAfter (heldIn words bytes) (items count after)))
+  pub noted : (fitsIn bytes && fitsIn others) ≡ true → set′ ≡ cond (leb 2 number) set (setBytes nothing)

@@ -1,4 +1,5 @@
 // The register file for a host in C: a file is 108 words and 826 bytes that the host owns and lends.
+mod lists;
 mod serving;
 
 ghost use mathlib.Core.Path.{_≡_};
@@ -7,13 +8,15 @@ ghost use Rattle.file.specs.File.{powerOn};
 ghost use Rattle.image.specs.Bytes.{isSet};
 ghost use Rattle.image.specs.Parts.{chipIn};
 ghost use Rattle.image.specs.Image.{saveAnswer, savedIn, loadedFrom};
-ghost use Rattle.host.specs.Calls.{layoutOf, poweredOn, timingRead};
-ghost use Rattle.host.specs.Left.{AccessLeft};
+ghost use Rattle.host.specs.Calls.{layoutOf, poweredOn};
+ghost use Rattle.host.specs.Left.{AccessLeft, TimingLeft};
+ghost use Rattle.host.specs.Lists.{captureRead, cursorRead, reachTold, timingRead, windowRead};
 ghost use Rattle.host.specs.Numbers.{recordIn};
 ghost use Rattle.host.specs.Runs.{PlanTold, RunTold, RestoreTold, NoteTold, ShortTold, ShortRestoreTold};
 use file::Chip;
 use file::File;
 use file::REGISTERS;
+use geometry::read_geometry;
 use image::IMAGE;
 use image::REST;
 use image::SET;
@@ -29,6 +32,7 @@ use plan::short_plan;
 use restoring::restore;
 use short_restoring::short_restore;
 use timing::read_timing;
+use timing::write_timing;
 use trace::run;
 
 // How much of each thing there is, and where palette and bank begin in a rest: what the header says too.
@@ -111,6 +115,126 @@ pub extern "C" fn sedgecoil_timing_parts(
     }
     let timing = read.timing;
     *numbers = timing.numbers();
+    code as u32
+}
+
+// Writes fifteen timing numbers into the registers: 12, 8 or 10 with them as they were, or 0.
+#[no_mangle]
+pub extern "C" fn sedgecoil_timing_write_parts(
+    registers: &mut [u16; REGISTERS],
+    rest: &[u8; REST],
+    numbers: &[u32; 15],
+) -> u32
+    ensures { λ r. ⌜ TimingLeft (now (numbers .entry)) (now (registers .entry)) (now (rest .entry)) (now (registers .exit)) r ⌝ }
+{
+    if !fits(rest) {
+        return 12;
+    }
+    let words = *registers;
+    let bytes = *rest;
+    let given = *numbers;
+    let written = write_timing(held(words, bytes), lists::timing_of(given));
+    let file = written.file;
+    let words_after = file.registers;
+    *registers = words_after;
+    let answer = written.answer;
+    answer.code() as u32
+}
+
+// The cursor as six numbers, of which left and top are signed: 0, or 12 with the numbers as they were.
+#[no_mangle]
+pub extern "C" fn sedgecoil_cursor_parts(
+    registers: &[u16; REGISTERS],
+    rest: &[u8; REST],
+    numbers: &mut [i32; 6],
+) -> u32
+    ensures { λ r. ⌜ (r ≡ cursorRead (now (registers .entry)) (now (rest .entry)) (now (numbers .entry)) .code) × (now (numbers .exit) ≡ cursorRead (now (registers .entry)) (now (rest .entry)) (now (numbers .entry)) .numbers) ⌝ }
+{
+    if !fits(rest) {
+        return 12;
+    }
+    let words = *registers;
+    let bytes = *rest;
+    let read = read_geometry(held(words, bytes));
+    let answer = read.answer;
+    let code = answer.code();
+    if 2 <= code {
+        return code as u32;
+    }
+    *numbers = lists::cursor_numbers(read.cursor);
+    code as u32
+}
+
+// Window 2 as ten numbers: 0, or 12 with the numbers as they were.
+#[no_mangle]
+pub extern "C" fn sedgecoil_window_parts(
+    registers: &[u16; REGISTERS],
+    rest: &[u8; REST],
+    numbers: &mut [u32; 10],
+) -> u32
+    ensures { λ r. ⌜ (r ≡ windowRead (now (registers .entry)) (now (rest .entry)) (now (numbers .entry)) .code) × (now (numbers .exit) ≡ windowRead (now (registers .entry)) (now (rest .entry)) (now (numbers .entry)) .numbers) ⌝ }
+{
+    if !fits(rest) {
+        return 12;
+    }
+    let words = *registers;
+    let bytes = *rest;
+    let read = read_geometry(held(words, bytes));
+    let answer = read.answer;
+    let code = answer.code();
+    if 2 <= code {
+        return code as u32;
+    }
+    *numbers = lists::window_numbers(read.window);
+    code as u32
+}
+
+// The capture window as four numbers: 0, or 12 with the numbers as they were.
+#[no_mangle]
+pub extern "C" fn sedgecoil_capture_parts(
+    registers: &[u16; REGISTERS],
+    rest: &[u8; REST],
+    numbers: &mut [u32; 4],
+) -> u32
+    ensures { λ r. ⌜ (r ≡ captureRead (now (registers .entry)) (now (rest .entry)) (now (numbers .entry)) .code) × (now (numbers .exit) ≡ captureRead (now (registers .entry)) (now (rest .entry)) (now (numbers .entry)) .numbers) ⌝ }
+{
+    if !fits(rest) {
+        return 12;
+    }
+    let words = *registers;
+    let bytes = *rest;
+    let read = read_geometry(held(words, bytes));
+    let answer = read.answer;
+    let code = answer.code();
+    if 2 <= code {
+        return code as u32;
+    }
+    *numbers = lists::capture_numbers(read.capture);
+    code as u32
+}
+
+// What an access may change, as nine numbers: 0, or 12 with the numbers as they were.
+#[no_mangle]
+pub extern "C" fn sedgecoil_reach_parts(
+    registers: &[u16; REGISTERS],
+    rest: &[u8; REST],
+    asked: u64,
+    numbers: &mut [usize; 9],
+) -> u32
+    ensures { λ r. ⌜ (r ≡ reachTold (now (registers .entry)) (now (rest .entry)) (recordIn asked) (now (numbers .entry)) .code) × (now (numbers .exit) ≡ reachTold (now (registers .entry)) (now (rest .entry)) (recordIn asked) (now (numbers .entry)) .numbers) ⌝ }
+{
+    if !fits(rest) {
+        return 12;
+    }
+    let words = *registers;
+    let bytes = *rest;
+    let read = serving::record_in(asked).reach(held(words, bytes));
+    let answer = read.answer;
+    let code = answer.code();
+    if 2 <= code {
+        return code as u32;
+    }
+    *numbers = lists::reach_numbers(read.reach);
     code as u32
 }
 
@@ -197,13 +321,17 @@ pub extern "C" fn sedgecoil_run_parts(
     let words = *registers;
     let bytes = *rest;
     let ran = run(held(words, bytes), trace, replies);
+    *count = ran.count;
+    let answer = ran.answer;
+    let code = answer.code();
+    if 2 <= code {
+        return code as u32;
+    }
     let file = ran.file;
     let words_after = file.registers;
     *registers = words_after;
     *rest = rest_of(file);
-    *count = ran.count;
-    let answer = ran.answer;
-    answer.code() as u32
+    code as u32
 }
 
 // Restores the first file to the second by a plan: 12, 15, 13, 11, or 0 with the plan's records in the buffer and the file that they lead to.
@@ -231,13 +359,17 @@ pub extern "C" fn sedgecoil_restore_parts(
     let words_wanted = *wanted;
     let bytes_wanted = *others;
     let restored = restore(held(words, bytes), held(words_wanted, bytes_wanted), buffer);
+    *count = restored.count;
+    let answer = restored.answer;
+    let code = answer.code();
+    if 2 <= code {
+        return code as u32;
+    }
     let file = restored.file;
     let words_after = file.registers;
     *registers = words_after;
     *rest = rest_of(file);
-    *count = restored.count;
-    let answer = restored.answer;
-    answer.code() as u32
+    code as u32
 }
 
 // Notes in a set what an access may change, before it is made: 0, or 12 with the set as it was.
@@ -257,10 +389,14 @@ pub extern "C" fn sedgecoil_note_parts(
     let bytes = *rest;
     let named = *set;
     let read = serving::record_in(asked).reach(held(words, bytes));
+    let answer = read.answer;
+    let code = answer.code();
+    if 2 <= code {
+        return code as u32;
+    }
     let reach = read.reach;
     *set = set_bytes(set_in(named).note(reach));
-    let answer = read.answer;
-    answer.code() as u32
+    code as u32
 }
 
 // A short plan from the first file to the second: 12, 15, 20, 13, 11, or 0 with so many records in the buffer.
@@ -328,12 +464,16 @@ pub extern "C" fn sedgecoil_short_restore_parts(
     let wanted = held(words_saved, bytes_saved);
     let touched = set_in(named);
     let restored = short_restore(current, wanted, touched, buffer);
+    *count = restored.count;
+    let answer = restored.answer;
+    let code = answer.code();
+    if 2 <= code {
+        return code as u32;
+    }
     let file = restored.file;
     let words_after = file.registers;
     *registers = words_after;
     *rest = rest_of(file);
     *set = set_bytes(restored.touched);
-    *count = restored.count;
-    let answer = restored.answer;
-    answer.code() as u32
+    code as u32
 }

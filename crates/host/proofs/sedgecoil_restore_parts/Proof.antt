@@ -1,9 +1,9 @@
 -- `sedgecoil_restore_parts` meets its contract. Assumes nothing.
-use mathlib.Core.Path.{sym, ap₂, _∙_}
+use mathlib.Core.Path.{refl, sym, ap₂, _∙_}
 use mathlib.Core.Bool.{_&&_}
-use borrow.Author.Needs.{needs}
 use borrow.Author.Tests.{not-true, not-false}
-use Rattle.host.proofs.Told.{first-unfit, restore-unfit, restore-told}
+use Rattle.host.proofs.Told.{refusing, doing, first-unfit, restore-unfit, restore-told}
+use borrow.Author.Needs.{needs}
 use Rattle.host.proofs.sedgecoil_restore_parts.Statement.{statement}
 use Rattle.host.proofs.sedgecoil_restore_parts.Tie as tie
 
@@ -28,9 +28,6 @@ held-requires-2 c κs = search needs
 restore-requires : tie.Need-restore-requires
 restore-requires c κs = search needs
 
-rest-of-requires : tie.Need-rest-of-requires
-rest-of-requires c κs = search needs
-
 code-requires : tie.Need-code-requires
 code-requires c κs = search needs
 
@@ -42,9 +39,22 @@ same-length c = search needs
 
 returns-3 : tie.Need-returns-3
 returns-3 c =
-    let done = c .before .before .before .before .before .before .restore in
-    restore-told _ _ _ _ _ _ (c .before .before .before .before .before .before .before .before .before .held .result) (c .before .before .before .before .before .before .before .before .held2 .result) (c .before .before .before .before .before .before .before .before .before .held .ensures) (c .before .before .before .before .before .before .before .before .held2 .ensures) (done .result) (done .ensures)
-    (ap₂ _&&_ (sym (c .before .before .before .before .before .before .before .before .before .before .before .before .before .before .before .before .before .before .fits2 .ensures) ∙ not-false _ (c .before .before .before .before .before .before .before .before .before .before .before .before .before .before .before .before .before .if1 .left)) (sym (c .before .before .before .before .before .before .before .before .before .before .before .before .before .before .before .fits3 .ensures) ∙ not-false _ (c .before .before .before .before .before .before .before .before .before .before .before .before .before .before .if2 .left))) _ (c .code .ensures) _ (c .before .rest-of .ensures)
+    restore-told _ _ _ _ _ _ (c .before .before .before .before .before .before .before .held .result) (c .before .before .before .before .before .before .held2 .result) (c .before .before .before .before .before .before .before .held .ensures) (c .before .before .before .before .before .before .held2 .ensures) (c .before .before .before .before .restore .result) (c .before .before .before .before .restore .ensures)
+    (ap₂ _&&_ (sym (c .before .before .before .before .before .before .before .before .before .before .before .before .before .before .before .before .fits2 .ensures) ∙ not-false _ (c .before .before .before .before .before .before .before .before .before .before .before .before .before .before .before .if1 .left)) (sym (c .before .before .before .before .before .before .before .before .before .before .before .before .before .fits3 .ensures) ∙ not-false _ (c .before .before .before .before .before .before .before .before .before .before .before .before .if2 .left))) _ (c .before .code .ensures) _ _ (refusing _ _ _ (c .if3 .taken)) (refusing _ _ _ (c .if3 .taken))
+
+rest-of-requires : tie.Need-rest-of-requires
+rest-of-requires c κs = search needs
+
+cast-result-2 : tie.Need-cast-result-2
+cast-result-2 c = search needs
+
+same-length-2 : tie.Need-same-length-2
+same-length-2 c = search needs
+
+returns-4 : tie.Need-returns-4
+returns-4 c =
+    restore-told _ _ _ _ _ _ (c .before .before .before .before .before .before .before .before .before .before .held .result) (c .before .before .before .before .before .before .before .before .before .held2 .result) (c .before .before .before .before .before .before .before .before .before .before .held .ensures) (c .before .before .before .before .before .before .before .before .before .held2 .ensures) (c .before .before .before .before .before .before .before .restore .result) (c .before .before .before .before .before .before .before .restore .ensures)
+    (ap₂ _&&_ (sym (c .before .before .before .before .before .before .before .before .before .before .before .before .before .before .before .before .before .before .before .fits2 .ensures) ∙ not-false _ (c .before .before .before .before .before .before .before .before .before .before .before .before .before .before .before .before .before .before .if1 .left)) (sym (c .before .before .before .before .before .before .before .before .before .before .before .before .before .before .before .before .fits3 .ensures) ∙ not-false _ (c .before .before .before .before .before .before .before .before .before .before .before .before .before .before .before .if2 .left))) _ (c .before .before .before .before .code .ensures) _ _ (doing _ _ _ _ (c .before .before .before .if3 .left) refl) (doing _ _ _ _ (c .before .before .before .if3 .left) (c .rest-of .ensures))
 
 pub sedgecoil-restore-parts-spec : {M : Type 1} → statement M
 sedgecoil-restore-parts-spec =
@@ -57,8 +67,11 @@ sedgecoil-restore-parts-spec =
     held-requires
     held-requires-2
     restore-requires
-    rest-of-requires
     code-requires
     cast-result
     same-length
-    returns-3)
+    returns-3
+    rest-of-requires
+    cast-result-2
+    same-length-2
+    returns-4)
