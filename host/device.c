@@ -1,13 +1,13 @@
 #include "device.h"
 
-static uint8_t kind_of(enum device_space space, int writes)
-{
-    return (uint8_t)(2 * (int)space + writes);
-}
+enum { CONFIG = SEDGECOIL_CONFIG_READ, PORT = SEDGECOIL_PORT_READ, MMIO = SEDGECOIL_MMIO_READ };
 
-void device_reset(device *d, uint8_t chip)
+/* The last address that an access can name, and the most lines that one can let pass. */
+enum { LAST = 0xFFFF, MOST_LINES = 0xFFFF };
+
+uint32_t device_reset(device *d, uint8_t chip)
 {
-    sedgecoil_power_on(&d->file, chip);
+    return sedgecoil_power_on(&d->file, chip);
 }
 
 /* What an access answered was done: 0, and 1, whose index names no register. */
@@ -16,88 +16,118 @@ static int is_done(uint32_t answer)
     return sedgecoil_code(answer) <= SEDGECOIL_NO_REGISTER;
 }
 
-static uint32_t ask(device *d, enum device_space space, int writes, uint16_t address, unsigned width, uint32_t value)
+static uint32_t ask_read(device *d, uint8_t space, uint64_t address, uint8_t width)
 {
-    return sedgecoil_access(&d->file, kind_of(space, writes), (uint8_t)width, address, value);
+    return sedgecoil_access(&d->file, space, width, (uint16_t)address, 0);
 }
 
-/*
- * The ports are bytes: `outw` to 3C4h is index and data. In the other two spaces a register has one
- * byte or two; uncut the library answers 6, and 17 inside a wider one, with the file as it was.
- */
-static int is_word(enum device_space space, uint16_t address, unsigned left)
+/* A write's kind is the read's and one more. */
+static uint32_t ask_write(device *d, uint8_t space, uint64_t address, uint8_t width, uint32_t value)
 {
-    return space != DEVICE_PORT && left >= 2 && address % 2 == 0;
+    return sedgecoil_access(&d->file, (uint8_t)(space + 1), width, (uint16_t)address, value);
+}
+
+/* Whether a word may stand here: uncut the library answers 6, and 17 inside a wider one, with the file as it was. */
+static int is_word(uint8_t space, uint64_t address, unsigned left)
+{
+    return space != PORT && left >= 2 && address % 2 == 0 && address < LAST;
 }
 
 /* A byte: of a register of two it is one half. */
-static uint8_t read_byte(device *d, enum device_space space, uint16_t address)
+static uint8_t read_byte(device *d, uint8_t space, uint64_t address)
 {
-    uint32_t answer = ask(d, space, 0, address, 1, 0);
+    uint32_t answer;
 
+    if (address > LAST)
+        return 0xFF;
+    answer = ask_read(d, space, address, 1);
     if (is_done(answer))
         return (uint8_t)sedgecoil_value(answer);
-    if (space != DEVICE_PORT) {
-        answer = ask(d, space, 0, (uint16_t)(address & ~1u), 2, 0);
-        if (is_done(answer))
-            return (uint8_t)(sedgecoil_value(answer) >> 8 * (address % 2));
-    }
-    return 0xFF;
+    if (space == PORT)
+        return 0xFF;
+    answer = ask_read(d, space, address - address % 2, 2);
+    return is_done(answer) ? (uint8_t)(sedgecoil_value(answer) >> 8 * (address % 2)) : 0xFF;
 }
 
-static void write_byte(device *d, enum device_space space, uint16_t address, uint8_t value)
+/* The other half is written as it reads. */
+static void write_byte(device *d, uint8_t space, uint64_t address, uint8_t value)
 {
-    uint32_t was;
     unsigned shift = 8 * (address % 2);
+    uint32_t was;
 
-    if (is_done(ask(d, space, 1, address, 1, value)) || space == DEVICE_PORT)
+    if (address > LAST || is_done(ask_write(d, space, address, 1, value)) || space == PORT)
         return;
-    was = ask(d, space, 0, (uint16_t)(address & ~1u), 2, 0);
+    was = ask_read(d, space, address - address % 2, 2);
     if (is_done(was))
-        ask(d, space, 1, (uint16_t)(address & ~1u), 2,
-            (sedgecoil_value(was) & ~(0xFFu << shift)) | (uint32_t)value << shift);
+        ask_write(d, space, address - address % 2, 2, (sedgecoil_value(was) & ~(0xFFu << shift)) | (uint32_t)value << shift);
 }
 
-uint32_t device_read(device *d, enum device_space space, uint16_t address, unsigned width)
+static uint32_t read_cut(device *d, uint8_t space, uint64_t address, unsigned size)
 {
-    uint32_t value = 0;
+    uint32_t value = 0, answer;
 
-    for (unsigned at = 0; at < width;) {
-        uint16_t here = (uint16_t)(address + at);
-
-        if (is_word(space, here, width - at)) {
-            uint32_t answer = ask(d, space, 0, here, 2, 0);
-
-            if (is_done(answer)) {
-                value |= (uint32_t)sedgecoil_value(answer) << 8 * at;
-                at += 2;
-                continue;
-            }
+    for (unsigned at = 0; at < size && at < 4;) {
+        if (is_word(space, address + at, size - at) && is_done(answer = ask_read(d, space, address + at, 2))) {
+            value |= (uint32_t)sedgecoil_value(answer) << 8 * at;
+            at += 2;
+        } else {
+            value |= (uint32_t)read_byte(d, space, address + at) << 8 * at;
+            at += 1;
         }
-        value |= (uint32_t)read_byte(d, space, here) << 8 * at;
-        at += 1;
     }
     return value;
 }
 
-void device_write(device *d, enum device_space space, uint16_t address, unsigned width, uint32_t value)
+static void write_cut(device *d, uint8_t space, uint64_t address, unsigned size, uint32_t value)
 {
-    for (unsigned at = 0; at < width;) {
-        uint16_t here = (uint16_t)(address + at);
-
-        if (is_word(space, here, width - at) && is_done(ask(d, space, 1, here, 2, value >> 8 * at & 0xFFFF))) {
+    for (unsigned at = 0; at < size && at < 4;) {
+        if (is_word(space, address + at, size - at) && is_done(ask_write(d, space, address + at, 2, value >> 8 * at & 0xFFFF))) {
             at += 2;
-            continue;
+        } else {
+            write_byte(d, space, address + at, (uint8_t)(value >> 8 * at));
+            at += 1;
         }
-        write_byte(d, space, here, (uint8_t)(value >> 8 * at));
-        at += 1;
     }
 }
 
-void device_tick(device *d, uint16_t lines)
+uint32_t device_config_read(void *opaque, uint64_t address, unsigned size)
 {
-    if (lines > 0)
-        sedgecoil_access(&d->file, SEDGECOIL_LINES_PASS, 2, 0, lines);
+    return read_cut(opaque, CONFIG, address, size);
+}
+
+void device_config_write(void *opaque, uint64_t address, uint32_t value, unsigned size)
+{
+    write_cut(opaque, CONFIG, address, size, value);
+}
+
+uint32_t device_port_read(void *opaque, uint64_t address, unsigned size)
+{
+    return read_cut(opaque, PORT, address, size);
+}
+
+void device_port_write(void *opaque, uint64_t address, uint32_t value, unsigned size)
+{
+    write_cut(opaque, PORT, address, size, value);
+}
+
+uint32_t device_mmio_read(void *opaque, uint64_t address, unsigned size)
+{
+    return read_cut(opaque, MMIO, address, size);
+}
+
+void device_mmio_write(void *opaque, uint64_t address, uint32_t value, unsigned size)
+{
+    write_cut(opaque, MMIO, address, size, value);
+}
+
+void device_tick(device *d, uint32_t lines)
+{
+    while (lines > 0) {
+        uint32_t some = lines < MOST_LINES ? lines : MOST_LINES;
+
+        sedgecoil_access(&d->file, SEDGECOIL_LINES_PASS, 2, 0, some);
+        lines -= some;
+    }
 }
 
 uint32_t device_save(const device *d, uint8_t image[SEDGECOIL_IMAGE])

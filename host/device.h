@@ -1,4 +1,8 @@
-/* A device model as an emulator has it: callbacks for its three spaces, a tick, and a snapshot. */
+/*
+ * A device model as an emulator has it: callbacks for its three spaces, a tick, and a snapshot. The
+ * callbacks have the shape that emulators give them: what was registered with them, the address in
+ * the space, and 1, 2 or 4 bytes.
+ */
 #ifndef DEVICE_H
 #define DEVICE_H
 
@@ -8,17 +12,22 @@ typedef struct device {
     sedgecoil_file file;
 } device;
 
-enum device_space { DEVICE_CONFIG, DEVICE_PORT, DEVICE_MMIO };
+/* The chip at power-on: 0, or 2 for a chip that is none. */
+uint32_t device_reset(device *d, uint8_t chip);
 
-/* The chip at power-on. */
-void device_reset(device *d, uint8_t chip);
-
-/* An access of 1, 2 or 4 bytes, cut as the bus cuts it. Where nothing answers a read has ones. */
-uint32_t device_read(device *d, enum device_space space, uint16_t address, unsigned width);
-void device_write(device *d, enum device_space space, uint16_t address, unsigned width, uint32_t value);
+/*
+ * An access is cut as the bus cuts it: the ports are bytes; in the other spaces a register has one
+ * byte or two. Bytes that nothing answers read as ones, and a write of them is dropped.
+ */
+uint32_t device_config_read(void *opaque, uint64_t address, unsigned size);
+void device_config_write(void *opaque, uint64_t address, uint32_t value, unsigned size);
+uint32_t device_port_read(void *opaque, uint64_t address, unsigned size);
+void device_port_write(void *opaque, uint64_t address, uint32_t value, unsigned size);
+uint32_t device_mmio_read(void *opaque, uint64_t address, unsigned size);
+void device_mmio_write(void *opaque, uint64_t address, uint32_t value, unsigned size);
 
 /* So many scanlines pass. */
-void device_tick(device *d, uint16_t lines);
+void device_tick(device *d, uint32_t lines);
 
 /* A snapshot of SEDGECOIL_IMAGE bytes, and back from one: 0, or the code of the refusal. */
 uint32_t device_save(const device *d, uint8_t image[SEDGECOIL_IMAGE]);

@@ -11,7 +11,8 @@
  * no other thread writes any of it before the call is back. What the bytes are is no duty: a struct
  * that is no sound file is refused with 12, and stays as it was.
  *
- * A code is one of 01's table. From 2 up it is a refusal: file, set and buffer stay as they were.
+ * A code is one of 01's table. From 2 up it is a refusal: file, set, numbers and buffer stay as they
+ * were, and a count is 0.
  */
 #ifndef SEDGECOIL_H
 #define SEDGECOIL_H
@@ -29,8 +30,49 @@ enum {
     SEDGECOIL_SET = 383,        /* the bytes of a set */
     SEDGECOIL_IMAGE = 1433,     /* the bytes of a saved file */
     SEDGECOIL_VERSION = 1,      /* of an image */
-    SEDGECOIL_NUMBERS = 15,     /* of a timing */
     SEDGECOIL_PLAN = 8192       /* bytes: room for every plan */
+};
+
+/* The fifteen timing numbers in 01's order: character clocks across, scanlines down. */
+enum {
+    SEDGECOIL_H_TOTAL, SEDGECOIL_H_DISPLAY, SEDGECOIL_H_BLANK_START, SEDGECOIL_H_BLANK_END,
+    SEDGECOIL_H_SYNC_START, SEDGECOIL_H_SYNC_END,
+    SEDGECOIL_V_TOTAL, SEDGECOIL_V_DISPLAY, SEDGECOIL_V_BLANK_START, SEDGECOIL_V_BLANK_END,
+    SEDGECOIL_V_SYNC_START, SEDGECOIL_V_SYNC_END,
+    SEDGECOIL_LINE_COMPARE, SEDGECOIL_OFFSET, SEDGECOIL_SCREEN_START,
+    SEDGECOIL_TIMING_COUNT
+};
+
+/* The cursor in pixels and scanlines. Left and top may be below 0; enabled is 0 or 1. */
+enum {
+    SEDGECOIL_CURSOR_ENABLED, SEDGECOIL_CURSOR_LEFT, SEDGECOIL_CURSOR_TOP,
+    SEDGECOIL_CURSOR_WIDTH, SEDGECOIL_CURSOR_HEIGHT, SEDGECOIL_CURSOR_ADDRESS,
+    SEDGECOIL_CURSOR_COUNT
+};
+
+/* Window 2: right and bottom are not included. Enabled, video, empty and fault are 0 or 1. */
+enum {
+    SEDGECOIL_WINDOW_ENABLED, SEDGECOIL_WINDOW_VIDEO, SEDGECOIL_WINDOW_LEFT, SEDGECOIL_WINDOW_TOP,
+    SEDGECOIL_WINDOW_RIGHT, SEDGECOIL_WINDOW_BOTTOM, SEDGECOIL_WINDOW_EMPTY, SEDGECOIL_WINDOW_FAULT,
+    SEDGECOIL_WINDOW_START, SEDGECOIL_WINDOW_STOP,
+    SEDGECOIL_WINDOW_COUNT
+};
+
+/* The capture window as stored: pixel clocks across, incoming scanlines down. */
+enum {
+    SEDGECOIL_CAPTURE_X_START, SEDGECOIL_CAPTURE_X_STOP, SEDGECOIL_CAPTURE_Y_START, SEDGECOIL_CAPTURE_Y_STOP,
+    SEDGECOIL_CAPTURE_COUNT
+};
+
+/*
+ * What an access may change: bits of one register, by its number (no bits, no register); and, each
+ * 0 or 1, the pointer, the toggle, the marks, the line, an entry of the palette or of the bank.
+ */
+enum {
+    SEDGECOIL_REACH_REGISTER, SEDGECOIL_REACH_BITS, SEDGECOIL_REACH_POINTER, SEDGECOIL_REACH_TOGGLE,
+    SEDGECOIL_REACH_MARKS, SEDGECOIL_REACH_LINE, SEDGECOIL_REACH_PALETTE, SEDGECOIL_REACH_BANK,
+    SEDGECOIL_REACH_ENTRY,
+    SEDGECOIL_REACH_COUNT
 };
 
 enum { SEDGECOIL_5462 = 0, SEDGECOIL_5464 = 1 };
@@ -84,10 +126,20 @@ typedef struct sedgecoil_file {
 
 /* ---- The library's own functions: a file in its two parts. The inline ones below lend both. ---- */
 
+/*
+ * How much of each thing the library has, to hold this header against it: registers, bytes of the
+ * rest, of a set and of an image, an image's version, where palette and bank begin in the rest; the
+ * numbers of a timing, a cursor, a window, a capture window and a reach; 0 for any other `what`.
+ */
 uint32_t sedgecoil_layout(uint32_t what);
 uint32_t sedgecoil_power_on_parts(uint16_t *registers, uint8_t *rest, uint8_t chip);
 uint32_t sedgecoil_access_parts(uint16_t *registers, uint8_t *rest, uint64_t record);
 uint32_t sedgecoil_timing_parts(const uint16_t *registers, const uint8_t *rest, uint32_t *numbers);
+uint32_t sedgecoil_timing_write_parts(uint16_t *registers, const uint8_t *rest, const uint32_t *numbers);
+uint32_t sedgecoil_cursor_parts(const uint16_t *registers, const uint8_t *rest, int32_t *numbers);
+uint32_t sedgecoil_window_parts(const uint16_t *registers, const uint8_t *rest, uint32_t *numbers);
+uint32_t sedgecoil_capture_parts(const uint16_t *registers, const uint8_t *rest, uint32_t *numbers);
+uint32_t sedgecoil_reach_parts(const uint16_t *registers, const uint8_t *rest, uint64_t record, size_t *numbers);
 uint32_t sedgecoil_save_parts(const uint16_t *registers, const uint8_t *rest, const uint8_t *set,
                               uint8_t kept, uint8_t *buffer, size_t room);
 uint32_t sedgecoil_load_parts(uint16_t *registers, uint8_t *rest, uint8_t *set,
@@ -113,6 +165,12 @@ static inline const uint8_t *sedgecoil_rest_of(const sedgecoil_file *file)
     return (const uint8_t *)file + offsetof(sedgecoil_file, line);
 }
 
+/* An access as one number: the eight bytes of a trace's record, the first one lowest. */
+static inline uint64_t sedgecoil_record(uint8_t kind, uint8_t width, uint16_t address, uint32_t value)
+{
+    return kind | (uint64_t)width << 8 | (uint64_t)address << 16 | (uint64_t)value << 32;
+}
+
 /* ---- What a host calls ---- */
 
 /* The file at power-on. 0, or 2 for a chip that is none. */
@@ -128,9 +186,7 @@ static inline uint32_t sedgecoil_power_on(sedgecoil_file *file, uint8_t chip)
 static inline uint32_t sedgecoil_access(sedgecoil_file *file, uint8_t kind, uint8_t width,
                                         uint16_t address, uint32_t value)
 {
-    uint64_t record = kind | (uint64_t)width << 8 | (uint64_t)address << 16 | (uint64_t)value << 32;
-
-    return sedgecoil_access_parts(file->registers, sedgecoil_rest(file), record);
+    return sedgecoil_access_parts(file->registers, sedgecoil_rest(file), sedgecoil_record(kind, width, address, value));
 }
 
 static inline unsigned sedgecoil_code(uint32_t answer)
@@ -143,10 +199,44 @@ static inline uint16_t sedgecoil_value(uint32_t answer)
     return (uint16_t)answer;
 }
 
-/* The fifteen timing numbers in 01's order. 0, or 12 with the numbers as they were. */
-static inline uint32_t sedgecoil_timing(const sedgecoil_file *file, uint32_t numbers[SEDGECOIL_NUMBERS])
+/* The fifteen timing numbers. 0, or 12 with the numbers as they were. */
+static inline uint32_t sedgecoil_timing(const sedgecoil_file *file, uint32_t numbers[SEDGECOIL_TIMING_COUNT])
 {
     return sedgecoil_timing_parts(file->registers, sedgecoil_rest_of(file), numbers);
+}
+
+/*
+ * Writes them into the registers: 0; or 12, 8 while CR11[7] is set, 10 for a number that is out of
+ * its range, each with the file as it was. What is written is read back.
+ */
+static inline uint32_t sedgecoil_timing_write(sedgecoil_file *file, const uint32_t numbers[SEDGECOIL_TIMING_COUNT])
+{
+    return sedgecoil_timing_write_parts(file->registers, sedgecoil_rest_of(file), numbers);
+}
+
+/* The hardware cursor. 0, or 12 with the numbers as they were; so the next two. */
+static inline uint32_t sedgecoil_cursor(const sedgecoil_file *file, int32_t numbers[SEDGECOIL_CURSOR_COUNT])
+{
+    return sedgecoil_cursor_parts(file->registers, sedgecoil_rest_of(file), numbers);
+}
+
+/* Window 2. */
+static inline uint32_t sedgecoil_window(const sedgecoil_file *file, uint32_t numbers[SEDGECOIL_WINDOW_COUNT])
+{
+    return sedgecoil_window_parts(file->registers, sedgecoil_rest_of(file), numbers);
+}
+
+/* The V-Port's capture window. */
+static inline uint32_t sedgecoil_capture(const sedgecoil_file *file, uint32_t numbers[SEDGECOIL_CAPTURE_COUNT])
+{
+    return sedgecoil_capture_parts(file->registers, sedgecoil_rest_of(file), numbers);
+}
+
+/* What an access may change, before it is made. 0, or 12 with the numbers as they were. */
+static inline uint32_t sedgecoil_reach(const sedgecoil_file *file, uint8_t kind, uint8_t width, uint16_t address,
+                                       uint32_t value, size_t numbers[SEDGECOIL_REACH_COUNT])
+{
+    return sedgecoil_reach_parts(file->registers, sedgecoil_rest_of(file), sedgecoil_record(kind, width, address, value), numbers);
 }
 
 /*
@@ -165,9 +255,7 @@ static inline uint32_t sedgecoil_run(sedgecoil_file *file, const uint8_t *trace,
 static inline uint32_t sedgecoil_note(const sedgecoil_file *file, uint8_t *set, uint8_t kind, uint8_t width,
                                       uint16_t address, uint32_t value)
 {
-    uint64_t record = kind | (uint64_t)width << 8 | (uint64_t)address << 16 | (uint64_t)value << 32;
-
-    return sedgecoil_note_parts(file->registers, sedgecoil_rest_of(file), set, record);
+    return sedgecoil_note_parts(file->registers, sedgecoil_rest_of(file), set, sedgecoil_record(kind, width, address, value));
 }
 
 /*

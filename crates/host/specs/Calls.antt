@@ -11,9 +11,10 @@ use Rattle.file.specs.Registers.{registerCount}
 use Rattle.image.specs.Image.{imageCount}
 use Rattle.image.specs.Parts.{paletteAt, bankAt, restCount, setCount, chipIn, restOf}
 
--- how much of each thing there is: registers, bytes of a rest, of a set and of an image, the image's version, where palette and bank begin in a rest
+-- how much of each thing there is: registers, bytes of a rest, of a set and of an image, the image's version, where palette and bank begin in a rest; the numbers of a timing,
+-- a cursor, a window, a capture window and a reach
 unfoldable pub layoutOf : ℕ → ℕ
-layoutOf what = getD (registerCount ∷ restCount ∷ setCount ∷ imageCount ∷ 1 ∷ paletteAt ∷ bankAt ∷ []) what 0
+layoutOf what = getD (registerCount ∷ restCount ∷ setCount ∷ imageCount ∷ 1 ∷ paletteAt ∷ bankAt ∷ 15 ∷ 6 ∷ 10 ∷ 4 ∷ 9 ∷ []) what 0
 
 -- a code, and the parts of a file as they are left
 pub record Left : Type 0 where

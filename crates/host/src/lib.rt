@@ -13,6 +13,11 @@ ghost use Rattle.host.specs.Left.{AccessLeft, TimingLeft};
 ghost use Rattle.host.specs.Lists.{captureRead, cursorRead, reachTold, timingRead, windowRead};
 ghost use Rattle.host.specs.Numbers.{recordIn};
 ghost use Rattle.host.specs.Runs.{PlanTold, RunTold, RestoreTold, NoteTold, ShortTold, ShortRestoreTold};
+use crate::lists::CAPTURE;
+use crate::lists::CURSOR;
+use crate::lists::REACH;
+use crate::lists::TIMING;
+use crate::lists::WINDOW;
 use file::Chip;
 use file::File;
 use file::REGISTERS;
@@ -35,7 +40,7 @@ use timing::read_timing;
 use timing::write_timing;
 use trace::run;
 
-// How much of each thing there is, and where palette and bank begin in a rest: what the header says too.
+// How much of each thing there is, where palette and bank begin in a rest, and how many numbers each list has: what the header says too.
 #[no_mangle]
 pub extern "C" fn sedgecoil_layout(what: u32) -> u32
     ensures { λ r. ⌜ r ≡ layoutOf what ⌝ }
@@ -48,8 +53,13 @@ pub extern "C" fn sedgecoil_layout(what: u32) -> u32
         1,
         10,
         778,
+        TIMING as u32,
+        CURSOR as u32,
+        WINDOW as u32,
+        CAPTURE as u32,
+        REACH as u32,
     ];
-    if what < 7 { sizes[what as usize] } else { 0 }
+    if what < 12 { sizes[what as usize] } else { 0 }
 }
 
 // The file of a chip's number.
@@ -98,7 +108,7 @@ pub extern "C" fn sedgecoil_access_parts(
 pub extern "C" fn sedgecoil_timing_parts(
     registers: &[u16; REGISTERS],
     rest: &[u8; REST],
-    numbers: &mut [u32; 15],
+    numbers: &mut [u32; TIMING],
 ) -> u32
     ensures { λ r. ⌜ (r ≡ timingRead (now (registers .entry)) (now (rest .entry)) (now (numbers .entry)) .code) × (now (numbers .exit) ≡ timingRead (now (registers .entry)) (now (rest .entry)) (now (numbers .entry)) .numbers) ⌝ }
 {
@@ -123,7 +133,7 @@ pub extern "C" fn sedgecoil_timing_parts(
 pub extern "C" fn sedgecoil_timing_write_parts(
     registers: &mut [u16; REGISTERS],
     rest: &[u8; REST],
-    numbers: &[u32; 15],
+    numbers: &[u32; TIMING],
 ) -> u32
     ensures { λ r. ⌜ TimingLeft (now (numbers .entry)) (now (registers .entry)) (now (rest .entry)) (now (registers .exit)) r ⌝ }
 {
@@ -146,7 +156,7 @@ pub extern "C" fn sedgecoil_timing_write_parts(
 pub extern "C" fn sedgecoil_cursor_parts(
     registers: &[u16; REGISTERS],
     rest: &[u8; REST],
-    numbers: &mut [i32; 6],
+    numbers: &mut [i32; CURSOR],
 ) -> u32
     ensures { λ r. ⌜ (r ≡ cursorRead (now (registers .entry)) (now (rest .entry)) (now (numbers .entry)) .code) × (now (numbers .exit) ≡ cursorRead (now (registers .entry)) (now (rest .entry)) (now (numbers .entry)) .numbers) ⌝ }
 {
@@ -170,7 +180,7 @@ pub extern "C" fn sedgecoil_cursor_parts(
 pub extern "C" fn sedgecoil_window_parts(
     registers: &[u16; REGISTERS],
     rest: &[u8; REST],
-    numbers: &mut [u32; 10],
+    numbers: &mut [u32; WINDOW],
 ) -> u32
     ensures { λ r. ⌜ (r ≡ windowRead (now (registers .entry)) (now (rest .entry)) (now (numbers .entry)) .code) × (now (numbers .exit) ≡ windowRead (now (registers .entry)) (now (rest .entry)) (now (numbers .entry)) .numbers) ⌝ }
 {
@@ -194,7 +204,7 @@ pub extern "C" fn sedgecoil_window_parts(
 pub extern "C" fn sedgecoil_capture_parts(
     registers: &[u16; REGISTERS],
     rest: &[u8; REST],
-    numbers: &mut [u32; 4],
+    numbers: &mut [u32; CAPTURE],
 ) -> u32
     ensures { λ r. ⌜ (r ≡ captureRead (now (registers .entry)) (now (rest .entry)) (now (numbers .entry)) .code) × (now (numbers .exit) ≡ captureRead (now (registers .entry)) (now (rest .entry)) (now (numbers .entry)) .numbers) ⌝ }
 {
@@ -219,7 +229,7 @@ pub extern "C" fn sedgecoil_reach_parts(
     registers: &[u16; REGISTERS],
     rest: &[u8; REST],
     asked: u64,
-    numbers: &mut [usize; 9],
+    numbers: &mut [usize; REACH],
 ) -> u32
     ensures { λ r. ⌜ (r ≡ reachTold (now (registers .entry)) (now (rest .entry)) (recordIn asked) (now (numbers .entry)) .code) × (now (numbers .exit) ≡ reachTold (now (registers .entry)) (now (rest .entry)) (recordIn asked) (now (numbers .entry)) .numbers) ⌝ }
 {

@@ -11,6 +11,17 @@ use timing::Clocks;
 use timing::Scanlines;
 use timing::Timing;
 
+// How many numbers each list has.
+pub const TIMING: usize = 15;
+
+pub const CURSOR: usize = 6;
+
+pub const WINDOW: usize = 10;
+
+pub const CAPTURE: usize = 4;
+
+pub const REACH: usize = 9;
+
 // A number in 16 bits: one that has more is in no range, and neither is what stands for it.
 fn clipped(number: u32) -> u16
     ensures { λ r. ⌜ r ≡ clippedOf number ⌝ }
@@ -19,7 +30,7 @@ fn clipped(number: u32) -> u16
 }
 
 // The timing of fifteen numbers in 01's order.
-pub fn timing_of(numbers: [u32; 15]) -> Timing
+pub fn timing_of(numbers: [u32; TIMING]) -> Timing
     ensures { λ r. ⌜ r ≡ timingClipped numbers ⌝ }
 {
     Timing {
@@ -62,7 +73,7 @@ fn wide_signed(number: i16) -> i32
 }
 
 // Enabled, left, top, width, height, address.
-pub fn cursor_numbers(cursor: Cursor) -> [i32; 6]
+pub fn cursor_numbers(cursor: Cursor) -> [i32; CURSOR]
     requires { ⌜ cursor .address < 2 ^ 31 ⌝ }
     ensures { λ r. ⌜ r ≡ cursorNumbers cursor ⌝ }
 {
@@ -77,7 +88,7 @@ pub fn cursor_numbers(cursor: Cursor) -> [i32; 6]
 }
 
 // Enabled, video, left, top, right, bottom, empty, fault, start, stop.
-pub fn window_numbers(window: Window) -> [u32; 10]
+pub fn window_numbers(window: Window) -> [u32; WINDOW]
     ensures { λ r. ⌜ r ≡ windowNumbers window ⌝ }
 {
     [
@@ -95,7 +106,7 @@ pub fn window_numbers(window: Window) -> [u32; 10]
 }
 
 // Start and stop across, start and stop down.
-pub fn capture_numbers(capture: Capture) -> [u32; 4]
+pub fn capture_numbers(capture: Capture) -> [u32; CAPTURE]
     ensures { λ r. ⌜ r ≡ captureNumbers capture ⌝ }
 {
     [
@@ -107,7 +118,7 @@ pub fn capture_numbers(capture: Capture) -> [u32; 4]
 }
 
 // The register and its bits; pointer, toggle, marks, line; palette, bank and the entry of either.
-pub fn reach_numbers(reach: Reach) -> [usize; 9]
+pub fn reach_numbers(reach: Reach) -> [usize; REACH]
     ensures { λ r. ⌜ r ≡ reachNumbers reach ⌝ }
 {
     [
