@@ -29,6 +29,12 @@ static void check_layout(void)
     check(sedgecoil_layout(4) == SEDGECOIL_VERSION, "the image's version");
     check(sedgecoil_layout(5) == offsetof(sedgecoil_file, palette) - offsetof(sedgecoil_file, line), "where the palette begins");
     check(sedgecoil_layout(6) == offsetof(sedgecoil_file, bank) - offsetof(sedgecoil_file, line), "where the bank begins");
+    check(sedgecoil_layout(7) == SEDGECOIL_TIMING_COUNT, "how many timing numbers");
+    check(sedgecoil_layout(8) == SEDGECOIL_CURSOR_COUNT, "how many numbers a cursor has");
+    check(sedgecoil_layout(9) == SEDGECOIL_WINDOW_COUNT, "how many a window has");
+    check(sedgecoil_layout(10) == SEDGECOIL_CAPTURE_COUNT, "how many a capture window has");
+    check(sedgecoil_layout(11) == SEDGECOIL_REACH_COUNT, "how many a reach has");
+    check(sedgecoil_layout(12) == 0 && sedgecoil_layout(UINT32_MAX) == 0, "nothing else is counted");
     check(sizeof file == 2 * sedgecoil_layout(0) + sedgecoil_layout(1), "the struct has no padding");
     check(offsetof(sedgecoil_file, line) == sizeof file.registers, "the rest begins behind the registers");
 }
@@ -69,29 +75,175 @@ static void check_fields(void)
     check(file.line <= 2048, "the line");
 }
 
+/* ---- Timing, cursor, window 2, capture and reach ---- */
+
+static const uint32_t mode[SEDGECOIL_TIMING_COUNT] = {100, 80, 80, 98, 84, 96, 525, 480, 487, 516, 490, 492, 1023, 40, 0x12345};
+
+static void check_timing(uint8_t chip)
+{
+    static const uint32_t outside[] = {4, 517, 65535, 65536 + 5, UINT32_MAX};
+    uint32_t numbers[SEDGECOIL_TIMING_COUNT], bad[SEDGECOIL_TIMING_COUNT];
+    sedgecoil_file file, before;
+    int refused = 1;
+
+    sedgecoil_power_on(&file, chip);
+    enable(&file);
+    check(sedgecoil_timing_write(&file, mode) == SEDGECOIL_DONE, "a timing is written");
+    check(sedgecoil_timing(&file, numbers) == SEDGECOIL_DONE && memcmp(numbers, mode, sizeof mode) == 0, "and read back");
+    check(file.registers[25] == 95, "CR0 is register 25, and H total less 5");
+    before = file;
+    for (size_t i = 0; i < sizeof outside / sizeof *outside; i++) {
+        memcpy(bad, mode, sizeof bad);
+        bad[SEDGECOIL_H_TOTAL] = outside[i];
+        refused = refused && sedgecoil_timing_write(&file, bad) == SEDGECOIL_OUT_OF_RANGE && memcmp(&file, &before, sizeof file) == 0;
+    }
+    check(refused, "a number out of its range");
+    sedgecoil_access(&file, SEDGECOIL_MMIO_WRITE, 1, 0x44, 0x80);
+    before = file;
+    check(sedgecoil_timing_write(&file, bad) == SEDGECOIL_LOCKED && memcmp(&file, &before, sizeof file) == 0, "while CR11[7] is set");
+    file.line = 2049;
+    before = file;
+    check(sedgecoil_timing_write(&file, mode) == SEDGECOIL_NOT_SOUND && memcmp(&file, &before, sizeof file) == 0, "into an unsound file");
+    check(sedgecoil_timing(&file, numbers) == SEDGECOIL_NOT_SOUND && memcmp(numbers, mode, sizeof mode) == 0, "nor read from one");
+}
+
+static void check_geometry(uint8_t chip)
+{
+    static const uint16_t writes[][2] = {{0xE0, 5}, {0xE2, 7}, {0xE4, 0x0A14}, {0xE6, 1}, {0xE8, 4}, {0xCC, 10}, {0xCE, 20}, {0xD0, 30},
+                                         {0xD2, 4000}, {0x108, 11}, {0x10A, 12}, {0x10C, 13}, {0x10E, 14}};
+    static const int32_t cursor[SEDGECOIL_CURSOR_COUNT] = {1, -5, -13, 54, 44, 1024};
+    static const uint32_t window[SEDGECOIL_WINDOW_COUNT] = {1, 1, 10, 20, 30, 480, 0, 1, 64, 128};
+    uint32_t capture[SEDGECOIL_CAPTURE_COUNT] = {11, 12, chip == SEDGECOIL_5464 ? 13 : 0, 14};
+    int32_t c[SEDGECOIL_CURSOR_COUNT];
+    uint32_t w[SEDGECOIL_WINDOW_COUNT], v[SEDGECOIL_CAPTURE_COUNT];
+    sedgecoil_file file;
+
+    sedgecoil_power_on(&file, chip);
+    enable(&file);
+    sedgecoil_timing_write(&file, mode);
+    for (size_t i = 0; i < sizeof writes / sizeof *writes; i++)
+        sedgecoil_access(&file, SEDGECOIL_MMIO_WRITE, 2, writes[i][0], writes[i][1]);
+    sedgecoil_access(&file, SEDGECOIL_MMIO_WRITE, 1, 0xD4, 0xC1);
+    sedgecoil_access(&file, SEDGECOIL_MMIO_WRITE, 1, 0xD5, 0x02);
+    check(sedgecoil_cursor(&file, c) == SEDGECOIL_DONE && memcmp(c, cursor, sizeof c) == 0, "the cursor, left and top below 0");
+    check(sedgecoil_window(&file, w) == SEDGECOIL_DONE && memcmp(w, window, sizeof w) == 0, "window 2");
+    check(sedgecoil_capture(&file, v) == SEDGECOIL_DONE && memcmp(v, capture, sizeof v) == 0, "the capture window");
+    file.toggle = 2;
+    check(sedgecoil_cursor(&file, c) == SEDGECOIL_NOT_SOUND && memcmp(c, cursor, sizeof c) == 0
+          && sedgecoil_window(&file, w) == SEDGECOIL_NOT_SOUND && memcmp(w, window, sizeof w) == 0
+          && sedgecoil_capture(&file, v) == SEDGECOIL_NOT_SOUND && memcmp(v, capture, sizeof v) == 0, "of an unsound file nothing");
+}
+
+static int reaches(const sedgecoil_file *file, uint8_t kind, uint8_t width, uint16_t address, uint32_t value, const size_t wanted[SEDGECOIL_REACH_COUNT])
+{
+    size_t numbers[SEDGECOIL_REACH_COUNT];
+
+    return sedgecoil_reach(file, kind, width, address, value, numbers) == SEDGECOIL_DONE && memcmp(numbers, wanted, sizeof numbers) == 0;
+}
+
+static void check_reach(uint8_t chip)
+{
+    static const size_t nothing[SEDGECOIL_REACH_COUNT] = {0}, word[] = {95, 0x0FFF, 0, 0, 0, 0, 0, 0, 0}, pointer[] = {0, 0, 1, 0, 0, 0, 0, 0, 0},
+                        step[] = {0, 0, 1, 0, 1, 0, 0, 0, 0}, paint[] = {0, 0, 1, 0, 1, 0, 1, 0, 0x42}, toggle[] = {0, 0, 0, 1, 0, 0, 0, 0, 0},
+                        line[] = {0, 0, 0, 0, 0, 1, 0, 0, 0}, bank[] = {0, 0, 1, 0, 1, 0, 0, 1, 2};
+    size_t numbers[SEDGECOIL_REACH_COUNT];
+    sedgecoil_file file, before;
+
+    sedgecoil_power_on(&file, chip);
+    check(reaches(&file, SEDGECOIL_MMIO_WRITE, 2, 0xE0, 1, nothing), "a refused access reaches nothing");
+    enable(&file);
+    before = file;
+    check(reaches(&file, SEDGECOIL_MMIO_WRITE, 2, 0xE0, 1, word), "a register's bits");
+    check(reaches(&file, SEDGECOIL_MMIO_READ, 2, 0xE0, 0, nothing), "a plain read reaches nothing");
+    check(reaches(&file, SEDGECOIL_PORT_READ, 1, 0x3BA, 0, toggle), "the toggle");
+    check(reaches(&file, SEDGECOIL_PORT_WRITE, 1, 0x3C8, 0x42, pointer), "the pointer");
+    check(reaches(&file, SEDGECOIL_LINES_PASS, 2, 0, 1, line), "the line");
+    check(memcmp(&file, &before, sizeof file) == 0, "and the file stays");
+    sedgecoil_access(&file, SEDGECOIL_PORT_WRITE, 1, 0x3C8, 0x42);
+    check(reaches(&file, SEDGECOIL_PORT_WRITE, 1, 0x3C9, 1, step), "pointer and marks");
+    sedgecoil_access(&file, SEDGECOIL_PORT_WRITE, 1, 0x3C9, 1);
+    sedgecoil_access(&file, SEDGECOIL_PORT_WRITE, 1, 0x3C9, 2);
+    check(reaches(&file, SEDGECOIL_PORT_WRITE, 1, 0x3C9, 3, paint), "an entry of the palette");
+    sedgecoil_access(&file, SEDGECOIL_MMIO_WRITE, 1, 0xB0, 0x08);
+    check(reaches(&file, SEDGECOIL_PORT_WRITE, 1, 0x3C9, 3, bank), "an entry of the bank");
+    file.chip = 2;
+    memset(numbers, 0xEE, sizeof numbers);
+    check(sedgecoil_reach(&file, SEDGECOIL_PORT_WRITE, 1, 0x3C9, 3, numbers) == SEDGECOIL_NOT_SOUND && numbers[0] == numbers[8] && numbers[8] != 2, "of an unsound file nothing");
+}
+
 /* ---- The device model ---- */
 
-static void check_device(void)
+/* What the bus cuts at the ports: a word to an index is index and data. */
+static void check_ports(void)
 {
+    static const uint16_t pairs[][2] = {{0x3C4, 0x0F02}, {0x3CE, 0x0A05}, {0x3B4, 0x5513}};
     device d;
 
     device_reset(&d, SEDGECOIL_5464);
-    device_write(&d, DEVICE_CONFIG, 0x04, 4, 0x00000003);
-    check((device_read(&d, DEVICE_CONFIG, 0x00, 4) >> 16) == 0x00D4, "a dword of configuration has the device id");
-    check((device_read(&d, DEVICE_CONFIG, 0x04, 2) & 3) == 3, "the command word");
-    device_write(&d, DEVICE_PORT, 0x3C4, 2, 0x0F02);
-    check(device_read(&d, DEVICE_PORT, 0x3C4, 1) == 0x02, "outw to 3C4h: the index");
-    check(device_read(&d, DEVICE_PORT, 0x3C5, 1) == 0x0F, "outw to 3C4h: the data");
-    check(device_read(&d, DEVICE_PORT, 0x3C4, 2) == 0x0F02, "inw from 3C4h");
-    device_write(&d, DEVICE_MMIO, 0xE0, 4, 0x01230456);
-    check(device_read(&d, DEVICE_MMIO, 0xE0, 2) == 0x0456, "a dword is two words");
-    check(device_read(&d, DEVICE_MMIO, 0xE0, 4) == 0x01230456, "and reads back");
-    device_write(&d, DEVICE_MMIO, 0xE1, 1, 0x0A);
-    check(device_read(&d, DEVICE_MMIO, 0xE0, 2) == 0x0A56, "the high half of a word");
-    check(device_read(&d, DEVICE_PORT, 0x300, 4) == 0xFFFFFFFF, "nothing answers there");
-    device_tick(&d, 1);
-    device_tick(&d, 0);
-    check(device_read(&d, DEVICE_PORT, 0x3BA, 1) <= 0x09, "input status");
+    check(device_port_read(&d, 0x3C4, 2) == 0xFFFF, "while the ports are off nothing answers");
+    device_config_write(&d, 0x04, 3, 2);
+    for (size_t i = 0; i < sizeof pairs / sizeof *pairs; i++) {
+        device_port_write(&d, pairs[i][0], pairs[i][1], 2);
+        check(device_port_read(&d, pairs[i][0], 1) == (pairs[i][1] & 0xFF), "outw to an index port: the index");
+        check(device_port_read(&d, pairs[i][0] + 1u, 1) == pairs[i][1] >> 8, "and the data");
+        check(device_port_read(&d, pairs[i][0], 2) == pairs[i][1], "inw from it");
+    }
+    check(sedgecoil_code(sedgecoil_access(&d.file, SEDGECOIL_PORT_WRITE, 2, 0x3C4, 0x0F02)) == SEDGECOIL_WRONG_WIDTH, "uncut it is refused");
+    device_port_read(&d, 0x3BA, 1);
+    device_port_write(&d, 0x3C0, 0x0712, 2);
+    check(d.file.toggle == 1 && device_port_read(&d, 0x3C0, 1) == 0x12, "outw to 3C0h: the index, and 3C1h isn't written");
+    device_port_write(&d, 0x3C0, 0x05, 1);
+    check(d.file.toggle == 0 && device_port_read(&d, 0x3C0, 2) == 0x0512, "then the data; inw has both");
+    device_port_write(&d, 0x3C6, 0x110022FF, 4);
+    check(device_port_read(&d, 0x3C6, 1) == 0xFF && d.file.address == 0 && d.file.reading == 0 && d.file.red == 0x11, "outl to 3C6h: mask, both addresses, data");
+    check(device_port_read(&d, 0x300, 4) == 0xFFFFFFFF, "nothing answers there");
+    check(device_port_read(&d, 0xFFFE, 4) == 0xFFFFFFFF && device_port_read(&d, 0x103C4, 1) == 0xFF, "nor past the last port");
+}
+
+/* In the other two spaces a register has one byte or two. */
+static void check_device(void)
+{
+    uint8_t image[SEDGECOIL_IMAGE];
+    device d, other;
+
+    check(device_reset(&d, 2) == SEDGECOIL_MALFORMED && device_reset(&d, SEDGECOIL_5464) == SEDGECOIL_DONE, "a chip at power-on");
+    check(device_config_read(&d, 0x00, 4) == 0x00D41013, "the ids as a dword");
+    check(device_config_read(&d, 0x02, 2) == 0x00D4 && device_config_read(&d, 0x03, 1) == 0x00 && device_config_read(&d, 0x00, 1) == 0x13, "as a word and as bytes");
+    device_config_write(&d, 0x00, 0xFFFFFFFF, 4);
+    check(device_config_read(&d, 0x00, 4) == 0x00D41013, "they are not written");
+    check(device_mmio_read(&d, 0xE0, 4) == 0xFFFFFFFF, "while MMIO is off nothing answers");
+    device_config_write(&d, 0x04, 0x23, 1);
+    check(device_config_read(&d, 0x04, 2) == 0x0023, "the command word by its low byte");
+    device_config_write(&d, 0x04, 0xFFFF0003, 4);
+    check(device_config_read(&d, 0x04, 4) == 0xFFFF0003, "and in a dword, of which nothing holds the rest");
+    check(device_config_read(&d, 0x3D, 1) == 0xFF, "no such byte of configuration");
+    device_mmio_write(&d, 0xE0, 0x01230456, 4);
+    check(device_mmio_read(&d, 0xE0, 2) == 0x0456 && device_mmio_read(&d, 0xE0, 4) == 0x01230456, "a dword is two words");
+    device_mmio_write(&d, 0xE1, 0x0A, 1);
+    check(device_mmio_read(&d, 0xE0, 2) == 0x0A56 && device_mmio_read(&d, 0xE1, 1) == 0x0A, "the high half of a word");
+    device_mmio_write(&d, 0xE0, 0x99, 1);
+    check(device_mmio_read(&d, 0xE0, 2) == 0x0A99, "and the low");
+    device_mmio_write(&d, 0xE1, 0x7788, 2);
+    check(device_mmio_read(&d, 0xE0, 4) == 0x01770899, "a word across two registers");
+    device_mmio_write(&d, 0xD4, 0x1582, 2);
+    check(device_mmio_read(&d, 0xD4, 1) == 0x82 && device_mmio_read(&d, 0xD5, 1) == 0x15 && device_mmio_read(&d, 0xD4, 2) == 0x1582, "a word is two registers of a byte");
+    device_mmio_write(&d, 0xD2, 0x33440222, 4);
+    check(device_mmio_read(&d, 0xD2, 4) == 0x33440222, "a dword is a word and two bytes");
+    device_mmio_write(&d, 0x30, 0xAABBCCDD, 4);
+    check(device_mmio_read(&d, 0x30, 4) == 0xFFFFFFDD && device_mmio_read(&d, 0x30, 2) == 0xFFDD, "a byte with nothing behind it");
+    check(device_mmio_read(&d, 0x100E0, 2) == 0xFFFF, "past the last address");
+    check(sedgecoil_timing_write(&d.file, mode) == SEDGECOIL_DONE && d.file.line == 0, "a mode");
+    device_tick(&d, 481);
+    check(d.file.line == 481 && device_port_read(&d, 0x3BA, 1) == 0x01 && device_mmio_read(&d, 0x140, 2) == 481, "past the display");
+    device_tick(&d, 525 * 1000 + 9);
+    check(d.file.line == 490 && device_port_read(&d, 0x3BA, 1) == 0x09, "in the sync, a thousand frames later");
+    check(device_save(&d, image) == SEDGECOIL_DONE, "a snapshot");
+    other = d;
+    device_tick(&d, 100);
+    device_mmio_write(&d, 0xE0, 0, 4);
+    check(memcmp(&d, &other, sizeof d) != 0 && device_load(&d, image, sizeof image) == SEDGECOIL_DONE && memcmp(&d, &other, sizeof d) == 0, "and back");
+    image[0] ^= 1;
+    check(device_load(&d, image, sizeof image) == SEDGECOIL_NOT_SOUND && memcmp(&d, &other, sizeof d) == 0, "a damaged one is refused");
 }
 
 /* ---- The image ---- */
@@ -105,11 +257,13 @@ static void used_file(sedgecoil_file *file, uint8_t chip)
         sedgecoil_access(file, SEDGECOIL_MMIO_WRITE, 1, (uint16_t)i, i * 7 & 0x7F);
         sedgecoil_access(file, SEDGECOIL_MMIO_WRITE, 2, (uint16_t)i, i * 331 & 0xFFFF);
     }
+    sedgecoil_access(file, SEDGECOIL_MMIO_WRITE, 1, 0x68, 0x00);
     sedgecoil_access(file, SEDGECOIL_MMIO_WRITE, 1, 0xB0, 0x00);
     sedgecoil_access(file, SEDGECOIL_PORT_WRITE, 1, 0x3C8, 0);
     for (uint32_t i = 0; i < 600; i++)
         sedgecoil_access(file, SEDGECOIL_PORT_WRITE, 1, 0x3C9, i & 0xFF);
     sedgecoil_access(file, SEDGECOIL_PORT_WRITE, 1, 0x3C9, 0x5A);
+    check(file->next == 1 && file->red == 0x5A && file->palette[199][2] == 0x57, "a file with colours, in mid-colour");
 }
 
 static int is_sound(const sedgecoil_file *file)
@@ -119,11 +273,10 @@ static int is_sound(const sedgecoil_file *file)
     return sedgecoil_code(sedgecoil_access(&copy, SEDGECOIL_CONFIG_READ, 2, 0, 0)) != SEDGECOIL_NOT_SOUND;
 }
 
-static void check_image(uint8_t chip)
+static void check_saved(uint8_t chip)
 {
     sedgecoil_file file, back, other;
-    uint8_t image[SEDGECOIL_IMAGE + 1], damaged[SEDGECOIL_IMAGE], set[SEDGECOIL_SET], set_back[SEDGECOIL_SET];
-    int refused = 0, sound = 1, as_it_was = 1;
+    uint8_t image[SEDGECOIL_IMAGE + 1], set[SEDGECOIL_SET], set_back[SEDGECOIL_SET];
 
     used_file(&file, chip);
     for (int i = 0; i < SEDGECOIL_SET; i++)
@@ -137,30 +290,46 @@ static void check_image(uint8_t chip)
     memset(set_back, 0xEE, sizeof set_back);
     check(sedgecoil_load(&back, set_back, image, SEDGECOIL_IMAGE) == 0, "loaded");
     check(memcmp(&back, &file, sizeof file) == 0 && memcmp(set, set_back, sizeof set) == 0, "the same file and set");
-    check(sedgecoil_load(&back, NULL, image, SEDGECOIL_IMAGE + 1) == SEDGECOIL_NOT_SOUND, "too long");
-    check(sedgecoil_load(&back, NULL, image, SEDGECOIL_IMAGE - 1) == SEDGECOIL_NOT_SOUND, "too short");
-    check(sedgecoil_load(&back, NULL, image, 0) == SEDGECOIL_NOT_SOUND, "nothing");
-    sedgecoil_power_on(&other, SEDGECOIL_5464);
-    for (int at = 0; at < SEDGECOIL_IMAGE; at++)
-        for (int bit = 0; bit < 8; bit++) {
-            memcpy(damaged, image, sizeof damaged);
-            damaged[at] ^= (uint8_t)(1 << bit);
-            back = other;
-            if (sedgecoil_load(&back, NULL, damaged, sizeof damaged) == 0) {
-                sound = sound && is_sound(&back);
-            } else {
-                refused++;
-                as_it_was = as_it_was && memcmp(&back, &other, sizeof back) == 0;
-            }
-        }
-    check(sound, "a damaged image that loads is a sound file");
-    check(as_it_was, "one that is refused leaves the file");
-    check(refused > 8 * 7, "mark and version are looked at");
+    check(sedgecoil_save(&file, NULL, image, sizeof image) == 0 && image[5] == 0, "saved without a set");
+    check(sedgecoil_load(&back, set_back, image, SEDGECOIL_IMAGE) == 0 && memcmp(set, set_back, sizeof set) == 0, "then the set stays");
     file.chip = 7;
     other = file;
     check(sedgecoil_save(&file, NULL, image, sizeof image) == SEDGECOIL_NOT_SOUND, "an unsound file isn't saved");
     check(sedgecoil_code(sedgecoil_access(&file, SEDGECOIL_CONFIG_READ, 2, 0, 0)) == SEDGECOIL_NOT_SOUND
           && memcmp(&file, &other, sizeof file) == 0, "nor accessed");
+}
+
+/* Every byte of an image as every other byte, and every shorter image: refused with all as it was, or the sound file that it says. */
+static void check_damaged(uint8_t chip)
+{
+    sedgecoil_file file, back, other;
+    uint8_t image[SEDGECOIL_IMAGE], set[SEDGECOIL_SET] = {0}, set_back[SEDGECOIL_SET];
+    int sound = 1, as_it_was = 1, heading = 0, shorter = 1;
+
+    used_file(&file, chip);
+    sedgecoil_power_on(&other, chip ^ 1);
+    sedgecoil_save(&file, set, image, sizeof image);
+    for (size_t length = 0; length < sizeof image; length++) {
+        back = other;
+        shorter = shorter && sedgecoil_load(&back, NULL, image, length) == SEDGECOIL_NOT_SOUND && memcmp(&back, &other, sizeof back) == 0;
+    }
+    check(shorter, "a shorter image is refused");
+    for (size_t at = 0; at < sizeof image; at++)
+        for (unsigned change = 1; change < 256; change++) {
+            image[at] ^= (uint8_t)change;
+            back = other;
+            memset(set_back, 0x55, sizeof set_back);
+            if (sedgecoil_load(&back, set_back, image, sizeof image) == SEDGECOIL_DONE) {
+                sound = sound && is_sound(&back) && memcmp(&back, image + 8, sizeof back) == 0;
+            } else {
+                as_it_was = as_it_was && memcmp(&back, &other, sizeof back) == 0 && set_back[0] == 0x55 && set_back[SEDGECOIL_SET - 1] == 0x55;
+                heading += at < 8;
+            }
+            image[at] ^= (uint8_t)change;
+        }
+    check(sound, "a damaged image that loads is the sound file that it says");
+    check(as_it_was, "one that is refused leaves file and set");
+    check(heading == 8 * 255 - 1, "of the first eight bytes only whether a set is kept may differ");
 }
 
 /* ---- Runs, plans, restores and the set ---- */
@@ -203,15 +372,52 @@ static void check_plans(uint8_t chip)
     check(memcmp(&file, &saved, sizeof file) == 0, "to the saved file");
 }
 
+/* A code from 2 up leaves every byte, of a set whose bytes are no 0 or 1 too. */
+static void check_refusals(uint8_t chip)
+{
+    static uint8_t buffer[SEDGECOIL_PLAN], set[SEDGECOIL_SET], set_before[SEDGECOIL_SET];
+    sedgecoil_file file, wanted, before;
+    uint8_t trace[8] = {SEDGECOIL_CONFIG_READ, 2};
+    size_t count = 7;
+
+    memset(set, 2, sizeof set);
+    memcpy(set_before, set, sizeof set);
+    memset(buffer, 0xEE, sizeof buffer);
+    used_file(&file, chip);
+    wanted = file;
+    check(sedgecoil_restore(&file, &wanted, buffer, sizeof buffer, &count) == SEDGECOIL_NOT_BEFORE_RED && count == 0, "a restore in mid-colour");
+    count = 7;
+    check(sedgecoil_short_restore(&file, &wanted, set, buffer, sizeof buffer, &count) == SEDGECOIL_NOT_BEFORE_RED && count == 0, "a short one");
+    sedgecoil_power_on(&wanted, chip ^ 1);
+    wanted.next = 1;
+    check(sedgecoil_restore(&file, &wanted, buffer, 0, &count) == SEDGECOIL_OTHER_CHIP, "the chip is asked before the colour");
+    wanted.chip = 2;
+    check(sedgecoil_restore(&file, &wanted, buffer, 0, &count) == SEDGECOIL_NOT_SOUND, "and whether it is one");
+    file.registers[0] = 0xFFFF;
+    before = file;
+    count = 7;
+    check(sedgecoil_run(&file, trace, sizeof trace, buffer, sizeof buffer, &count) == SEDGECOIL_NOT_SOUND && count == 0, "a run over an unsound file");
+    check(sedgecoil_note(&file, set, SEDGECOIL_CONFIG_READ, 2, 0, 0) == SEDGECOIL_NOT_SOUND, "a note");
+    check(sedgecoil_plan(&file, buffer, sizeof buffer, &count) == SEDGECOIL_NOT_SOUND, "a plan");
+    check(memcmp(&file, &before, sizeof file) == 0 && memcmp(set, set_before, sizeof set) == 0
+          && buffer[0] == 0xEE && memcmp(buffer, buffer + 1, sizeof buffer - 1) == 0, "each leaves every byte");
+}
+
 int main(void)
 {
     check_layout();
     check_fields();
+    check_ports();
     check_device();
-    check_image(SEDGECOIL_5462);
-    check_image(SEDGECOIL_5464);
-    check_plans(SEDGECOIL_5462);
-    check_plans(SEDGECOIL_5464);
+    for (uint8_t chip = SEDGECOIL_5462; chip <= SEDGECOIL_5464; chip++) {
+        check_timing(chip);
+        check_geometry(chip);
+        check_reach(chip);
+        check_saved(chip);
+        check_damaged(chip);
+        check_plans(chip);
+        check_refusals(chip);
+    }
     printf("%d passed, %d failed\n", passed, failed);
     return failed != 0;
 }
