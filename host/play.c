@@ -1,19 +1,20 @@
 /*
  * Plays a trace on standard input through single accesses and prints what the replay program prints:
  *
- *   play [--chip 5462|5464] [--geometry|--plan]
+ *   play [--chip 5462|5464] [--run|--geometry|--plan]
  *
- * With --geometry it prints what './sedgecoil geometry' prints of the file that the trace ends in,
- * with --plan it writes a plan of that file, as snapshot does.
+ * With --run it takes runs over parts of the trace in place of accesses, and between two of them the
+ * file goes through an image. With --geometry it prints what './sedgecoil geometry' prints of the file
+ * that the trace ends in, with --plan it writes a plan of that file, as snapshot does.
  */
 #include "sedgecoil.h"
 
 #include <stdio.h>
 #include <string.h>
 
-enum { RECORD = 8 };
+enum { RECORD = 8, PART = 100 * RECORD };
 
-enum output { REPLIES, GEOMETRY, PLAN };
+enum output { REPLIES, RUNS, GEOMETRY, PLAN };
 
 static void print_line(unsigned long long number, unsigned code, unsigned value)
 {
@@ -36,6 +37,34 @@ static void play(sedgecoil_file *file, enum output output)
     /* A last fragment is no access: 01 answers 2. */
     if (length > 0 && output == REPLIES)
         print_line(number, SEDGECOIL_MALFORMED, 0);
+}
+
+/* The file as it comes back from an image, into a struct that held another chip's. */
+static int through_image(sedgecoil_file *file)
+{
+    static uint8_t image[SEDGECOIL_IMAGE];
+    uint8_t chip = file->chip;
+
+    return sedgecoil_save(file, NULL, image, sizeof image) == SEDGECOIL_DONE
+        && sedgecoil_power_on(file, chip ^ 1) == SEDGECOIL_DONE
+        && sedgecoil_load(file, NULL, image, sizeof image) == SEDGECOIL_DONE;
+}
+
+static int play_runs(sedgecoil_file *file)
+{
+    static uint8_t trace[PART], replies[PART];
+    unsigned long long number = 0;
+    size_t length, count;
+
+    while ((length = fread(trace, 1, PART, stdin)) > 0) {
+        if (sedgecoil_run(file, trace, length, replies, sizeof replies, &count) != SEDGECOIL_DONE)
+            return 1;
+        for (size_t i = 0; i < count; i++)
+            print_line(number++, replies[RECORD * i], replies[RECORD * i + 4] | (unsigned)replies[RECORD * i + 5] << 8);
+        if (!through_image(file))
+            return 1;
+    }
+    return 0;
 }
 
 static void print_numbers(const char *name, const uint32_t *numbers, int count)
@@ -86,8 +115,13 @@ static int write_plan(const sedgecoil_file *file)
 
 static int usage(void)
 {
-    fprintf(stderr, "usage: play [--chip 5462|5464] [--geometry|--plan] <TRACE\n");
+    fprintf(stderr, "usage: play [--chip 5462|5464] [--run|--geometry|--plan] <TRACE\n");
     return 2;
+}
+
+static int is_option(int words, char **word, int at, const char *name, const char *value)
+{
+    return strcmp(word[at], name) == 0 && at + 1 < words && strcmp(word[at + 1], value) == 0;
 }
 
 int main(int words, char **word)
@@ -98,24 +132,29 @@ int main(int words, char **word)
     int failed = 0;
 
     for (int i = 1; i < words; i++) {
-        if (strcmp(word[i], "--geometry") == 0)
+        if (strcmp(word[i], "--run") == 0)
+            output = RUNS;
+        else if (strcmp(word[i], "--geometry") == 0)
             output = GEOMETRY;
         else if (strcmp(word[i], "--plan") == 0)
             output = PLAN;
-        else if (strcmp(word[i], "--chip") == 0 && i + 1 < words && strcmp(word[i + 1], "5462") == 0)
+        else if (is_option(words, word, i, "--chip", "5462"))
             chip = SEDGECOIL_5462, i++;
-        else if (strcmp(word[i], "--chip") == 0 && i + 1 < words && strcmp(word[i + 1], "5464") == 0)
+        else if (is_option(words, word, i, "--chip", "5464"))
             chip = SEDGECOIL_5464, i++;
         else
             return usage();
     }
     sedgecoil_power_on(&file, chip);
-    play(&file, output);
-    if (output == REPLIES)
-        print_timing(&file);
-    else if (output == GEOMETRY)
-        print_geometry(&file);
+    if (output == RUNS)
+        failed = play_runs(&file);
     else
+        play(&file, output);
+    if (output == GEOMETRY)
+        print_geometry(&file);
+    else if (output == PLAN)
         failed = write_plan(&file);
+    else
+        print_timing(&file);
     return failed || ferror(stdin) || fflush(stdout) != 0;
 }
