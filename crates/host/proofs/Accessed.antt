@@ -21,6 +21,7 @@ use Rattle.trace.proofs.RunLoop.{file-served, code-served, value-served, compon
 use Rattle.image.specs.Parts.{paletteAt, bankAt, restCount, stateIn, fitsIn, heldIn, soundIn}
 use Rattle.host.specs.Left.{colourAt, restLeft, Accesses, Refuses, AccessLeft}
 use Rattle.host.specs.Numbers.{told, notSound}
+use Rattle.host.proofs.EveryByte.{left-fits}
 use Rattle.host.proofs.RestHeld.{paletteOf, bankOf, rest-held, palette-entry, bank-entry}
 
 -- ---- sound or not
@@ -66,6 +67,7 @@ module _ (registers rest : List ℕ) (long : length rest ≡ restCount) (address
   accesses value e =
       record {
         left = rest-held rest long after state s address ∙ file-served registers (paletteOf rest) (bankOf rest) state asked after s served _ _ refl refl;
+        fits = left-fits state s rest long;
         said = ap₂ told (code-served registers (paletteOf rest) (bankOf rest) state asked after s served) (value-served registers (paletteOf rest) (bankOf rest) state asked after s served value (value-held value e));
       }
 

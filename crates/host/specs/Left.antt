@@ -30,9 +30,10 @@ restLeft stood s rest =
     0
     (stateBytes (s .state))
 
--- an access to a sound file: the file behind the references is the access's, and the number is its reply's
+-- an access to a sound file: the file behind the references is the access's, in bytes that are a file's, and the number is its reply's
 pub record Accesses (asked : Record) (words bytes words′ bytes′ : List ℕ) (number : ℕ) : Type 0 where
   pub left : heldIn words′ bytes′ ≡ access (heldIn words bytes) asked .file
+  pub fits : fitsIn bytes′ ≡ true
   pub said : number ≡ told (codeOf (access (heldIn words bytes) asked .answer)) (valueOf (access (heldIn words bytes) asked .answer))
 
 -- to any other: 12, and all as it was
