@@ -59,7 +59,8 @@ static void write_byte(device *d, uint8_t space, uint64_t address, uint8_t value
         return;
     was = ask_read(d, space, address - address % 2, 2);
     if (is_done(was))
-        ask_write(d, space, address - address % 2, 2, (sedgecoil_value(was) & ~(0xFFu << shift)) | (uint32_t)value << shift);
+        ask_write(d, space, address - address % 2, 2,
+                  (sedgecoil_value(was) & ~(0xFFu << shift)) | (uint32_t)value << shift);
 }
 
 static uint32_t read_cut(device *d, uint8_t space, uint64_t address, unsigned size)
@@ -81,7 +82,8 @@ static uint32_t read_cut(device *d, uint8_t space, uint64_t address, unsigned si
 static void write_cut(device *d, uint8_t space, uint64_t address, unsigned size, uint32_t value)
 {
     for (unsigned at = 0; at < size && at < 4;) {
-        if (is_word(space, address + at, size - at) && is_done(ask_write(d, space, address + at, 2, value >> 8 * at & 0xFFFF))) {
+        if (is_word(space, address + at, size - at)
+            && is_done(ask_write(d, space, address + at, 2, value >> 8 * at & 0xFFFF))) {
             at += 2;
         } else {
             write_byte(d, space, address + at, (uint8_t)(value >> 8 * at));

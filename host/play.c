@@ -46,8 +46,8 @@ static int through_image(sedgecoil_file *file)
     uint8_t chip = file->chip;
 
     return sedgecoil_save(file, NULL, image, sizeof image) == SEDGECOIL_DONE
-        && sedgecoil_power_on(file, chip ^ 1) == SEDGECOIL_DONE
-        && sedgecoil_load(file, NULL, image, sizeof image) == SEDGECOIL_DONE;
+           && sedgecoil_power_on(file, chip ^ 1) == SEDGECOIL_DONE
+           && sedgecoil_load(file, NULL, image, sizeof image) == SEDGECOIL_DONE;
 }
 
 static int play_runs(sedgecoil_file *file)

@@ -26,41 +26,65 @@ extern "C" {
 
 enum {
     SEDGECOIL_REGISTERS = 108,
-    SEDGECOIL_REST = 826,       /* the bytes of a file behind its registers */
-    SEDGECOIL_SET = 383,        /* the bytes of a set */
-    SEDGECOIL_IMAGE = 1433,     /* the bytes of a saved file */
-    SEDGECOIL_VERSION = 1,      /* of an image */
-    SEDGECOIL_PLAN = 8192       /* bytes: room for every plan */
+    SEDGECOIL_REST = 826,   /* the bytes of a file behind its registers */
+    SEDGECOIL_SET = 383,    /* the bytes of a set */
+    SEDGECOIL_IMAGE = 1433, /* the bytes of a saved file */
+    SEDGECOIL_VERSION = 1,  /* of an image */
+    SEDGECOIL_PLAN = 8192   /* bytes: room for every plan */
 };
 
 /* The fifteen timing numbers in 01's order: character clocks across, scanlines down. */
 enum {
-    SEDGECOIL_H_TOTAL, SEDGECOIL_H_DISPLAY, SEDGECOIL_H_BLANK_START, SEDGECOIL_H_BLANK_END,
-    SEDGECOIL_H_SYNC_START, SEDGECOIL_H_SYNC_END,
-    SEDGECOIL_V_TOTAL, SEDGECOIL_V_DISPLAY, SEDGECOIL_V_BLANK_START, SEDGECOIL_V_BLANK_END,
-    SEDGECOIL_V_SYNC_START, SEDGECOIL_V_SYNC_END,
-    SEDGECOIL_LINE_COMPARE, SEDGECOIL_OFFSET, SEDGECOIL_SCREEN_START,
+    SEDGECOIL_H_TOTAL,
+    SEDGECOIL_H_DISPLAY,
+    SEDGECOIL_H_BLANK_START,
+    SEDGECOIL_H_BLANK_END,
+    SEDGECOIL_H_SYNC_START,
+    SEDGECOIL_H_SYNC_END,
+    SEDGECOIL_V_TOTAL,
+    SEDGECOIL_V_DISPLAY,
+    SEDGECOIL_V_BLANK_START,
+    SEDGECOIL_V_BLANK_END,
+    SEDGECOIL_V_SYNC_START,
+    SEDGECOIL_V_SYNC_END,
+    SEDGECOIL_LINE_COMPARE,
+    SEDGECOIL_OFFSET,
+    SEDGECOIL_SCREEN_START,
     SEDGECOIL_TIMING_COUNT
 };
 
 /* The cursor in pixels and scanlines. Left and top may be below 0; enabled is 0 or 1. */
 enum {
-    SEDGECOIL_CURSOR_ENABLED, SEDGECOIL_CURSOR_LEFT, SEDGECOIL_CURSOR_TOP,
-    SEDGECOIL_CURSOR_WIDTH, SEDGECOIL_CURSOR_HEIGHT, SEDGECOIL_CURSOR_ADDRESS,
+    SEDGECOIL_CURSOR_ENABLED,
+    SEDGECOIL_CURSOR_LEFT,
+    SEDGECOIL_CURSOR_TOP,
+    SEDGECOIL_CURSOR_WIDTH,
+    SEDGECOIL_CURSOR_HEIGHT,
+    SEDGECOIL_CURSOR_ADDRESS,
     SEDGECOIL_CURSOR_COUNT
 };
 
 /* Window 2: right and bottom are not included. Enabled, video, empty and fault are 0 or 1. */
 enum {
-    SEDGECOIL_WINDOW_ENABLED, SEDGECOIL_WINDOW_VIDEO, SEDGECOIL_WINDOW_LEFT, SEDGECOIL_WINDOW_TOP,
-    SEDGECOIL_WINDOW_RIGHT, SEDGECOIL_WINDOW_BOTTOM, SEDGECOIL_WINDOW_EMPTY, SEDGECOIL_WINDOW_FAULT,
-    SEDGECOIL_WINDOW_START, SEDGECOIL_WINDOW_STOP,
+    SEDGECOIL_WINDOW_ENABLED,
+    SEDGECOIL_WINDOW_VIDEO,
+    SEDGECOIL_WINDOW_LEFT,
+    SEDGECOIL_WINDOW_TOP,
+    SEDGECOIL_WINDOW_RIGHT,
+    SEDGECOIL_WINDOW_BOTTOM,
+    SEDGECOIL_WINDOW_EMPTY,
+    SEDGECOIL_WINDOW_FAULT,
+    SEDGECOIL_WINDOW_START,
+    SEDGECOIL_WINDOW_STOP,
     SEDGECOIL_WINDOW_COUNT
 };
 
 /* The capture window as stored: pixel clocks across, incoming scanlines down. */
 enum {
-    SEDGECOIL_CAPTURE_X_START, SEDGECOIL_CAPTURE_X_STOP, SEDGECOIL_CAPTURE_Y_START, SEDGECOIL_CAPTURE_Y_STOP,
+    SEDGECOIL_CAPTURE_X_START,
+    SEDGECOIL_CAPTURE_X_STOP,
+    SEDGECOIL_CAPTURE_Y_START,
+    SEDGECOIL_CAPTURE_Y_STOP,
     SEDGECOIL_CAPTURE_COUNT
 };
 
@@ -69,8 +93,14 @@ enum {
  * 0 or 1, the pointer, the toggle, the marks, the line, an entry of the palette or of the bank.
  */
 enum {
-    SEDGECOIL_REACH_REGISTER, SEDGECOIL_REACH_BITS, SEDGECOIL_REACH_POINTER, SEDGECOIL_REACH_TOGGLE,
-    SEDGECOIL_REACH_MARKS, SEDGECOIL_REACH_LINE, SEDGECOIL_REACH_PALETTE, SEDGECOIL_REACH_BANK,
+    SEDGECOIL_REACH_REGISTER,
+    SEDGECOIL_REACH_BITS,
+    SEDGECOIL_REACH_POINTER,
+    SEDGECOIL_REACH_TOGGLE,
+    SEDGECOIL_REACH_MARKS,
+    SEDGECOIL_REACH_LINE,
+    SEDGECOIL_REACH_PALETTE,
+    SEDGECOIL_REACH_BANK,
     SEDGECOIL_REACH_ENTRY,
     SEDGECOIL_REACH_COUNT
 };
@@ -90,38 +120,38 @@ enum {
 
 enum {
     SEDGECOIL_DONE = 0,
-    SEDGECOIL_NO_REGISTER = 1,      /* the index names no held register; no refusal */
+    SEDGECOIL_NO_REGISTER = 1, /* the index names no held register; no refusal */
     SEDGECOIL_MALFORMED = 2,
-    SEDGECOIL_SPACE_OFF = 3,        /* PCI04 has the space off */
+    SEDGECOIL_SPACE_OFF = 3, /* PCI04 has the space off */
     SEDGECOIL_NOT_HELD = 4,
-    SEDGECOIL_OTHER_HALF = 5,       /* 3B?h or 3D?h, and MISC[0] has the other */
+    SEDGECOIL_OTHER_HALF = 5, /* 3B?h or 3D?h, and MISC[0] has the other */
     SEDGECOIL_WRONG_WIDTH = 6,
     SEDGECOIL_READ_ONLY = 7,
-    SEDGECOIL_LOCKED = 8,           /* CR11[7] */
+    SEDGECOIL_LOCKED = 8, /* CR11[7] */
     SEDGECOIL_PALETTE_DOWN = 9,
-    SEDGECOIL_OUT_OF_RANGE = 10,    /* a timing number */
+    SEDGECOIL_OUT_OF_RANGE = 10, /* a timing number */
     SEDGECOIL_SHORT_BUFFER = 11,
     SEDGECOIL_NOT_SOUND = 12,
     SEDGECOIL_NOT_BEFORE_RED = 13,
     SEDGECOIL_OTHER_CHIP = 15,
     SEDGECOIL_OTHER_DIRECTION = 16,
     SEDGECOIL_INSIDE_WIDER = 17,
-    SEDGECOIL_CHANGED_OUTSIDE = 20  /* a file changed outside its set */
+    SEDGECOIL_CHANGED_OUTSIDE = 20 /* a file changed outside its set */
 };
 
 /* A file. Made by sedgecoil_power_on or sedgecoil_load; a struct of zeros is a sound 5462 too. */
 typedef struct sedgecoil_file {
     uint16_t registers[SEDGECOIL_REGISTERS];
-    uint16_t line;              /* the scanline that the display is at */
-    uint8_t address;            /* the palette pointer */
-    uint8_t reading;            /* its mode: 0 or 1 */
-    uint8_t next;               /* its next colour: 0 red, 1 green, 2 blue */
-    uint8_t red, green;         /* what it holds */
-    uint8_t marks;              /* of the last pixel data access */
-    uint8_t toggle;             /* 1: the next write of 3C0h is data */
-    uint8_t chip;               /* SEDGECOIL_5462 or SEDGECOIL_5464 */
-    uint8_t palette[256][3];    /* red, green, blue */
-    uint8_t bank[16][3];        /* the cursor's and the border's colours */
+    uint16_t line;           /* the scanline that the display is at */
+    uint8_t address;         /* the palette pointer */
+    uint8_t reading;         /* its mode: 0 or 1 */
+    uint8_t next;            /* its next colour: 0 red, 1 green, 2 blue */
+    uint8_t red, green;      /* what it holds */
+    uint8_t marks;           /* of the last pixel data access */
+    uint8_t toggle;          /* 1: the next write of 3C0h is data */
+    uint8_t chip;            /* SEDGECOIL_5462 or SEDGECOIL_5464 */
+    uint8_t palette[256][3]; /* red, green, blue */
+    uint8_t bank[16][3];     /* the cursor's and the border's colours */
 } sedgecoil_file;
 
 /* ---- The library's own functions: a file in its two parts. The inline ones below lend both. ---- */
@@ -140,18 +170,19 @@ uint32_t sedgecoil_cursor_parts(const uint16_t *registers, const uint8_t *rest, 
 uint32_t sedgecoil_window_parts(const uint16_t *registers, const uint8_t *rest, uint32_t *numbers);
 uint32_t sedgecoil_capture_parts(const uint16_t *registers, const uint8_t *rest, uint32_t *numbers);
 uint32_t sedgecoil_reach_parts(const uint16_t *registers, const uint8_t *rest, uint64_t record, size_t *numbers);
-uint32_t sedgecoil_save_parts(const uint16_t *registers, const uint8_t *rest, const uint8_t *set,
-                              uint8_t kept, uint8_t *buffer, size_t room);
-uint32_t sedgecoil_load_parts(uint16_t *registers, uint8_t *rest, uint8_t *set,
-                              const uint8_t *image, size_t length);
-uint32_t sedgecoil_run_parts(uint16_t *registers, uint8_t *rest, const uint8_t *trace, size_t length,
-                             uint8_t *replies, size_t room, size_t *count);
+uint32_t sedgecoil_save_parts(const uint16_t *registers, const uint8_t *rest, const uint8_t *set, uint8_t kept,
+                              uint8_t *buffer, size_t room);
+uint32_t sedgecoil_load_parts(uint16_t *registers, uint8_t *rest, uint8_t *set, const uint8_t *image, size_t length);
+uint32_t sedgecoil_run_parts(uint16_t *registers, uint8_t *rest, const uint8_t *trace, size_t length, uint8_t *replies,
+                             size_t room, size_t *count);
 uint32_t sedgecoil_note_parts(const uint16_t *registers, const uint8_t *rest, uint8_t *set, uint64_t record);
-uint32_t sedgecoil_plan_parts(const uint16_t *registers, const uint8_t *rest, uint8_t *buffer, size_t room, size_t *count);
+uint32_t sedgecoil_plan_parts(const uint16_t *registers, const uint8_t *rest, uint8_t *buffer, size_t room,
+                              size_t *count);
 uint32_t sedgecoil_restore_parts(uint16_t *registers, uint8_t *rest, const uint16_t *wanted, const uint8_t *others,
                                  uint8_t *buffer, size_t room, size_t *count);
 uint32_t sedgecoil_short_plan_parts(const uint16_t *registers, const uint8_t *rest, const uint16_t *saved,
-                                    const uint8_t *others, const uint8_t *set, uint8_t *buffer, size_t room, size_t *count);
+                                    const uint8_t *others, const uint8_t *set, uint8_t *buffer, size_t room,
+                                    size_t *count);
 uint32_t sedgecoil_short_restore_parts(uint16_t *registers, uint8_t *rest, const uint16_t *saved, const uint8_t *others,
                                        uint8_t *set, uint8_t *buffer, size_t room, size_t *count);
 
@@ -183,8 +214,8 @@ static inline uint32_t sedgecoil_power_on(sedgecoil_file *file, uint8_t chip)
  * One access. A read's value is 0. The answer is its code and, of a read that is done, what was
  * read: sedgecoil_code and sedgecoil_value take them out. Codes 0 to 9, 12, 16 and 17.
  */
-static inline uint32_t sedgecoil_access(sedgecoil_file *file, uint8_t kind, uint8_t width,
-                                        uint16_t address, uint32_t value)
+static inline uint32_t sedgecoil_access(sedgecoil_file *file, uint8_t kind, uint8_t width, uint16_t address,
+                                        uint32_t value)
 {
     return sedgecoil_access_parts(file->registers, sedgecoil_rest(file), sedgecoil_record(kind, width, address, value));
 }
@@ -236,14 +267,16 @@ static inline uint32_t sedgecoil_capture(const sedgecoil_file *file, uint32_t nu
 static inline uint32_t sedgecoil_reach(const sedgecoil_file *file, uint8_t kind, uint8_t width, uint16_t address,
                                        uint32_t value, size_t numbers[SEDGECOIL_REACH_COUNT])
 {
-    return sedgecoil_reach_parts(file->registers, sedgecoil_rest_of(file), sedgecoil_record(kind, width, address, value), numbers);
+    return sedgecoil_reach_parts(file->registers, sedgecoil_rest_of(file),
+                                 sedgecoil_record(kind, width, address, value), numbers);
 }
 
 /*
  * A run over a trace of 8-byte records into whole 8-byte places for replies, until records or
  * places end; so many replies. A last fragment is answered 2. 0, or 12 with count 0.
  */
-static inline uint32_t sedgecoil_run(sedgecoil_file *file, const uint8_t *trace, size_t length, uint8_t *replies, size_t room, size_t *count)
+static inline uint32_t sedgecoil_run(sedgecoil_file *file, const uint8_t *trace, size_t length, uint8_t *replies,
+                                     size_t room, size_t *count)
 {
     return sedgecoil_run_parts(file->registers, sedgecoil_rest(file), trace, length, replies, room, count);
 }
@@ -255,7 +288,8 @@ static inline uint32_t sedgecoil_run(sedgecoil_file *file, const uint8_t *trace,
 static inline uint32_t sedgecoil_note(const sedgecoil_file *file, uint8_t *set, uint8_t kind, uint8_t width,
                                       uint16_t address, uint32_t value)
 {
-    return sedgecoil_note_parts(file->registers, sedgecoil_rest_of(file), set, sedgecoil_record(kind, width, address, value));
+    return sedgecoil_note_parts(file->registers, sedgecoil_rest_of(file), set,
+                                sedgecoil_record(kind, width, address, value));
 }
 
 /*
@@ -268,9 +302,11 @@ static inline uint32_t sedgecoil_plan(const sedgecoil_file *file, uint8_t *buffe
 }
 
 /* Writes a plan of the wanted file and runs it from this one. 0; or 12, 15, 13, 11 with all as it was. */
-static inline uint32_t sedgecoil_restore(sedgecoil_file *file, const sedgecoil_file *wanted, uint8_t *buffer, size_t room, size_t *count)
+static inline uint32_t sedgecoil_restore(sedgecoil_file *file, const sedgecoil_file *wanted, uint8_t *buffer,
+                                         size_t room, size_t *count)
 {
-    return sedgecoil_restore_parts(file->registers, sedgecoil_rest(file), wanted->registers, sedgecoil_rest_of(wanted), buffer, room, count);
+    return sedgecoil_restore_parts(file->registers, sedgecoil_rest(file), wanted->registers, sedgecoil_rest_of(wanted),
+                                   buffer, room, count);
 }
 
 /*
@@ -280,14 +316,16 @@ static inline uint32_t sedgecoil_restore(sedgecoil_file *file, const sedgecoil_f
 static inline uint32_t sedgecoil_short_plan(const sedgecoil_file *file, const sedgecoil_file *saved, const uint8_t *set,
                                             uint8_t *buffer, size_t room, size_t *count)
 {
-    return sedgecoil_short_plan_parts(file->registers, sedgecoil_rest_of(file), saved->registers, sedgecoil_rest_of(saved), set, buffer, room, count);
+    return sedgecoil_short_plan_parts(file->registers, sedgecoil_rest_of(file), saved->registers,
+                                      sedgecoil_rest_of(saved), set, buffer, room, count);
 }
 
 /* A restore by it, after which the set is empty. */
 static inline uint32_t sedgecoil_short_restore(sedgecoil_file *file, const sedgecoil_file *saved, uint8_t *set,
                                                uint8_t *buffer, size_t room, size_t *count)
 {
-    return sedgecoil_short_restore_parts(file->registers, sedgecoil_rest(file), saved->registers, sedgecoil_rest_of(saved), set, buffer, room, count);
+    return sedgecoil_short_restore_parts(file->registers, sedgecoil_rest(file), saved->registers,
+                                         sedgecoil_rest_of(saved), set, buffer, room, count);
 }
 
 /*
