@@ -1,12 +1,12 @@
 -- For a host in C: which bytes an access leaves, and that one that 01 refuses leaves every byte.
 -- Assumes nothing.
-use Prim.Native.Nat.{ℕ, _+_, _≤_, _<_}
+use Prim.Native.Nat.{ℕ, _≤_, _<_}
 use mathlib.Core.Path.{_≡_, refl, sym, ap, _∙_}
-use mathlib.Core.Bool.{Bool, true, false, cond, _&&_}
-use mathlib.Core.List.{List, _++_}
+use mathlib.Core.Bool.{Bool, true, false}
+use mathlib.Core.List.{List}
 use native.Mathlib.Omega.{arith}
 use lib.Dec.{T, leb}
-use lib.ListN.{length, getD, drop}
+use lib.ListN.{length, getD}
 use lib.Seq.{sets, sets-eq, length-sets}
 use Rattle.bits.proofs.Test.{by-test, left, passes, is-true}
 use Rattle.file.specs.declared.chip.Chip.{Chip}

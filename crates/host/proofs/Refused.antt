@@ -2,7 +2,7 @@
 -- Assumes nothing.
 use Prim.Native.Nat.{ℕ, _≤_}
 use mathlib.Core.Path.{_≡_, refl, sym, ap, _∙_}
-use mathlib.Core.Bool.{Bool, true, false, cond, _&&_}
+use mathlib.Core.Bool.{Bool, true, cond, _&&_}
 use mathlib.Core.List.{List}
 use native.Mathlib.Omega.{arith}
 use borrow.Author.Tests.{le-leb}
@@ -13,7 +13,7 @@ use Rattle.file.specs.Sound.{sound}
 use Rattle.access.specs.declared.record.Record.{Record}
 use Rattle.timing.specs.Timing.{timingOf, timingAnswer, writtenFile, writeTiming}
 use Rattle.trace.specs.Run.{run, ran}
-use Rattle.plan.specs.ShortAnswers.{numberOf, isRefused}
+use Rattle.plan.specs.ShortAnswers.{isRefused}
 use Rattle.image.specs.Parts.{fitsIn, heldIn}
 use Rattle.host.specs.Left.{TimingLeft}
 use Rattle.host.specs.Runs.{Untouched, PlanTold, RunTold, RestoreTold, NoteTold, ShortTold, ShortRestoreTold}

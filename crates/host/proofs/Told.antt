@@ -5,16 +5,15 @@ use mathlib.Core.Bool.{Bool, true, false, true≢false, cond, _&&_}
 use mathlib.Core.List.{List}
 use borrow.Author.Tests.{le-leb, lt-leb}
 use lib.Dec.{leb}
-use lib.ListN.{length}
 use Rattle.bits.proofs.Test.{by-test}
 use Rattle.file.specs.declared.answer.Answer.{Answer}
 use Rattle.file.specs.declared.registers.File.{File}
 use Rattle.file.specs.Answers.{codeOf}
-use Rattle.trace.specs.Run.{run, fileAfter}
+use Rattle.trace.specs.Run.{run}
 use Rattle.plan.specs.declared.planning.Planned.{Planned}
 use Rattle.plan.specs.declared.short_planning.ShortPlanned.{ShortPlanned}
 use Rattle.plan.specs.Promises.{PlanKept}
-use Rattle.plan.specs.ShortAnswers.{numberOf, isRefused, shortAnswer}
+use Rattle.plan.specs.ShortAnswers.{numberOf, isRefused}
 use Rattle.plan.specs.ShortPromises.{ShortKept}
 use Rattle.short_restoring.specs.declared.kept.ShortRestored.{ShortRestored}
 use Rattle.short_restoring.specs.Promises.{ShortRestoreKept}
@@ -22,12 +21,10 @@ use Rattle.touched.specs.declared.set.Touched.{Touched}
 use Rattle.touched.specs.Things.{nothing}
 use Rattle.restoring.specs.declared.Restored.{Restored}
 use Rattle.restoring.specs.Promises.{RestoreKept}
-use Rattle.roads.specs.Refusals.{restoreAnswer}
 use Rattle.access.specs.declared.access.ReachRead.{ReachRead}
 use Rattle.access.specs.declared.record.Record.{Record}
 use Rattle.access.specs.Access.{readReach}
 use Rattle.touched.specs.Noted.{noted}
-use Rattle.trace.specs.Records.{items}
 use Rattle.image.specs.Parts.{fitsIn, restOf, heldIn, setBytes, setIn}
 use Rattle.host.specs.Runs.{Unfit, PlanTold, RunTold, RestoreTold, NoteTold, ShortTold, ShortRestoreTold}
 

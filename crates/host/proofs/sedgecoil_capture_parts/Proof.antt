@@ -1,5 +1,5 @@
 -- `sedgecoil_capture_parts` meets its contract. Assumes nothing.
-use mathlib.Core.Path.{_≡_, sym, ap, _∙_}
+use mathlib.Core.Path.{sym, ap, _∙_}
 use borrow.Author.Tests.{not-true, not-false}
 use Rattle.file.specs.Answers.{codeOf}
 use Rattle.geometry.specs.declared.Geometry.{Geometry}

@@ -1,6 +1,6 @@
 -- `sedgecoil_cursor_parts` meets its contract. Assumes nothing.
 use Prim.Native.Nat.{_<_, _^_}
-use mathlib.Core.Path.{_≡_, sym, ap, _∙_, subst}
+use mathlib.Core.Path.{sym, ap, _∙_, subst}
 use borrow.Author.Tests.{not-true, not-false}
 use Rattle.file.specs.Answers.{codeOf}
 use Rattle.geometry.specs.declared.Geometry.{Geometry}

@@ -1,5 +1,5 @@
 -- `sedgecoil_reach_parts` meets its contract. Assumes nothing.
-use mathlib.Core.Path.{_≡_, sym, ap, ap₂, _∙_}
+use mathlib.Core.Path.{sym, ap, ap₂, _∙_}
 use borrow.Author.Tests.{not-true, not-false}
 use Rattle.file.specs.Answers.{codeOf}
 use Rattle.access.specs.declared.access.ReachRead.{ReachRead}

@@ -1,5 +1,5 @@
 -- `sedgecoil_timing_write_parts` meets its contract. Assumes nothing.
-use mathlib.Core.Path.{_≡_, sym, _∙_}
+use mathlib.Core.Path.{sym, _∙_}
 use borrow.Author.Tests.{not-true, not-false}
 use Rattle.host.proofs.Shown.{timing-unfit, timing-left}
 use borrow.Author.Needs.{needs}

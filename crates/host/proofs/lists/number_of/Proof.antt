@@ -1,5 +1,4 @@
 -- `number_of` meets its contract. Assumes nothing.
-use mathlib.Core.Path.{_≡_}
 use native.Mathlib.Omega.{arith}
 use Rattle.image.specs.Bytes.{flagByte}
 use Rattle.host.proofs.lists.number_of.Statement.{statement}
