@@ -211,8 +211,8 @@ static inline uint32_t sedgecoil_power_on(sedgecoil_file *file, uint8_t chip)
 }
 
 /*
- * One access. A read's value is 0. The answer is its code and, of a read that is done, what was
- * read: sedgecoil_code and sedgecoil_value take them out. Codes 0 to 9, 12, 16 and 17.
+ * One access; a read is asked with value 0. The answer is its code and, of a read that is done, what
+ * was read: sedgecoil_code and sedgecoil_value take them out. Codes 0 to 9, 12, 16 and 17.
  */
 static inline uint32_t sedgecoil_access(sedgecoil_file *file, uint8_t kind, uint8_t width, uint16_t address,
                                         uint32_t value)
@@ -273,7 +273,8 @@ static inline uint32_t sedgecoil_reach(const sedgecoil_file *file, uint8_t kind,
 
 /*
  * A run over a trace of 8-byte records into whole 8-byte places for replies, until records or
- * places end; so many replies. A last fragment is answered 2. 0, or 12 with count 0.
+ * places end: `count` replies to the first records. A last fragment is answered 2. A reply is code,
+ * kind, two bytes of address, two of value and two zeros. 0, or 12 with count 0.
  */
 static inline uint32_t sedgecoil_run(sedgecoil_file *file, const uint8_t *trace, size_t length, uint8_t *replies,
                                      size_t room, size_t *count)
@@ -310,8 +311,8 @@ static inline uint32_t sedgecoil_restore(sedgecoil_file *file, const sedgecoil_f
 }
 
 /*
- * A short plan, from a file back to the one that was saved, by the set since then. 0; or 12, 15,
- * 20 where the file differs outside the set, 13, 11.
+ * A short plan, from a file back to the one that was saved, by the set since then. 0; or 12, 15, 13,
+ * 20 where the file differs outside the set, 11, with count 0 and the buffer as it was.
  */
 static inline uint32_t sedgecoil_short_plan(const sedgecoil_file *file, const sedgecoil_file *saved, const uint8_t *set,
                                             uint8_t *buffer, size_t room, size_t *count)
@@ -320,7 +321,7 @@ static inline uint32_t sedgecoil_short_plan(const sedgecoil_file *file, const se
                                       sedgecoil_rest_of(saved), set, buffer, room, count);
 }
 
-/* A restore by it, after which the set is empty. */
+/* A restore by it, with its codes. Where it is done the set is empty, else all is as it was. */
 static inline uint32_t sedgecoil_short_restore(sedgecoil_file *file, const sedgecoil_file *saved, uint8_t *set,
                                                uint8_t *buffer, size_t room, size_t *count)
 {

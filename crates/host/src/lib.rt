@@ -409,7 +409,7 @@ pub extern "C" fn sedgecoil_note_parts(
     code as u32
 }
 
-// A short plan from the first file to the second: 12, 15, 20, 13, 11, or 0 with so many records in the buffer.
+// A short plan from the first file to the second: 12, 15, 13, 20, 11, or 0 with so many records in the buffer.
 #[no_mangle]
 pub extern "C" fn sedgecoil_short_plan_parts(
     registers: &[u16; REGISTERS],
