@@ -1,0 +1,57 @@
+-- `leave` meets its contract. Assumes nothing.
+use Prim.Native.Nat.{ℕ}
+use mathlib.Core.Path.{_≡_, ap, _∙_}
+use mathlib.Core.List.{List, [], _∷_}
+use borrow.Author.Needs.{needs}
+use borrow.Author.Tests.{not-true, not-false}
+use lib.Seq.{sets}
+use Rattle.image.specs.Bytes.{colourBytes}
+use Rattle.image.specs.Parts.{stateBytes}
+use Rattle.host.specs.Left.{restLeft}
+use Rattle.host.proofs.serving.leave.Statement.{statement}
+use Rattle.host.proofs.serving.leave.Tie as tie
+
+put-state-requires : tie.Need-put-state-requires
+put-state-requires c κs = search needs
+
+same-length : tie.Need-same-length
+same-length c = search needs
+
+returns : tie.Need-returns
+unfolding restLeft
+returns c = rw (not-true (c .before .before .before .before .before .before .before .args .served .paints) (c .before .before .before .before .if1 .taken)) (c .before .before .put-state .ensures)
+
+painted-place-requires : tie.Need-painted-place-requires
+painted-place-requires c κs = search needs
+
+paint-requires : tie.Need-paint-requires
+paint-requires c κs = search needs
+
+put-state-requires-2 : tie.Need-put-state-requires-2
+put-state-requires-2 c κs = search needs
+
+same-length-2 : tie.Need-same-length-2
+same-length-2 c = search needs
+
+returns-2 : tie.Need-returns-2
+unfolding restLeft
+returns-2 c =
+    let start = c .before .before .before .before .before .before .before .before .before .before .before .before in
+    let s = start .args .served in
+    rw (not-false (s .paints) (c .before .before .before .before .before .before .before .before .before .if1 .left))
+    (c .before .before .put-state2 .ensures
+    ∙ ap (λ (l : List ℕ). sets l 0 (stateBytes (s .state)))
+    (c .before .before .before .before .before .before .paint .ensures ∙ ap (λ (k : ℕ). sets (start .args .rest .now) k (colourBytes (s .colour ∷ []))) (c .before .before .before .before .before .before .before .before .painted-place .ensures .0)))
+
+pub leave-spec : {M : Type 1} → statement M
+leave-spec =
+    tie.close
+    (tie.spec
+    put-state-requires
+    same-length
+    returns
+    painted-place-requires
+    paint-requires
+    put-state-requires-2
+    same-length-2
+    returns-2)

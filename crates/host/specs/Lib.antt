@@ -1,0 +1,5 @@
+pub mod Numbers
+pub mod Lists
+pub mod Left
+pub mod Calls
+pub mod Runs

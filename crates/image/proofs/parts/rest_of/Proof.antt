@@ -1,0 +1,65 @@
+-- `rest_of` meets its contract. Assumes nothing.
+use Prim.Native.Nat.{ℕ}
+use mathlib.Core.Path.{_≡_, refl, ap, _∙_}
+use mathlib.Core.List.{List}
+use native.Mathlib.Omega.{arith}
+use lib.ListN.{replicate}
+use lib.Seq.{sets}
+use Rattle.file.proofs.Typed.{palette-count, bank-count}
+use Rattle.image.specs.Bytes.{colourBytes}
+use Rattle.image.proofs.Filling.{filled-by, colours-count}
+use borrow.Author.Needs.{needs}
+use Rattle.image.specs.Parts.{stateBytes, restOf}
+use Rattle.image.proofs.parts.rest_of.Statement.{statement}
+use Rattle.image.proofs.parts.rest_of.Tie as tie
+
+state-bytes-requires : tie.Need-state-bytes-requires
+state-bytes-requires c κs = search needs
+
+slice-aggregate-put-bytes : tie.Need-slice-aggregate-put-bytes
+slice-aggregate-put-bytes c = search needs
+
+slice-aggregate-put-bytes-2 : tie.Need-slice-aggregate-put-bytes-2
+slice-aggregate-put-bytes-2 c = search needs
+
+put-bytes-requires : tie.Need-put-bytes-requires
+put-bytes-requires c κs = search needs
+
+slice-aggregate-put-palette : tie.Need-slice-aggregate-put-palette
+slice-aggregate-put-palette c = search needs
+
+put-palette-requires : tie.Need-put-palette-requires
+put-palette-requires c κs = search needs
+
+slice-aggregate-put-bank : tie.Need-slice-aggregate-put-bank
+slice-aggregate-put-bank c = search needs
+
+put-bank-requires : tie.Need-put-bank-requires
+put-bank-requires c κs = search needs
+
+returns : tie.Need-returns
+unfolding restOf stateBytes
+returns c =
+    let start = c .before .before .before .before .before .before .before .before .before .before .before .before .before in
+    let f = start .args .file in
+    let was = start .good .0 in
+    c .before .put-bank .ensures
+    ∙ ap (λ (l : List ℕ). sets l 778 (colourBytes (f .bank))) (c .before .before .before .before .put-palette .ensures)
+    ∙ ap (λ (l : List ℕ). sets (sets l 10 (colourBytes (f .palette))) 778 (colourBytes (f .bank)))
+    (c .before .before .before .before .before .before .before .put-bytes .ensures ∙ ap (sets _ 0) (c .before .before .before .before .before .before .before .before .before .before .before .before .state-bytes .ensures))
+    ∙ filled-by (replicate 826 0) (stateBytes (f .state)) (colourBytes (f .palette)) (colourBytes (f .bank)) 10 778 refl
+    (omega (arith, colours-count (f .palette), palette-count f _ was)) (omega (arith, colours-count (f .bank), bank-count f _ was))
+
+pub rest-of-spec : {M : Type 1} → statement M
+rest-of-spec =
+    tie.close
+    (tie.spec
+    state-bytes-requires
+    slice-aggregate-put-bytes
+    slice-aggregate-put-bytes-2
+    put-bytes-requires
+    slice-aggregate-put-palette
+    put-palette-requires
+    slice-aggregate-put-bank
+    put-bank-requires
+    returns)
