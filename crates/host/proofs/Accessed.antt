@@ -4,11 +4,8 @@ use mathlib.Core.Path.{_≡_, refl, sym, ap, ap₂, _∙_, subst, subst₂}
 use mathlib.Core.Bool.{Bool, true, false, cond, true≢false, _&&_}
 use mathlib.Core.List.{List}
 use native.Mathlib.Omega.{arith}
-use lib.Dec.{T}
 use lib.ListN.{length}
-use Rattle.bits.proofs.Test.{by-test, passes}
-use Rattle.file.specs.declared.palette.Colour.{Colour}
-use Rattle.file.specs.declared.registers.File.{File}
+use Rattle.bits.proofs.Test.{by-test}
 use Rattle.file.specs.declared.state.State.{State}
 use Rattle.file.specs.File.{seen, bankCount}
 use Rattle.file.specs.Palette.{component}
@@ -21,7 +18,7 @@ use Rattle.trace.specs.declared.running.Served.{Served}
 use Rattle.trace.specs.EngineServed.{Serves}
 use Rattle.trace.proofs.RunLoop.{file-served, code-served, value-served, component-served}
 use Rattle.image.specs.Parts.{paletteAt, bankAt, restCount, stateIn, fitsIn, heldIn, soundIn}
-use Rattle.host.specs.Left.{colourAt, restLeft, Accesses, Refuses, AccessLeft}
+use Rattle.host.specs.Left.{colourAt, restLeft, Accesses, AccessLeft}
 use Rattle.host.specs.Numbers.{told, notSound}
 use Rattle.host.proofs.RestHeld.{paletteOf, bankOf, rest-held, palette-entry, bank-entry}
 

@@ -1,5 +1,5 @@
-// The cell that a kind and an address name, and the one behind an indexed port, with no table in memory: a range of cells that is gone through one by
-// one in a constant table is compiled to a table of constants. What isn't known here is asked of the whole table.
+// The cell that a kind and an address name, and the one behind an indexed port, with no table built in memory: where a constant table is gone through one
+// by one, the compiler makes constants of it. What isn't known here is asked of the whole table.
 ghost use mathlib.Core.Path.{_≡_};
 ghost use mathlib.Core.Bool.{Bool, false, cond};
 ghost use Prim.Native.Nat.{_<_, _≤_};
@@ -14,11 +14,11 @@ use file::REGISTERS;
 use file::SRX;
 use places::CELLS;
 
-// The cell of what isn't known.
+// What is told of a cell that isn't known: that of nothing at all.
 pub const UNKNOWN: u8 = 0x7F;
 
-// Where ports and MMIO begin among the cells, and what stands behind them.
-const PORTS: usize = 48;
+// Where the sections of the table begin: port writes, what stands behind the index registers, config space and MMIO.
+const PORT_WRITES: usize = 48;
 
 const SRX_CELLS: usize = 96;
 
@@ -32,7 +32,13 @@ const CONFIG: usize = 288;
 
 const MMIO: usize = 294;
 
-// The cell at a place, if the place is one of those from one place on to another, so many apart.
+// No register stands behind CRX and GRX from these numbers on.
+const CRX_END: usize = 40;
+
+const GRX_END: usize = 16;
+
+// The cell at a place of the table, if it is one of those from a place on to an end, so many apart. It is read before the place is compared, or
+// the compiler would index the table after all.
 fn pick(cells: &[u8; CELLS], from: usize, end: usize, step: usize, wanted: usize) -> u8
     requires { ⌜ (end ≤ cellCount) × (1 ≤ step) × (step ≤ 4) ⌝ }
     ensures { λ r. ⌜ (eqb r nothingHeld ≡ false → (wanted < end) × (r ≡ getD (now (cells .entry)) wanted 0)) × (step ≡ 1 → from ≤ wanted → r ≡ cond (ltb wanted end) (getD (now (cells .entry)) wanted 0) nothingHeld) ⌝ }
@@ -80,9 +86,9 @@ fn port_cell(cells: &[u8; CELLS], write: bool, at: usize) -> u8
         return UNKNOWN;
     }
     if write {
-        return pick(cells, PORTS, SRX_CELLS, 1, PORTS + (at - 0x3B0));
+        return pick(cells, PORT_WRITES, SRX_CELLS, 1, PORT_WRITES + (at - 0x3B0));
     }
-    pick(cells, 0, PORTS, 1, at - 0x3B0)
+    pick(cells, 0, PORT_WRITES, 1, at - 0x3B0)
 }
 
 // The cell of a kind and an address on a chip, where it is known.
@@ -110,7 +116,7 @@ fn number(held: u16) -> usize
     held as usize
 }
 
-// The cell behind that of an indexed port but 3C0h's write; any other is itself. No register stands behind the last numbers of CRX and GRX.
+// The cell that the index registers choose behind an indexed port's; any other's is itself.
 pub fn behind(chip: Chip, registers: &[u16; REGISTERS], cell: u8) -> u8
     ensures { λ r. ⌜ r ≡ behindCell (cellTable chip) (now (registers .entry)) cell ⌝ }
 {
@@ -122,7 +128,7 @@ pub fn behind(chip: Chip, registers: &[u16; REGISTERS], cell: u8) -> u8
         return pick(
             &cells,
             CRX_CELLS,
-            CRX_CELLS + 40,
+            CRX_CELLS + CRX_END,
             1,
             CRX_CELLS + number(registers[CRX] % 64),
         );
@@ -140,7 +146,7 @@ pub fn behind(chip: Chip, registers: &[u16; REGISTERS], cell: u8) -> u8
         return pick(
             &cells,
             GRX_CELLS,
-            GRX_CELLS + 16,
+            GRX_CELLS + GRX_END,
             1,
             GRX_CELLS + number(registers[GRX] % 64),
         );

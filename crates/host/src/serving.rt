@@ -198,7 +198,7 @@ fn leave(rest: &mut [u8], stood: State, served: Served)
     put_state(rest, served.state);
 }
 
-// Codes 3 and 5, by the registers, of a kind and an address.
+// Code 5 by the row of a port, or 0.
 fn row_code(colour: bool, row: u16) -> u8
     ensures { λ r. ⌜ r ≡ cond (eqb row 0x3B) (cond colour 5 0) (cond (eqb row 0x3D) (cond colour 0 5) 0) ⌝ }
 {
@@ -211,6 +211,7 @@ fn row_code(colour: bool, row: u16) -> u8
     0
 }
 
+// Code 3 or 5 by the registers, or 0.
 fn code_of(registers: &[u16; REGISTERS], kind: u8, address: u16) -> u8
     ensures { λ r. ⌜ r ≡ getD (codesOf (now (registers .entry))) (classOf kind address % 8) 0 ⌝ }
 {
@@ -240,6 +241,7 @@ fn limit_of(kind: u8, width: u8) -> u32
     if width == 1 { 256 } else { 65536 }
 }
 
+// A value's low 16 bits.
 fn low(value: u32) -> u16
     ensures { λ r. ⌜ r ≡ value % 65536 ⌝ }
 {
@@ -320,6 +322,7 @@ fn served_of(number: u64, state: State) -> Served
     }
 }
 
+// The same, as what was served.
 fn serve_known(
     registers: &mut [u16; REGISTERS],
     state: State,

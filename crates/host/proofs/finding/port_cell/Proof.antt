@@ -1,7 +1,6 @@
 -- `port_cell` meets its contract. Assumes nothing.
-use Prim.Native.Nat.{_+_, _-_}
-use mathlib.Core.Path.{_≡_, _∙_}
-use mathlib.Core.Bool.{true≢false, cond}
+use mathlib.Core.Path.{_∙_}
+use mathlib.Core.Bool.{true≢false}
 use native.Mathlib.Omega.{arith}
 use borrow.Author.Needs.{needs}
 use Rattle.host.proofs.Found.{port-found}

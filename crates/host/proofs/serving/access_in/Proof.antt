@@ -6,7 +6,6 @@ use native.Mathlib.Omega.{arith}
 use borrow.Author.Needs.{needs}
 use borrow.Author.Tests.{ne-eqb, not-true, not-false}
 use Rattle.bits.proofs.Test.{passes, and-false}
-use Rattle.file.specs.declared.state.State.{State}
 use Rattle.file.specs.State.{stateSound}
 use Rattle.file.specs.Registers.{storedTable}
 use Rattle.file.specs.Sound.{allWithin}

@@ -1,13 +1,13 @@
 -- `turn` meets its contract. Assumes nothing.
 use Prim.Native.Nat.{ℕ}
-use mathlib.Core.Path.{_≡_, refl, sym, ap, ap₂, _∙_}
+use mathlib.Core.Path.{refl, sym, ap, ap₂, _∙_}
 use borrow.Author.Needs.{needs}
 use Rattle.file.specs.declared.registers.File.{File}
 use Rattle.file.specs.declared.state.State.{State}
 use Rattle.file.specs.File.{seen}
 use Rattle.file.specs.Registers.{storedTable}
 use Rattle.places.specs.declared.place.Place.{Place}
-use Rattle.places.specs.EngineCells.{plainPlace, cellTable, cellPlace}
+use Rattle.places.specs.EngineCells.{plainPlace, cellTable}
 use Rattle.places.specs.Profile.{profile}
 use Rattle.places.proofs.BehindPorts.{place-behind}
 use Rattle.access.specs.Engine.{decision, decidedRead, decidedWrite}
