@@ -1,7 +1,6 @@
 // The register file for a host in C: a file is 108 words and 826 bytes that the host owns and lends.
 mod finding;
 mod serving;
-mod testing;
 
 ghost use mathlib.Core.Path.{_≡_};
 ghost use Rattle.file.specs.Answers.{codeOf};

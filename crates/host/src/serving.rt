@@ -9,8 +9,8 @@ ghost use lib.Seq.{sets};
 ghost use Rattle.file.specs.declared.state.State.{State};
 ghost use Rattle.file.specs.File.{seen, bankCount};
 ghost use Rattle.file.specs.Palette.{component as componentOf};
-ghost use Rattle.file.specs.Sound.{sound};
-ghost use Rattle.file.specs.Registers.{storedTable};
+ghost use Rattle.file.specs.Sound.{allWithin, sound};
+ghost use Rattle.file.specs.Registers.{registerCount, storedTable};
 ghost use Rattle.places.specs.EngineCells.{nothingHeld, plainPlace};
 ghost use Rattle.places.specs.Profile.{profile};
 ghost use Rattle.access.specs.Access.{inBank};
@@ -28,8 +28,6 @@ ghost use Rattle.host.specs.Quick.{limitOf, Known};
 use crate::finding::UNKNOWN;
 use crate::finding::behind;
 use crate::finding::cell_of;
-use crate::testing::are_stored;
-use crate::testing::is_state_sound;
 use access::Record;
 use access::decide;
 use access::is_in_bank;
@@ -40,6 +38,7 @@ use file::MISC;
 use file::PCI04;
 use file::REGISTERS;
 use file::State;
+use file::state_sound;
 use image::fits;
 use image::state_bytes;
 use image::state_in;
@@ -351,6 +350,21 @@ fn finish(registers: &[u16; REGISTERS], rest: &mut [u8], state: State, served: S
     told(served.code, value)
 }
 
+// No bit outside the table of a chip is set: the registers are tested where they stand.
+fn are_stored(registers: &[u16], chip: Chip) -> bool
+    requires { ⌜ length (now registers) ≡ registerCount ⌝ }
+    ensures { λ r. ⌜ r ≡ allWithin (storedTable chip) (now (registers .entry)) ⌝ }
+{
+    let stored = File::stored(chip);
+    let mut stray: u16 = 0;
+    let mut i = 0;
+    while i < REGISTERS {
+        stray = stray | bits::stray(stored[i], registers[i]);
+        i += 1;
+    }
+    stray == 0
+}
+
 // One access to registers and a rest; of an unsound file 12, with all as it was.
 pub fn access_in(registers: &mut [u16; REGISTERS], rest: &mut [u8], asked: u64) -> u32
     requires { ⌜ length (now rest) ≡ restCount ⌝ }
@@ -360,7 +374,7 @@ pub fn access_in(registers: &mut [u16; REGISTERS], rest: &mut [u8], asked: u64) 
         return NOT_SOUND;
     }
     let state = state_in(rest);
-    if !is_state_sound(state) {
+    if !state_sound(state) {
         return NOT_SOUND;
     }
     let chip = state.chip;

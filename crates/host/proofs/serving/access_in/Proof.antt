@@ -26,7 +26,7 @@ returns-2 c =
     let registers = start .args .registers .now in
     let state = c .before .before .state-in in
     refuse _ _ _
-    (tested registers (start .args .rest .now) (state .result) (state .ensures) (allWithin (storedTable (state .result .chip)) registers) false (sym (c .before .before .before .before .before .fits2 .ensures) ∙ not-false _ (c .before .before .before .before .if1 .left)) refl (sym (c .before .is-state-sound .ensures) ∙ not-true _ (c .if2 .taken))
+    (tested registers (start .args .rest .now) (state .result) (state .ensures) (allWithin (storedTable (state .result .chip)) registers) false (sym (c .before .before .before .before .before .fits2 .ensures) ∙ not-false _ (c .before .before .before .before .if1 .left)) refl (sym (c .before .state-sound .ensures) ∙ not-true _ (c .if2 .taken))
     ∙ and-false (allWithin (storedTable (state .result .chip)) registers))
 
 returns-3 : tie.Need-returns-3
@@ -37,7 +37,7 @@ returns-3 c =
     (tested (start .args .registers .now) (start .args .rest .now) (state .result) (state .ensures) false (stateSound (state .result)) (sym (c .before .before .before .before .before .before .before .before .before .fits2 .ensures) ∙ not-false _ (c .before .before .before .before .before .before .before .before .if1 .left)) (sym (c .before .are-stored .ensures) ∙ not-true _ (c .if3 .taken)) refl)
 
 serve-requires : tie.Need-serve-requires
-serve-requires c κs = passes _ (both (c .before .before .before .before .before .before .before .before .before .before .before .before .before .before .before .before .args .registers .now) (c .before .before .before .before .before .before .before .before .before .before .state-in .result) true true (sym (c .before .before .before .before .before .are-stored .ensures) ∙ not-false _ (c .before .before .before .before .if3 .left)) (sym (c .before .before .before .before .before .before .before .before .before .is-state-sound .ensures) ∙ not-false _ (c .before .before .before .before .before .before .before .before .if2 .left)))
+serve-requires c κs = passes _ (both (c .before .before .before .before .before .before .before .before .before .before .before .before .before .before .before .before .args .registers .now) (c .before .before .before .before .before .before .before .before .before .before .state-in .result) true true (sym (c .before .before .before .before .before .are-stored .ensures) ∙ not-false _ (c .before .before .before .before .if3 .left)) (sym (c .before .before .before .before .before .before .before .before .before .state-sound .ensures) ∙ not-false _ (c .before .before .before .before .before .before .before .before .if2 .left)))
 
 finish-requires : tie.Need-finish-requires
 finish-requires c κs = c .before .before .before .before .before .before .before .before .before .before .before .before .before .before .before .before .before .before .before .pre
@@ -52,11 +52,11 @@ returns-4 c =
     let byte : stateIn rest .pointer .address < 256 = omega (arith, c .before .before .before .before .before .before .before .before .before .before .before .before .before .before .before .before .before .before .before .before .before .slice-known .given 2) in
     left-as (c .before .before .before .before .before .before .record-in .ensures)
     (accessed registers rest (start .pre) (state .result) (state .ensures) byte _ _ (c .before .before .before .before .before .serve .result) (c .before .before .before .before .before .serve .ensures) _ refl _ (c .before .before .finish .ensures .1) _ (c .before .before .finish .ensures .0)
-    (tested registers rest (state .result) (state .ensures) true true (sym (c .before .before .before .before .before .before .before .before .before .before .before .before .before .before .before .before .before .before .before .fits2 .ensures) ∙ not-false _ (c .before .before .before .before .before .before .before .before .before .before .before .before .before .before .before .before .before .before .if1 .left)) (sym (c .before .before .before .before .before .before .before .before .before .before .before .are-stored .ensures) ∙ not-false _ (c .before .before .before .before .before .before .before .before .before .before .if3 .left)) (sym (c .before .before .before .before .before .before .before .before .before .before .before .before .before .before .before .is-state-sound .ensures) ∙ not-false _ (c .before .before .before .before .before .before .before .before .before .before .before .before .before .before .if2 .left))))
+    (tested registers rest (state .result) (state .ensures) true true (sym (c .before .before .before .before .before .before .before .before .before .before .before .before .before .before .before .before .before .before .before .fits2 .ensures) ∙ not-false _ (c .before .before .before .before .before .before .before .before .before .before .before .before .before .before .before .before .before .before .if1 .left)) (sym (c .before .before .before .before .before .before .before .before .before .before .before .are-stored .ensures) ∙ not-false _ (c .before .before .before .before .before .before .before .before .before .before .if3 .left)) (sym (c .before .before .before .before .before .before .before .before .before .before .before .before .before .before .before .state-sound .ensures) ∙ not-false _ (c .before .before .before .before .before .before .before .before .before .before .before .before .before .before .if2 .left))))
 
 serve-known-requires : tie.Need-serve-known-requires
 serve-known-requires c κs =
-    (c .before .before .known .ensures (ne-eqb _ _ (c .before .if4 .left)), passes _ (both (c .before .before .before .before .before .before .before .before .before .before .before .before .before .before .before .args .registers .now) (c .before .before .before .before .before .before .before .before .before .state-in .result) true true (sym (c .before .before .before .before .are-stored .ensures) ∙ not-false _ (c .before .before .before .if3 .left)) (sym (c .before .before .before .before .before .before .before .before .is-state-sound .ensures) ∙ not-false _ (c .before .before .before .before .before .before .before .if2 .left))))
+    (c .before .before .known .ensures (ne-eqb _ _ (c .before .if4 .left)), passes _ (both (c .before .before .before .before .before .before .before .before .before .before .before .before .before .before .before .args .registers .now) (c .before .before .before .before .before .before .before .before .before .state-in .result) true true (sym (c .before .before .before .before .are-stored .ensures) ∙ not-false _ (c .before .before .before .if3 .left)) (sym (c .before .before .before .before .before .before .before .before .state-sound .ensures) ∙ not-false _ (c .before .before .before .before .before .before .before .if2 .left))))
 
 finish-requires-2 : tie.Need-finish-requires-2
 finish-requires-2 c κs = c .before .before .before .before .before .before .before .before .before .before .before .before .before .before .before .before .before .before .pre
@@ -71,7 +71,7 @@ returns-5 c =
     let byte : stateIn rest .pointer .address < 256 = omega (arith, c .before .before .before .before .before .before .before .before .before .before .before .before .before .before .before .before .before .before .before .before .slice-known .given 2) in
     left-as (sym (by-key (c .before .before .before .before .before .before .before .before .before .before .before .before .before .before .before .before .before .before .before .before .before .args .asked)))
     (accessed registers rest (start .pre) (state .result) (state .ensures) byte _ _ (c .before .before .before .before .before .serve-known .result) (c .before .before .before .before .before .serve-known .ensures) _ refl _ (c .before .before .finish2 .ensures .1) _ (c .before .before .finish2 .ensures .0)
-    (tested registers rest (state .result) (state .ensures) true true (sym (c .before .before .before .before .before .before .before .before .before .before .before .before .before .before .before .before .before .before .fits2 .ensures) ∙ not-false _ (c .before .before .before .before .before .before .before .before .before .before .before .before .before .before .before .before .before .if1 .left)) (sym (c .before .before .before .before .before .before .before .before .before .before .are-stored .ensures) ∙ not-false _ (c .before .before .before .before .before .before .before .before .before .if3 .left)) (sym (c .before .before .before .before .before .before .before .before .before .before .before .before .before .before .is-state-sound .ensures) ∙ not-false _ (c .before .before .before .before .before .before .before .before .before .before .before .before .before .if2 .left))))
+    (tested registers rest (state .result) (state .ensures) true true (sym (c .before .before .before .before .before .before .before .before .before .before .before .before .before .before .before .before .before .before .fits2 .ensures) ∙ not-false _ (c .before .before .before .before .before .before .before .before .before .before .before .before .before .before .before .before .before .if1 .left)) (sym (c .before .before .before .before .before .before .before .before .before .before .are-stored .ensures) ∙ not-false _ (c .before .before .before .before .before .before .before .before .before .if3 .left)) (sym (c .before .before .before .before .before .before .before .before .before .before .before .before .before .before .state-sound .ensures) ∙ not-false _ (c .before .before .before .before .before .before .before .before .before .before .before .before .before .if2 .left))))
 
 pub access-in-spec : {M : Type 1} → statement M
 access-in-spec =

@@ -11,8 +11,8 @@ use Rattle.file.specs.Registers.{registerCount, storedTable}
 use Rattle.file.specs.Sound.{allWithin}
 use Rattle.file.proofs.Names.{stored-counted}
 use Rattle.file.proofs.Soundness.{stray-next, stray-last}
-use Rattle.host.proofs.testing.are_stored.Statement.{statement}
-use Rattle.host.proofs.testing.are_stored.Tie as tie
+use Rattle.host.proofs.serving.are_stored.Statement.{statement}
+use Rattle.host.proofs.serving.are_stored.Tie as tie
 
 abbrev Inv-loop : tie.InvT-loop
 Inv-loop registers stored stray₀ i₀ stray i = (i ≤ registerCount) × ((eqb stray 0 && allWithin (drop i stored) (drop i registers)) ≡ allWithin stored registers)
