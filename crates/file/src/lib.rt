@@ -63,4 +63,5 @@ pub use registers::PALETTE;
 pub use registers::REGISTERS;
 pub use sound::are_sound;
 pub use sound::is_sound;
+pub use sound::state_sound;
 pub use state::State;

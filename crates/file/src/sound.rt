@@ -36,7 +36,7 @@ pub fn are_sound(registers: [u16; REGISTERS], state: State) -> bool
 }
 
 // The marks name a direction and a colour, the pointer is one that its steps can reach, and the line one that lines pass to.
-fn state_sound(state: State) -> bool
+pub fn state_sound(state: State) -> bool
     ensures { λ r. ⌜ r ≡ stateSound state ⌝ }
 {
     if !marks_sound(state.marks) {

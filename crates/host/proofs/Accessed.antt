@@ -4,22 +4,21 @@ use mathlib.Core.Path.{_≡_, refl, sym, ap, ap₂, _∙_, subst, subst₂}
 use mathlib.Core.Bool.{Bool, true, false, cond, true≢false, _&&_}
 use mathlib.Core.List.{List}
 use native.Mathlib.Omega.{arith}
-use lib.Dec.{T}
 use lib.ListN.{length}
-use Rattle.bits.proofs.Test.{by-test, passes}
-use Rattle.file.specs.declared.palette.Colour.{Colour}
-use Rattle.file.specs.declared.registers.File.{File}
+use Rattle.bits.proofs.Test.{by-test}
 use Rattle.file.specs.declared.state.State.{State}
 use Rattle.file.specs.File.{seen, bankCount}
 use Rattle.file.specs.Palette.{component}
-use Rattle.file.specs.Sound.{sound}
+use Rattle.file.specs.Registers.{storedTable}
+use Rattle.file.specs.Sound.{allWithin, sound}
+use Rattle.file.specs.State.{stateSound}
 use Rattle.access.specs.declared.record.Record.{Record}
 use Rattle.access.specs.Access.{inBank, shownIn, access}
 use Rattle.trace.specs.declared.running.Served.{Served}
 use Rattle.trace.specs.EngineServed.{Serves}
 use Rattle.trace.proofs.RunLoop.{file-served, code-served, value-served, component-served}
 use Rattle.image.specs.Parts.{paletteAt, bankAt, restCount, stateIn, fitsIn, heldIn, soundIn}
-use Rattle.host.specs.Left.{colourAt, restLeft, Accesses, Refuses, AccessLeft}
+use Rattle.host.specs.Left.{colourAt, restLeft, Accesses, AccessLeft}
 use Rattle.host.specs.Numbers.{told, notSound}
 use Rattle.host.proofs.EveryByte.{left-fits}
 use Rattle.host.proofs.RestHeld.{paletteOf, bankOf, rest-held, palette-entry, bank-entry}
@@ -33,6 +32,15 @@ unfit registers rest e = rw e
 pub by-parts : (registers rest : List ℕ) (b : Bool) → fitsIn rest ≡ true → sound (seen registers (stateIn rest)) ≡ b → soundIn registers rest ≡ b
 unfolding soundIn sound seen heldIn
 by-parts registers rest b e f = rw e f
+
+-- the two tests of soundness
+pub both : (registers : List ℕ) (st : State) (a b : Bool) → allWithin (storedTable (st .chip)) registers ≡ a → stateSound st ≡ b → sound (seen registers st) ≡ (a && b)
+unfolding sound seen
+both registers st a b e f = rw (e, f)
+
+pub tested : (registers rest : List ℕ) (st : State) → st ≡ stateIn rest → (a b : Bool) → fitsIn rest ≡ true → allWithin (storedTable (st .chip)) registers ≡ a → stateSound st ≡ b
+    → soundIn registers rest ≡ (a && b)
+tested registers rest st same a b fit e f = by-parts registers rest (a && b) fit (ap (λ (s : State). sound (seen registers s)) (sym same) ∙ both registers st a b e f)
 
 pub refuse : (asked : Record) (registers rest : List ℕ) → soundIn registers rest ≡ false → AccessLeft asked registers rest registers rest notSound
 refuse asked registers rest e =
@@ -81,3 +89,6 @@ accessed registers rest long st e address asked after s served value v rest′ l
     (subst₂ (λ (x : List ℕ) (k : ℕ). Accesses asked registers rest after x k) (sym (l ∙ ap (λ (x : State). restLeft x s rest) e)) (sym n)
     (accesses registers rest long address asked after s (subst (λ (x : State). Serves (seen registers x) asked after s) e served) value
     (v ∙ ap (λ (x : State). cond (s .pixel) (component (cond (inBank (seen after x)) (colourAt rest (bankAt + 3 * (x .pointer .address % bankCount))) (colourAt rest (paletteAt + 3 * x .pointer .address))) (x .pointer .next)) (s .value)) e)))
+
+pub left-as : {a b : Record} {registers rest registers′ rest′ : List ℕ} {number : ℕ} → a ≡ b → AccessLeft a registers rest registers′ rest′ number → AccessLeft b registers rest registers′ rest′ number
+left-as {registers = registers} {rest = rest} {registers′ = registers′} {rest′ = rest′} {number = number} e x = subst (λ (r : Record). AccessLeft r registers rest registers′ rest′ number) e x

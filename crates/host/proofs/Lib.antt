@@ -5,3 +5,5 @@ pub mod Accessed
 pub mod Told
 pub mod Shown
 pub mod Refused
+pub mod Found
+pub mod Known

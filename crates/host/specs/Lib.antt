@@ -3,3 +3,4 @@ pub mod Lists
 pub mod Left
 pub mod Calls
 pub mod Runs
+pub mod Quick

@@ -1,4 +1,5 @@
 // The register file for a host in C: a file is 108 words and 826 bytes that the host owns and lends.
+mod finding;
 mod lists;
 mod serving;
 
@@ -100,7 +101,7 @@ pub extern "C" fn sedgecoil_access_parts(
 ) -> u32
     ensures { λ r. ⌜ AccessLeft (recordIn asked) (now (registers .entry)) (now (rest .entry)) (now (registers .exit)) (now (rest .exit)) r ⌝ }
 {
-    serving::access_in(registers, rest, serving::record_in(asked))
+    serving::access_in(registers, rest, asked)
 }
 
 // The fifteen timing numbers, in 01's order: 0, or 12 with the numbers as they were.
