@@ -11,8 +11,8 @@
  * no other thread writes any of it before the call is back. What the bytes are is no duty: a struct
  * that is no sound file is refused with 12, and stays as it was.
  *
- * A code is one of 01's table. From 2 up it is a refusal: file, set, numbers and buffer stay as they
- * were, and a count is 0.
+ * A code is one of the list below. From 2 up it is a refusal: file, set, numbers and buffer stay as
+ * they were, and a count is 0.
  */
 #ifndef SEDGECOIL_H
 #define SEDGECOIL_H
@@ -89,8 +89,9 @@ enum {
 };
 
 /*
- * What an access may change: bits of one register, by its number (no bits, no register); and, each
- * 0 or 1, the pointer, the toggle, the marks, the line, an entry of the palette or of the bank.
+ * What an access may change: bits of one register, by its number in the file's registers (no bits,
+ * no register); and, each 0 or 1, the pointer, the toggle, the marks, the line, an entry of the
+ * palette or of the bank. The registers stand in the order of crates/file/specs/Registers.antt.
  */
 enum {
     SEDGECOIL_REACH_REGISTER,
@@ -139,7 +140,7 @@ enum {
     SEDGECOIL_CHANGED_OUTSIDE = 20 /* a file changed outside its set */
 };
 
-/* A file. Made by sedgecoil_power_on or sedgecoil_load; a struct of zeros is a sound 5462 too. */
+/* A file. Made by sedgecoil_power_on or sedgecoil_load; a struct of zeros is a sound 5462 too, not as at power-on. */
 typedef struct sedgecoil_file {
     uint16_t registers[SEDGECOIL_REGISTERS];
     uint16_t line;           /* the scanline that the display is at */
@@ -147,7 +148,7 @@ typedef struct sedgecoil_file {
     uint8_t reading;         /* its mode: 0 or 1 */
     uint8_t next;            /* its next colour: 0 red, 1 green, 2 blue */
     uint8_t red, green;      /* what it holds */
-    uint8_t marks;           /* of the last pixel data access */
+    uint8_t marks;           /* of the last pixel data access: its colour, and 4 more for a read */
     uint8_t toggle;          /* 1: the next write of 3C0h is data */
     uint8_t chip;            /* SEDGECOIL_5462 or SEDGECOIL_5464 */
     uint8_t palette[256][3]; /* red, green, blue */
@@ -212,7 +213,8 @@ static inline uint32_t sedgecoil_power_on(sedgecoil_file *file, uint8_t chip)
 
 /*
  * One access; a read is asked with value 0. The answer is its code and, of a read that is done, what
- * was read: sedgecoil_code and sedgecoil_value take them out. Codes 0 to 9, 12, 16 and 17.
+ * was read, in one number, which is no code itself: sedgecoil_code and sedgecoil_value take them out.
+ * Codes 0 to 9, 12, 16 and 17. Lines pass 1 to 65535 at once.
  */
 static inline uint32_t sedgecoil_access(sedgecoil_file *file, uint8_t kind, uint8_t width, uint16_t address,
                                         uint32_t value)
@@ -273,8 +275,9 @@ static inline uint32_t sedgecoil_reach(const sedgecoil_file *file, uint8_t kind,
 
 /*
  * A run over a trace of 8-byte records into whole 8-byte places for replies, until records or
- * places end: `count` replies to the first records. A last fragment is answered 2. A reply is code,
- * kind, two bytes of address, two of value and two zeros. 0, or 12 with count 0.
+ * places end: `count` replies to the first records. A last fragment is answered 2 and counts, so that
+ * 8 * count may be more than `length`. A reply is code, kind, two bytes of address, two of value and
+ * two zeros. 0, or 12 with count 0.
  */
 static inline uint32_t sedgecoil_run(sedgecoil_file *file, const uint8_t *trace, size_t length, uint8_t *replies,
                                      size_t room, size_t *count)
@@ -284,7 +287,10 @@ static inline uint32_t sedgecoil_run(sedgecoil_file *file, const uint8_t *trace,
 
 /*
  * Notes in a set what an access may change: to be called before the access, with the same words. A
- * set is SEDGECOIL_SET bytes, all 0 right after a save or a restore. 0, or 12 with the set as it was.
+ * set is SEDGECOIL_SET bytes, one for each thing: the registers, 256 entries of the palette, 16 of the
+ * bank, the pointer, the marks, the toggle. The host clears it where it keeps a file to come back to;
+ * only sedgecoil_short_restore clears it by itself. A run and a timing write note nothing: behind
+ * one, fill the set with 1, and all is brought back. 0, or 12 with the set as it was.
  */
 static inline uint32_t sedgecoil_note(const sedgecoil_file *file, uint8_t *set, uint8_t kind, uint8_t width,
                                       uint16_t address, uint32_t value)
@@ -295,14 +301,15 @@ static inline uint32_t sedgecoil_note(const sedgecoil_file *file, uint8_t *set, 
 
 /*
  * A plan of a file: so many 8-byte records in a buffer of SEDGECOIL_PLAN bytes that lead to it from
- * every sound file of its chip. 0; or 12, 13, 11 with count 0 and the buffer as it was.
+ * every sound file of its chip, but for the line, which no plan moves. 0; or 12, 13, 11 with count 0
+ * and the buffer as it was.
  */
 static inline uint32_t sedgecoil_plan(const sedgecoil_file *file, uint8_t *buffer, size_t room, size_t *count)
 {
     return sedgecoil_plan_parts(file->registers, sedgecoil_rest_of(file), buffer, room, count);
 }
 
-/* Writes a plan of the wanted file and runs it from this one. 0; or 12, 15, 13, 11 with all as it was. */
+/* Writes a plan of the wanted file and runs it from this one. 0; or 12, 15, 13, 11, count 0 and the rest as it was. */
 static inline uint32_t sedgecoil_restore(sedgecoil_file *file, const sedgecoil_file *wanted, uint8_t *buffer,
                                          size_t room, size_t *count)
 {
@@ -341,9 +348,11 @@ static inline uint32_t sedgecoil_save(const sedgecoil_file *file, const uint8_t 
 }
 
 /*
- * Takes an image back, and the set if it keeps one and `set` isn't NULL. 0, or 12 for another
- * length, mark or version or an unsound file, with file and set as they were. What was saved loads
- * to the same file.
+ * Takes an image back, and the set if it keeps one and `set` isn't NULL; one that it doesn't keep
+ * leaves `set`. An image is 'SGCL', the version, 1 where it keeps a set and else 0, two zeros, and
+ * behind them file and set as they stand. 0, or 12 for another length than SEDGECOIL_IMAGE, other
+ * first bytes or an unsound file, with file and set as they were. What was saved loads to the same
+ * file.
  */
 static inline uint32_t sedgecoil_load(sedgecoil_file *file, uint8_t *set, const uint8_t *image, size_t length)
 {
