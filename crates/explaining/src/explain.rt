@@ -16,7 +16,6 @@ use crate::meaning::register_of;
 use crate::moves::NUMBERS;
 use crate::moves::may_move;
 use crate::moves::number_label;
-use crate::parts::choose_line;
 use crate::parts::colour_code;
 use crate::parts::marks_words;
 use crate::parts::part_line;
@@ -163,10 +162,12 @@ pub fn first_line(case: Case) -> Line
     let head = head_line(case);
     let number = case.reach.register;
     let bits = case.reach.bits;
+    if bits == 0 {
+        return head;
+    }
     let old = register_of(case.before, number);
     let new = register_of(case.after, number);
-    let line = register_part(head, number, bits, old, new);
-    choose_line(bits == 0, head, line)
+    register_part(head, number, bits, old, new)
 }
 
 fn toggle_line(case: Case) -> Line

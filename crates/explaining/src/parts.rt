@@ -58,9 +58,11 @@ pub fn part_line(
 ) -> Line
     ensures { λ r. ⌜ r ≡ partLine number shown label before after moved ⌝ }
 {
+    if !shown {
+        return blank_line();
+    }
     let start = column(told(blank_line(), alone(decimal(number))), REACH);
-    let line = change(told(start, label), before, after, moved);
-    choose_line(shown, line, blank_line())
+    change(told(start, label), before, after, moved)
 }
 
 pub fn bit_digits(bits: u16) -> u8
