@@ -30,13 +30,12 @@ use Rattle.places.specs.declared.place.Place.the-variants.{Register, Attribute,
 use Rattle.places.specs.Places.{pci00}
 use Rattle.access.specs.declared.record.Record.{Record}
 use Rattle.access.specs.declared.record.Item.{Item}
-use Rattle.access.specs.declared.record.Item.the-variants.{Whole, Fragment}
 use Rattle.access.specs.Access.{accessItem, recordIn}
 use Rattle.access.specs.Checks.{carries, isPassing, isPort, isWrite}
-use Rattle.access.proofs.Soundness.{access-sound}
 use Rattle.timing.specs.Table.{table, wide}
 use Rattle.timing.specs.Timing.{numbersOf, readTiming}
 use Rattle.timing.proofs.Computed.{table-bounded}
+use Rattle.trace.proofs.RunMore.{item-sound}
 use Rattle.text.specs.Text.{decimal}
 use Rattle.text.proofs.Places.{most-places}
 use Rattle.text.proofs.Spelled.{digits-length}
@@ -340,17 +339,22 @@ colour-within : (n : ℕ) → Within (colourWord n) 5
 unfolding colourWord formText ascii upToDot
 colour-within n = either (eqb n 0) (spoken 5 refl) (either (eqb n 1) (spoken 5 refl) (spoken 5 refl))
 
-pub row-within : (k : ℕ) → Within (wordsToken (getD numberRows k (nothing .bytes))) 24
-unfolding formText upToDot numberRows numberNames everyBelow ascii
-row-within k =
-    by-test (ltb k 15) (λ e. record { most = leb→le _ 24 (below (λ (j : ℕ). leb (length (upToDot (getD numberRows j (nothing .bytes)))) 24) 15 rows k (ltb-true k 15 e)) })
-    (λ e. record { most = rw (List·getD-eq-default numberRows (nothing .bytes) {n = k} (omega (arith, long, ltb-false k 15 e))) (omega arith) })
-  where
-    rows : T (everyBelow (λ (j : ℕ). leb (length (upToDot (getD numberRows j (nothing .bytes)))) 24) 15)
-    rows = tt
+-- words of a table
+pub rows-within : (rows : List (List ℕ)) → T (everyBelow (λ (j : ℕ). leb (length (upToDot (getD rows j (nothing .bytes)))) 24) (length rows)) → (k : ℕ)
+    → Within (wordsToken (getD rows k (nothing .bytes))) 24
+unfolding formText upToDot
+rows-within rows all k =
+    by-test (ltb k (length rows))
+    (λ e. record { most = leb→le _ 24 (below (λ (j : ℕ). leb (length (upToDot (getD rows j (nothing .bytes)))) 24) (length rows) all k (ltb-true k (length rows) e)) })
+    (λ e. record { most = rw (List·getD-eq-default rows (nothing .bytes) {n = k} (ltb-false k (length rows) e)) (omega arith) })
 
-    long : length numberRows ≡ 15
-    long = refl
+pub row-within : (k : ℕ) → Within (wordsToken (getD numberRows k (nothing .bytes))) 24
+unfolding numberRows numberNames everyBelow upToDot ascii
+row-within k = rows-within numberRows tt k
+
+pub line-ends : {x y : Line} {n : ℕ} (b : Bool) → Ends x n → Ends y n → Ends (cond b x y) n
+line-ends true a b = a
+line-ends false a b = b
 
 module _ (c : Case) (fits : Fitting c) where
   number-total : Total (phrase (decimalToken (c .number) ∷ [])) 20
@@ -371,7 +375,7 @@ module _ (c : Case) (fits : Fitting c) where
       (code-short (c .answer))))
       (answer-short (c .before) (c .asked) (c .whole) (c .answer))
 
-  first-ends : Ends (firstLine c) 157
+  pub first-ends : Ends (firstLine c) 157
   unfolding firstLine registerPart
   first-ends =
       by-test (eqb (c .reach .bits) 0) (λ e. rw e (ends-up 157 (omega arith) head-ends))
@@ -435,16 +439,12 @@ module _ (c : Case) (fits : Fitting c) where
       ends-up 157 (omega arith)
       (part-ends 11 _ _ (omega arith) (omega arith) (more (spoken 5 refl) (ended refl)) (one-decimal 4 _ (omega (arith, fits .before))) (one-decimal 4 _ (omega (arith, fits .after))))
 
-  number-ends : (k : ℕ) → Ends (numberLine c k) 157
+  pub number-ends : (k : ℕ) → Ends (numberLine c k) 157
   unfolding numberLine numberLabel tokensText formText ascii upToDot
   number-ends k =
       ends-up 157 (omega arith)
       (part-ends 14 _ _ (omega arith) (omega arith) (more (row-within k) (more (spoken 1 refl) (ended refl)))
       (one-decimal 9 _ (omega (arith, fits .old k))) (one-decimal 9 _ (omega (arith, fits .new k))))
-
-  line-ends : (b : Bool) {x y : Line} → Ends x 157 → Ends y 157 → Ends (cond b x y) 157
-  line-ends true a b = a
-  line-ends false a b = b
 
   -- no line of a case reaches its last place
   pub none-full : (k : ℕ) → lineAt c k .end < lineMost
@@ -463,7 +463,7 @@ unfolding table
 table-long true = refl
 table-long false = refl
 
-numbers-low : (f : File) → T (sound f) → (k : ℕ) → getD (numbersIn f) k 0 < 2 ^ 32
+pub numbers-low : (f : File) → T (sound f) → (k : ℕ) → getD (numbersIn f) k 0 < 2 ^ 32
 unfolding numbersIn numbersOf
 numbers-low f s k =
     by-test (ltb k 15)
@@ -471,24 +471,22 @@ numbers-low f s k =
     omega (arith, number-in f s k small, read-below (2 ^ 31) 0 (table (wide f)) (f .registers) (table-bounded (wide f)) k (omega (arith, table-long (wide f), small))))
     (λ e. rw (List·getD-eq-default (numbersOf (readTiming f .timing)) 0 {n = k} (ltb-false k 15 e)) (omega arith))
 
-after-sound : (f : File) → T (sound f) → (item : Item) → T (sound (accessItem f item .file))
-unfolding accessItem
-after-sound f s (Whole r) = access-sound f s r
-after-sound f s (Fragment r) = s
-
 -- a record whose fields fit its bytes, a number of 64 bits and a sound file: no line drops a byte
-pub nothing-dropped : (number : ℕ) (f : File) (item : Item) → number < 2 ^ 64 → T (sound f) → recordIn item .kind < 2 ^ 8 → recordIn item .width < 2 ^ 8
-    → recordIn item .value < 2 ^ 32 → (k : ℕ) → lineAt (caseOf number f item) k .end < lineMost
-unfolding caseOf lastLine
-nothing-dropped number f item low s kind width value =
-    none-full (caseOf number f item)
-    (record {
-      number = low;
-      kind = kind;
-      width = width;
-      value = value;
-      before = omega (arith, line-sound f s);
-      after = omega (arith, line-sound (accessItem f item .file) (after-sound f s item));
-      old = numbers-low f s;
-      new = numbers-low (accessItem f item .file) (after-sound f s item);
-    })
+module _ (number : ℕ) (f : File) (item : Item) (low : number < 2 ^ 64) (s : T (sound f)) (kind : recordIn item .kind < 2 ^ 8)
+    (width : recordIn item .width < 2 ^ 8) (value : recordIn item .value < 2 ^ 32) where
+  pub case-fits : Fitting (caseOf number f item)
+  unfolding caseOf lastLine
+  case-fits =
+      record {
+        number = low;
+        kind = kind;
+        width = width;
+        value = value;
+        before = omega (arith, line-sound f s);
+        after = omega (arith, line-sound (accessItem f item .file) (item-sound f item s));
+        old = numbers-low f s;
+        new = numbers-low (accessItem f item .file) (item-sound f item s);
+      }
+
+  pub nothing-dropped : (k : ℕ) → lineAt (caseOf number f item) k .end < lineMost
+  nothing-dropped = none-full (caseOf number f item) case-fits
