@@ -2,9 +2,9 @@
 -- change a register the register with the bits in reach and what did change; below it stands a line for all else that is in reach, and for each timing
 -- number that has a bit there.
 -- Assumes nothing.
-use Prim.Native.Nat.{ℕ, zero, suc, _+_, _-_, _*_, _/_, _%_}
+use Prim.Native.Nat.{ℕ, _+_, _-_, _*_, _/_, _%_}
 use mathlib.Core.Bool.{Bool, true, false, cond, not, _||_}
-use mathlib.Core.List.{List, [], _∷_, _++_}
+use mathlib.Core.List.{List, [], _∷_}
 use lib.Dec.{eqb, ltb}
 use lib.ListN.{getD}
 use Rattle.file.specs.declared.answer.Answer.{Answer}
@@ -24,7 +24,7 @@ use Rattle.explaining.specs.declared.line.Line.{Line}
 use Rattle.explaining.specs.declared.token.Token.{Token}
 use Rattle.explaining.specs.declared.explain.Case.{Case}
 use Rattle.explaining.specs.Lines.{blank, columned, decimalToken, hexToken, linesOf, mostAnswer, nameToken, nothing, phrase, say, told}
-use Rattle.explaining.specs.Moves.{mayMove, numberCount, numberLabel, numbersIn}
+use Rattle.explaining.specs.Moves.{mayMove, numberLabel, numbersIn}
 use Rattle.explaining.specs.Words.{answerWords, found, itemWords, lookedWords}
 
 -- ---- what is told of a record

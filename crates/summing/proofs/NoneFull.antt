@@ -1,17 +1,15 @@
 -- No line of a summary drops a byte: with every token at its longest it ends before its last place. Assumes nothing.
-use Prim.Native.Nat.{ℕ, _+_, _-_, _^_, _≤_, _<_}
-use mathlib.Core.Bool.{Bool, true, false, cond, not}
+use Prim.Native.Nat.{ℕ, _-_, _^_, _≤_, _<_}
+use mathlib.Core.Bool.{not}
 use mathlib.Core.List.{List, [], _∷_}
-use mathlib.Core.Path.{_≡_, refl}
+use mathlib.Core.Path.{refl}
 use native.Mathlib.Omega.{arith}
 use borrow.Author.Tests.{ltb-false, ltb-true}
 use lib.Dec.{T, eqb, ltb}
-use lib.ListN.{getD}
 use Rattle.bits.specs.Every.{everyBelow}
 use Rattle.bits.proofs.Test.{by-test}
 use Rattle.file.specs.declared.registers.File.{File}
 use Rattle.file.specs.Readers.{ascii}
-use Rattle.file.specs.Registers.{registerCount}
 use Rattle.file.specs.Sound.{sound}
 use Rattle.access.specs.declared.record.Item.{Item}
 use Rattle.trace.specs.Run.{fileAfter}
@@ -20,7 +18,7 @@ use Rattle.explaining.specs.declared.line.Line.{Line}
 use Rattle.explaining.specs.declared.token.Token.{Token}
 use Rattle.access.specs.Access.{recordIn}
 use Rattle.explaining.specs.Explained.{bitDigits, caseOf}
-use Rattle.explaining.specs.Lines.{blank, decimalToken, formText, hexToken, lineMost, nameToken, nothing, phrase, say, tokensText, upToDot, wordsToken}
+use Rattle.explaining.specs.Lines.{formText, hexToken, lineMost, phrase, say, tokensText, upToDot}
 use Rattle.explaining.specs.Moves.{numberLabel}
 use Rattle.explaining.specs.Words.{codeNames, codeRows, codeWord, codeWords}
 use Rattle.explaining.proofs.NothingDropped.{Ends, Total, Within, case-fits, decimal-within, either, eithers, ended, ends-changed, ends-column, ends-told, ends-up, few-digits, first-ends, hex-within, line-ends, lock-short, more, name-within, nothing-yet, number-ends, numbers-low, one-decimal, row-within, rows-within, spoken, up}

@@ -1,5 +1,4 @@
 -- `closing::summary_line` meets its contract. Assumes nothing.
-use native.Mathlib.Omega.{arith}
 use borrow.Author.Needs.{needs}
 use borrow.Author.Tests.{le-ltb, lt-ltb}
 use Rattle.summing.specs.Closing.{summaryLine}
