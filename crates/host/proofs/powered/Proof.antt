@@ -5,19 +5,13 @@ use Rattle.image.specs.Parts.{chipIn}
 use Rattle.host.proofs.powered.Statement.{statement}
 use Rattle.host.proofs.powered.Tie as tie
 
-power-on-requires : tie.Need-power-on-requires
-power-on-requires c κs = search needs
-
 returns : tie.Need-returns
 unfolding chipIn
 returns c = rw (eq-eqb (c .before .before .args .chip) 0 (c .before .if1 .taken)) (c .power-on .ensures)
-
-power-on-requires-2 : tie.Need-power-on-requires-2
-power-on-requires-2 c κs = search needs
 
 returns-2 : tie.Need-returns-2
 unfolding chipIn
 returns-2 c = rw (ne-eqb (c .before .before .args .chip) 0 (c .before .if1 .left)) (c .power-on2 .ensures)
 
 pub powered-spec : {M : Type 1} → statement M
-powered-spec = tie.close (tie.spec power-on-requires returns power-on-requires-2 returns-2)
+powered-spec = tie.close (tie.spec (λ c κs. search needs) returns (λ c κs. search needs) returns-2)

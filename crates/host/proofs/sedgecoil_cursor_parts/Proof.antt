@@ -11,24 +11,9 @@ use borrow.Author.Needs.{needs}
 use Rattle.host.proofs.sedgecoil_cursor_parts.Statement.{statement}
 use Rattle.host.proofs.sedgecoil_cursor_parts.Tie as tie
 
-fits-requires : tie.Need-fits-requires
-fits-requires c κs = search needs
-
 returns : tie.Need-returns
 unfolding cursorRead
 returns c = shown-unfit _ _ _ _ (sym (c .before .fits2 .ensures) ∙ not-true _ (c .if1 .taken))
-
-held-requires : tie.Need-held-requires
-held-requires c κs = search needs
-
-read-geometry-requires : tie.Need-read-geometry-requires
-read-geometry-requires c κs = search needs
-
-code-requires : tie.Need-code-requires
-code-requires c κs = search needs
-
-cast-result : tie.Need-cast-result
-cast-result c = search needs
 
 returns-2 : tie.Need-returns-2
 unfolding cursorRead
@@ -40,9 +25,6 @@ cursor-numbers-requires : tie.Need-cursor-numbers-requires
 cursor-numbers-requires c κs =
     subst (λ (x : Geometry). x .cursor .address < 2 ^ 31) (sym (c .before .before .read-geometry .ensures)) (address-below (c .before .before .before .held .result))
 
-cast-result-2 : tie.Need-cast-result-2
-cast-result-2 c = search needs
-
 returns-3 : tie.Need-returns-3
 unfolding cursorRead
 returns-3 c =
@@ -53,13 +35,13 @@ pub sedgecoil-cursor-parts-spec : {M : Type 1} → statement M
 sedgecoil-cursor-parts-spec =
     tie.close
     (tie.spec
-    fits-requires
+    (λ c κs. search needs)
     returns
-    held-requires
-    read-geometry-requires
-    code-requires
-    cast-result
+    (λ c κs. search needs)
+    (λ c κs. search needs)
+    (λ c κs. search needs)
+    (λ c. search needs)
     returns-2
     cursor-numbers-requires
-    cast-result-2
+    (λ c. search needs)
     returns-3)

@@ -6,15 +6,6 @@ use Rattle.image.specs.declared.saving.Loaded.{Loaded}
 use Rattle.host.proofs.sedgecoil_load_parts.Statement.{statement}
 use Rattle.host.proofs.sedgecoil_load_parts.Tie as tie
 
-load-requires : tie.Need-load-requires
-load-requires c κs = search needs
-
-code-requires : tie.Need-code-requires
-code-requires c κs = search needs
-
-cast-result : tie.Need-cast-result
-cast-result c = search needs
-
 returns : tie.Need-returns
 returns c =
     let e = c .before .before .before .before .load .ensures in (
@@ -25,4 +16,4 @@ returns c =
     )
 
 pub sedgecoil-load-parts-spec : {M : Type 1} → statement M
-sedgecoil-load-parts-spec = tie.close (tie.spec load-requires code-requires cast-result returns)
+sedgecoil-load-parts-spec = tie.close (tie.spec (λ c κs. search needs) (λ c κs. search needs) (λ c. search needs) returns)

@@ -9,42 +9,12 @@ use borrow.Author.Needs.{needs}
 use Rattle.host.proofs.sedgecoil_note_parts.Statement.{statement}
 use Rattle.host.proofs.sedgecoil_note_parts.Tie as tie
 
-fits-requires : tie.Need-fits-requires
-fits-requires c κs = search needs
-
 returns : tie.Need-returns
 returns c = note-unfit _ _ _ _ (sym (c .before .fits2 .ensures) ∙ not-true _ (c .if1 .taken))
-
-record-in-requires : tie.Need-record-in-requires
-record-in-requires c κs = search needs
-
-held-requires : tie.Need-held-requires
-held-requires c κs = search needs
-
-reach-requires : tie.Need-reach-requires
-reach-requires c κs = search needs
-
-code-requires : tie.Need-code-requires
-code-requires c κs = search needs
-
-cast-result : tie.Need-cast-result
-cast-result c = search needs
 
 returns-2 : tie.Need-returns-2
 returns-2 c =
     note-told _ _ _ _ (sym (c .before .before .before .before .before .before .before .before .before .fits2 .ensures) ∙ not-false _ (c .before .before .before .before .before .before .before .before .if1 .left)) (c .before .before .reach .result) (c .before .before .reach .ensures ∙ ap₂ readReach (c .before .before .before .held .ensures) (c .before .before .before .before .record-in .ensures)) _ (c .before .code .ensures) _ (refusing _ _ _ (c .if2 .taken))
-
-set-in-requires : tie.Need-set-in-requires
-set-in-requires c κs = search needs
-
-note-requires : tie.Need-note-requires
-note-requires c κs = search needs
-
-set-bytes-requires : tie.Need-set-bytes-requires
-set-bytes-requires c κs = search needs
-
-cast-result-2 : tie.Need-cast-result-2
-cast-result-2 c = search needs
 
 returns-3 : tie.Need-returns-3
 returns-3 c =
@@ -55,16 +25,16 @@ pub sedgecoil-note-parts-spec : {M : Type 1} → statement M
 sedgecoil-note-parts-spec =
     tie.close
     (tie.spec
-    fits-requires
+    (λ c κs. search needs)
     returns
-    record-in-requires
-    held-requires
-    reach-requires
-    code-requires
-    cast-result
+    (λ c κs. search needs)
+    (λ c κs. search needs)
+    (λ c κs. search needs)
+    (λ c κs. search needs)
+    (λ c. search needs)
     returns-2
-    set-in-requires
-    note-requires
-    set-bytes-requires
-    cast-result-2
+    (λ c κs. search needs)
+    (λ c κs. search needs)
+    (λ c κs. search needs)
+    (λ c. search needs)
     returns-3)

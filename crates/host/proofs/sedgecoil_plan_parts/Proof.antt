@@ -6,26 +6,8 @@ use Rattle.host.proofs.Told.{plan-unfit, plan-told}
 use Rattle.host.proofs.sedgecoil_plan_parts.Statement.{statement}
 use Rattle.host.proofs.sedgecoil_plan_parts.Tie as tie
 
-fits-requires : tie.Need-fits-requires
-fits-requires c κs = search needs
-
 returns : tie.Need-returns
 returns c = plan-unfit _ _ _ (sym (c .before .fits2 .ensures) ∙ not-true _ (c .if1 .taken))
-
-held-requires : tie.Need-held-requires
-held-requires c κs = search needs
-
-plan-requires : tie.Need-plan-requires
-plan-requires c κs = search needs
-
-code-requires : tie.Need-code-requires
-code-requires c κs = search needs
-
-cast-result : tie.Need-cast-result
-cast-result c = search needs
-
-same-length : tie.Need-same-length
-same-length c = search needs
 
 returns-2 : tie.Need-returns-2
 returns-2 c =
@@ -35,11 +17,11 @@ pub sedgecoil-plan-parts-spec : {M : Type 1} → statement M
 sedgecoil-plan-parts-spec =
     tie.close
     (tie.spec
-    fits-requires
+    (λ c κs. search needs)
     returns
-    held-requires
-    plan-requires
-    code-requires
-    cast-result
-    same-length
+    (λ c κs. search needs)
+    (λ c κs. search needs)
+    (λ c κs. search needs)
+    (λ c. search needs)
+    (λ c. search needs)
     returns-2)

@@ -12,12 +12,6 @@ returns : tie.Need-returns
 unfolding poweredOn
 returns c = let e = lt-leb (c .before .args .chip) 1 (c .if1 .taken) in (rw e, rw e, rw e)
 
-powered-requires : tie.Need-powered-requires
-powered-requires c κs = search needs
-
-rest-of-requires : tie.Need-rest-of-requires
-rest-of-requires c κs = search needs
-
 returns-2 : tie.Need-returns-2
 unfolding poweredOn leaving
 returns-2 c =
@@ -26,4 +20,4 @@ returns-2 c =
 
 pub sedgecoil-power-on-parts-spec : {M : Type 1} → statement M
 sedgecoil-power-on-parts-spec =
-    tie.close (tie.spec returns powered-requires rest-of-requires returns-2)
+    tie.close (tie.spec returns (λ c κs. search needs) (λ c κs. search needs) returns-2)

@@ -10,39 +10,15 @@ use borrow.Author.Needs.{needs}
 use Rattle.host.proofs.sedgecoil_reach_parts.Statement.{statement}
 use Rattle.host.proofs.sedgecoil_reach_parts.Tie as tie
 
-fits-requires : tie.Need-fits-requires
-fits-requires c κs = search needs
-
 returns : tie.Need-returns
 unfolding reachTold
 returns c = shown-unfit _ _ _ _ (sym (c .before .fits2 .ensures) ∙ not-true _ (c .if1 .taken))
-
-record-in-requires : tie.Need-record-in-requires
-record-in-requires c κs = search needs
-
-held-requires : tie.Need-held-requires
-held-requires c κs = search needs
-
-reach-requires : tie.Need-reach-requires
-reach-requires c κs = search needs
-
-code-requires : tie.Need-code-requires
-code-requires c κs = search needs
-
-cast-result : tie.Need-cast-result
-cast-result c = search needs
 
 returns-2 : tie.Need-returns-2
 unfolding reachTold
 returns-2 c =
     let told = c .before .before .reach .ensures ∙ ap₂ readReach (c .before .before .before .held .ensures) (c .before .before .before .before .record-in .ensures) in
     shown-refused _ _ _ _ (sym (c .before .before .before .before .before .before .before .before .fits2 .ensures) ∙ not-false _ (c .before .before .before .before .before .before .before .if1 .left)) _ (c .before .code .ensures ∙ ap (λ (x : ReachRead). codeOf (x .answer)) told) (c .if2 .taken)
-
-reach-numbers-requires : tie.Need-reach-numbers-requires
-reach-numbers-requires c κs = search needs
-
-cast-result-2 : tie.Need-cast-result-2
-cast-result-2 c = search needs
 
 returns-3 : tie.Need-returns-3
 unfolding reachTold
@@ -54,14 +30,14 @@ pub sedgecoil-reach-parts-spec : {M : Type 1} → statement M
 sedgecoil-reach-parts-spec =
     tie.close
     (tie.spec
-    fits-requires
+    (λ c κs. search needs)
     returns
-    record-in-requires
-    held-requires
-    reach-requires
-    code-requires
-    cast-result
+    (λ c κs. search needs)
+    (λ c κs. search needs)
+    (λ c κs. search needs)
+    (λ c κs. search needs)
+    (λ c. search needs)
     returns-2
-    reach-numbers-requires
-    cast-result-2
+    (λ c κs. search needs)
+    (λ c. search needs)
     returns-3)

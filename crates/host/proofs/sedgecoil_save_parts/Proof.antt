@@ -6,22 +6,10 @@ use Rattle.image.specs.Bytes.{isSet}
 use Rattle.host.proofs.sedgecoil_save_parts.Statement.{statement}
 use Rattle.host.proofs.sedgecoil_save_parts.Tie as tie
 
-save-requires : tie.Need-save-requires
-save-requires c κs = search needs
-
-code-requires : tie.Need-code-requires
-code-requires c κs = search needs
-
-cast-result : tie.Need-cast-result
-cast-result c = search needs
-
-same-length : tie.Need-same-length
-same-length c = search needs
-
 returns : tie.Need-returns
 unfolding isSet
 returns c = (c .code .ensures ∙ ap codeOf (c .before .before .before .save .ensures .0), c .before .before .before .save .ensures .1)
 
 pub sedgecoil-save-parts-spec : {M : Type 1} → statement M
 sedgecoil-save-parts-spec =
-    tie.close (tie.spec save-requires code-requires cast-result same-length returns)
+    tie.close (tie.spec (λ c κs. search needs) (λ c κs. search needs) (λ c. search needs) (λ c. search needs) returns)

@@ -7,38 +7,11 @@ use Rattle.host.proofs.Told.{first-unfit, short-unfit, short-told}
 use Rattle.host.proofs.sedgecoil_short_plan_parts.Statement.{statement}
 use Rattle.host.proofs.sedgecoil_short_plan_parts.Tie as tie
 
-fits-requires : tie.Need-fits-requires
-fits-requires c κs = search needs
-
 returns : tie.Need-returns
 returns c = short-unfit _ _ _ _ _ _ (first-unfit _ _ (sym (c .before .fits2 .ensures) ∙ not-true _ (c .if1 .taken)))
 
-fits-requires-2 : tie.Need-fits-requires-2
-fits-requires-2 c κs = search needs
-
 returns-2 : tie.Need-returns-2
 returns-2 c = short-unfit _ _ _ _ _ _ (ap₂ _&&_ (sym (c .before .before .before .before .fits2 .ensures) ∙ not-false _ (c .before .before .before .if1 .left)) (sym (c .before .fits3 .ensures) ∙ not-true _ (c .if2 .taken)))
-
-held-requires : tie.Need-held-requires
-held-requires c κs = search needs
-
-held-requires-2 : tie.Need-held-requires-2
-held-requires-2 c κs = search needs
-
-set-in-requires : tie.Need-set-in-requires
-set-in-requires c κs = search needs
-
-short-plan-requires : tie.Need-short-plan-requires
-short-plan-requires c κs = search needs
-
-code-requires : tie.Need-code-requires
-code-requires c κs = search needs
-
-cast-result : tie.Need-cast-result
-cast-result c = search needs
-
-same-length : tie.Need-same-length
-same-length c = search needs
 
 returns-3 : tie.Need-returns-3
 returns-3 c =
@@ -50,15 +23,15 @@ pub sedgecoil-short-plan-parts-spec : {M : Type 1} → statement M
 sedgecoil-short-plan-parts-spec =
     tie.close
     (tie.spec
-    fits-requires
+    (λ c κs. search needs)
     returns
-    fits-requires-2
+    (λ c κs. search needs)
     returns-2
-    held-requires
-    held-requires-2
-    set-in-requires
-    short-plan-requires
-    code-requires
-    cast-result
-    same-length
+    (λ c κs. search needs)
+    (λ c κs. search needs)
+    (λ c κs. search needs)
+    (λ c κs. search needs)
+    (λ c κs. search needs)
+    (λ c. search needs)
+    (λ c. search needs)
     returns-3)

@@ -6,26 +6,8 @@ use borrow.Author.Needs.{needs}
 use Rattle.host.proofs.sedgecoil_timing_write_parts.Statement.{statement}
 use Rattle.host.proofs.sedgecoil_timing_write_parts.Tie as tie
 
-fits-requires : tie.Need-fits-requires
-fits-requires c κs = search needs
-
 returns : tie.Need-returns
 returns c = timing-unfit _ _ _ (sym (c .before .fits2 .ensures) ∙ not-true _ (c .if1 .taken))
-
-held-requires : tie.Need-held-requires
-held-requires c κs = search needs
-
-timing-of-requires : tie.Need-timing-of-requires
-timing-of-requires c κs = search needs
-
-write-timing-requires : tie.Need-write-timing-requires
-write-timing-requires c κs = search needs
-
-code-requires : tie.Need-code-requires
-code-requires c κs = search needs
-
-cast-result : tie.Need-cast-result
-cast-result c = search needs
 
 returns-2 : tie.Need-returns-2
 returns-2 c = timing-left _ _ _ (sym (c .before .before .before .before .before .before .before .before .before .before .fits2 .ensures) ∙ not-false _ (c .before .before .before .before .before .before .before .before .before .if1 .left)) (c .before .before .before .before .before .held .result) (c .before .before .before .before .before .held .ensures) (c .before .before .before .before .timing-of .result) (c .before .before .before .before .timing-of .ensures) (c .before .before .before .write-timing .result) (c .before .before .before .write-timing .ensures) _ (c .code .ensures)
@@ -34,11 +16,11 @@ pub sedgecoil-timing-write-parts-spec : {M : Type 1} → statement M
 sedgecoil-timing-write-parts-spec =
     tie.close
     (tie.spec
-    fits-requires
+    (λ c κs. search needs)
     returns
-    held-requires
-    timing-of-requires
-    write-timing-requires
-    code-requires
-    cast-result
+    (λ c κs. search needs)
+    (λ c κs. search needs)
+    (λ c κs. search needs)
+    (λ c κs. search needs)
+    (λ c. search needs)
     returns-2)

@@ -22,9 +22,6 @@ abbrev μ-loop : tie.MeasureT-loop
 loop-holds : tie.Need-loop-holds Inv-loop μ-loop
 loop-holds c = λ one below above. absurd (let never : ⊥ = omega (arith, below, above) in never)
 
-element-copy-out-cell : tie.Need-element-copy-out-cell Inv-loop μ-loop
-element-copy-out-cell c = search needs
-
 returns : tie.Need-returns Inv-loop μ-loop
 returns c =
     let start = c .before .before .before .before .before in
@@ -58,4 +55,4 @@ returns-2 c =
     (λ e. absurd (true≢false e), λ one below. by-test (ltb wanted end) (λ e. rw e (sym (c .before .loop .inv one below (omega (arith, ltb-true wanted end e, c .loop-test .left))))) (λ e. rw e))
 
 pub pick-spec : {M : Type 1} → statement M
-pick-spec = tie.close (tie.spec Inv-loop μ-loop loop-holds element-copy-out-cell returns add-at loop-less loop-again returns-2)
+pick-spec = tie.close (tie.spec Inv-loop μ-loop loop-holds (λ c. search needs) returns add-at loop-less loop-again returns-2)

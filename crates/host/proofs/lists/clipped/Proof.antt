@@ -5,9 +5,6 @@ use borrow.Author.Needs.{needs}
 use Rattle.host.proofs.lists.clipped.Statement.{statement}
 use Rattle.host.proofs.lists.clipped.Tie as tie
 
-cast-result : tie.Need-cast-result
-cast-result c = search needs
-
 returns : tie.Need-returns
 unfolding clipped
 returns c = omega (arith, c .if1 .taken)
@@ -17,4 +14,4 @@ unfolding clipped
 returns-2 c = omega (arith, c .if1 .left)
 
 pub clipped-spec : {M : Type 1} → statement M
-clipped-spec = tie.close (tie.spec cast-result returns returns-2)
+clipped-spec = tie.close (tie.spec (λ c. search needs) returns returns-2)

@@ -12,33 +12,6 @@ use borrow.Author.Needs.{needs}
 use Rattle.host.proofs.lists.cursor_numbers.Statement.{statement}
 use Rattle.host.proofs.lists.cursor_numbers.Tie as tie
 
-number-of-requires : tie.Need-number-of-requires
-number-of-requires c κs = search needs
-
-cast-t3 : tie.Need-cast-t3
-cast-t3 c = search needs
-
-wide-signed-requires : tie.Need-wide-signed-requires
-wide-signed-requires c κs = search needs
-
-wide-signed-requires-2 : tie.Need-wide-signed-requires-2
-wide-signed-requires-2 c κs = search needs
-
-wide-requires : tie.Need-wide-requires
-wide-requires c κs = search needs
-
-cast-t7 : tie.Need-cast-t7
-cast-t7 c = search needs
-
-wide-requires-2 : tie.Need-wide-requires-2
-wide-requires-2 c κs = search needs
-
-cast-t9 : tie.Need-cast-t9
-cast-t9 c = search needs
-
-cast-t10 : tie.Need-cast-t10
-cast-t10 c = search needs
-
 small : (n m : ℕ) → n ≡ m → n < 2 ^ 31 → toZ w32 n ≡ pos m
 small n m e h = toZ-pos w32 n h ∙ ap pos e
 
@@ -65,13 +38,13 @@ pub cursor-numbers-spec : {M : Type 1} → statement M
 cursor-numbers-spec =
     tie.close
     (tie.spec
-    number-of-requires
-    cast-t3
-    wide-signed-requires
-    wide-signed-requires-2
-    wide-requires
-    cast-t7
-    wide-requires-2
-    cast-t9
-    cast-t10
+    (λ c κs. search needs)
+    (λ c. search needs)
+    (λ c κs. search needs)
+    (λ c κs. search needs)
+    (λ c κs. search needs)
+    (λ c. search needs)
+    (λ c κs. search needs)
+    (λ c. search needs)
+    (λ c. search needs)
     returns)

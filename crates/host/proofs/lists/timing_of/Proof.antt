@@ -6,93 +6,6 @@ use borrow.Author.Needs.{needs}
 use Rattle.host.proofs.lists.timing_of.Statement.{statement}
 use Rattle.host.proofs.lists.timing_of.Tie as tie
 
-array-read-clipped : tie.Need-array-read-clipped
-array-read-clipped c = search needs
-
-clipped-requires : tie.Need-clipped-requires
-clipped-requires c κs = search needs
-
-array-read-clipped-2 : tie.Need-array-read-clipped-2
-array-read-clipped-2 c = search needs
-
-clipped-requires-2 : tie.Need-clipped-requires-2
-clipped-requires-2 c κs = search needs
-
-array-read-clipped-3 : tie.Need-array-read-clipped-3
-array-read-clipped-3 c = search needs
-
-clipped-requires-3 : tie.Need-clipped-requires-3
-clipped-requires-3 c κs = search needs
-
-array-read-clipped-4 : tie.Need-array-read-clipped-4
-array-read-clipped-4 c = search needs
-
-clipped-requires-4 : tie.Need-clipped-requires-4
-clipped-requires-4 c κs = search needs
-
-array-read-clipped-5 : tie.Need-array-read-clipped-5
-array-read-clipped-5 c = search needs
-
-clipped-requires-5 : tie.Need-clipped-requires-5
-clipped-requires-5 c κs = search needs
-
-array-read-clipped-6 : tie.Need-array-read-clipped-6
-array-read-clipped-6 c = search needs
-
-clipped-requires-6 : tie.Need-clipped-requires-6
-clipped-requires-6 c κs = search needs
-
-array-read-clipped-7 : tie.Need-array-read-clipped-7
-array-read-clipped-7 c = search needs
-
-clipped-requires-7 : tie.Need-clipped-requires-7
-clipped-requires-7 c κs = search needs
-
-array-read-clipped-8 : tie.Need-array-read-clipped-8
-array-read-clipped-8 c = search needs
-
-clipped-requires-8 : tie.Need-clipped-requires-8
-clipped-requires-8 c κs = search needs
-
-array-read-clipped-9 : tie.Need-array-read-clipped-9
-array-read-clipped-9 c = search needs
-
-clipped-requires-9 : tie.Need-clipped-requires-9
-clipped-requires-9 c κs = search needs
-
-array-read-clipped-10 : tie.Need-array-read-clipped-10
-array-read-clipped-10 c = search needs
-
-clipped-requires-10 : tie.Need-clipped-requires-10
-clipped-requires-10 c κs = search needs
-
-array-read-clipped-11 : tie.Need-array-read-clipped-11
-array-read-clipped-11 c = search needs
-
-clipped-requires-11 : tie.Need-clipped-requires-11
-clipped-requires-11 c κs = search needs
-
-array-read-clipped-12 : tie.Need-array-read-clipped-12
-array-read-clipped-12 c = search needs
-
-clipped-requires-12 : tie.Need-clipped-requires-12
-clipped-requires-12 c κs = search needs
-
-array-read-clipped-13 : tie.Need-array-read-clipped-13
-array-read-clipped-13 c = search needs
-
-clipped-requires-13 : tie.Need-clipped-requires-13
-clipped-requires-13 c κs = search needs
-
-array-read-clipped-14 : tie.Need-array-read-clipped-14
-array-read-clipped-14 c = search needs
-
-clipped-requires-14 : tie.Need-clipped-requires-14
-clipped-requires-14 c κs = search needs
-
-array-read-t74 : tie.Need-array-read-t74
-array-read-t74 c = search needs
-
 returns : tie.Need-returns
 unfolding timingClipped clippedFirst timingOf numbersOf
 returns c =
@@ -118,33 +31,33 @@ pub timing-of-spec : {M : Type 1} → statement M
 timing-of-spec =
     tie.close
     (tie.spec
-    array-read-clipped
-    clipped-requires
-    array-read-clipped-2
-    clipped-requires-2
-    array-read-clipped-3
-    clipped-requires-3
-    array-read-clipped-4
-    clipped-requires-4
-    array-read-clipped-5
-    clipped-requires-5
-    array-read-clipped-6
-    clipped-requires-6
-    array-read-clipped-7
-    clipped-requires-7
-    array-read-clipped-8
-    clipped-requires-8
-    array-read-clipped-9
-    clipped-requires-9
-    array-read-clipped-10
-    clipped-requires-10
-    array-read-clipped-11
-    clipped-requires-11
-    array-read-clipped-12
-    clipped-requires-12
-    array-read-clipped-13
-    clipped-requires-13
-    array-read-clipped-14
-    clipped-requires-14
-    array-read-t74
+    (λ c. search needs)
+    (λ c κs. search needs)
+    (λ c. search needs)
+    (λ c κs. search needs)
+    (λ c. search needs)
+    (λ c κs. search needs)
+    (λ c. search needs)
+    (λ c κs. search needs)
+    (λ c. search needs)
+    (λ c κs. search needs)
+    (λ c. search needs)
+    (λ c κs. search needs)
+    (λ c. search needs)
+    (λ c κs. search needs)
+    (λ c. search needs)
+    (λ c κs. search needs)
+    (λ c. search needs)
+    (λ c κs. search needs)
+    (λ c. search needs)
+    (λ c κs. search needs)
+    (λ c. search needs)
+    (λ c κs. search needs)
+    (λ c. search needs)
+    (λ c κs. search needs)
+    (λ c. search needs)
+    (λ c κs. search needs)
+    (λ c. search needs)
+    (λ c κs. search needs)
+    (λ c. search needs)
     returns)

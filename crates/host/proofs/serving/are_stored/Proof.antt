@@ -34,32 +34,8 @@ module _ (c : tie.After-stored Inv-loop μ-loop) where
   values : length registers ≡ registerCount
   values = c .before .before .pre
 
-stored-requires : tie.Need-stored-requires Inv-loop μ-loop
-stored-requires c κs = search needs
-
 loop-holds : tie.Need-loop-holds Inv-loop μ-loop
 loop-holds c = (omega arith, refl)
-
-mul-stray : tie.Need-mul-stray Inv-loop μ-loop
-mul-stray c = search needs
-
-array-read-stray : tie.Need-array-read-stray Inv-loop μ-loop
-array-read-stray c = search needs
-
-mul-stray-2 : tie.Need-mul-stray-2 Inv-loop μ-loop
-mul-stray-2 c = search needs
-
-shared-slice-read-stray : tie.Need-shared-slice-read-stray Inv-loop μ-loop
-shared-slice-read-stray c = search needs
-
-stray-requires : tie.Need-stray-requires Inv-loop μ-loop
-stray-requires c κs = search needs
-
-add-i : tie.Need-add-i Inv-loop μ-loop
-add-i c = search needs
-
-loop-less : tie.Need-loop-less Inv-loop μ-loop
-loop-less c = search needs
 
 loop-again : tie.Need-loop-again Inv-loop μ-loop
 loop-again c =
@@ -83,4 +59,4 @@ returns c =
 pub are-stored-spec : {M : Type 1} → statement M
 are-stored-spec =
     tie.close
-    (tie.spec Inv-loop μ-loop stored-requires loop-holds mul-stray array-read-stray mul-stray-2 shared-slice-read-stray stray-requires add-i loop-less loop-again returns)
+    (tie.spec Inv-loop μ-loop (λ c κs. search needs) loop-holds (λ c. search needs) (λ c. search needs) (λ c. search needs) (λ c. search needs) (λ c κs. search needs) (λ c. search needs) (λ c. search needs) loop-again returns)

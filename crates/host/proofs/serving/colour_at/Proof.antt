@@ -5,21 +5,6 @@ use Rattle.host.specs.Left.{colourAt}
 use Rattle.host.proofs.serving.colour_at.Statement.{statement}
 use Rattle.host.proofs.serving.colour_at.Tie as tie
 
-shared-slice-read-t4 : tie.Need-shared-slice-read-t4
-shared-slice-read-t4 c = search needs
-
-add-t5 : tie.Need-add-t5
-add-t5 c = search needs
-
-shared-slice-read-t7 : tie.Need-shared-slice-read-t7
-shared-slice-read-t7 c = search needs
-
-add-t8 : tie.Need-add-t8
-add-t8 c = search needs
-
-shared-slice-read-t10 : tie.Need-shared-slice-read-t10
-shared-slice-read-t10 c = search needs
-
 returns : tie.Need-returns
 unfolding colourAt
 returns c = refl
@@ -28,9 +13,9 @@ pub colour-at-spec : {M : Type 1} → statement M
 colour-at-spec =
     tie.close
     (tie.spec
-    shared-slice-read-t4
-    add-t5
-    shared-slice-read-t7
-    add-t8
-    shared-slice-read-t10
+    (λ c. search needs)
+    (λ c. search needs)
+    (λ c. search needs)
+    (λ c. search needs)
+    (λ c. search needs)
     returns)

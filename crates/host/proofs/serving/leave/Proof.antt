@@ -11,27 +11,9 @@ use Rattle.host.specs.Left.{restLeft}
 use Rattle.host.proofs.serving.leave.Statement.{statement}
 use Rattle.host.proofs.serving.leave.Tie as tie
 
-put-state-requires : tie.Need-put-state-requires
-put-state-requires c κs = search needs
-
-same-length : tie.Need-same-length
-same-length c = search needs
-
 returns : tie.Need-returns
 unfolding restLeft
 returns c = rw (not-true (c .before .before .before .before .before .before .before .args .served .paints) (c .before .before .before .before .if1 .taken)) (c .before .before .put-state .ensures)
-
-painted-place-requires : tie.Need-painted-place-requires
-painted-place-requires c κs = search needs
-
-paint-requires : tie.Need-paint-requires
-paint-requires c κs = search needs
-
-put-state-requires-2 : tie.Need-put-state-requires-2
-put-state-requires-2 c κs = search needs
-
-same-length-2 : tie.Need-same-length-2
-same-length-2 c = search needs
 
 returns-2 : tie.Need-returns-2
 unfolding restLeft
@@ -47,11 +29,11 @@ pub leave-spec : {M : Type 1} → statement M
 leave-spec =
     tie.close
     (tie.spec
-    put-state-requires
-    same-length
+    (λ c κs. search needs)
+    (λ c. search needs)
     returns
-    painted-place-requires
-    paint-requires
-    put-state-requires-2
-    same-length-2
+    (λ c κs. search needs)
+    (λ c κs. search needs)
+    (λ c κs. search needs)
+    (λ c. search needs)
     returns-2)

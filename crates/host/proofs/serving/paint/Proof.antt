@@ -8,23 +8,11 @@ use Rattle.image.specs.Bytes.{colourBytes}
 use Rattle.host.proofs.serving.paint.Statement.{statement}
 use Rattle.host.proofs.serving.paint.Tie as tie
 
-slice-write-rest : tie.Need-slice-write-rest
-slice-write-rest c = search needs
-
-add-rest : tie.Need-add-rest
-add-rest c = search needs
-
 slice-write-rest-2 : tie.Need-slice-write-rest-2
 slice-write-rest-2 c = simp length-set (omega (arith, c .pre))
 
-add-rest-2 : tie.Need-add-rest-2
-add-rest-2 c = search needs
-
 slice-write-rest-3 : tie.Need-slice-write-rest-3
 slice-write-rest-3 c = simp length-set (omega (arith, c .pre))
-
-same-length : tie.Need-same-length
-same-length c = search needs
 
 returns : tie.Need-returns
 unfolding colourBytes
@@ -38,10 +26,10 @@ pub paint-spec : {M : Type 1} → statement M
 paint-spec =
     tie.close
     (tie.spec
-    slice-write-rest
-    add-rest
+    (λ c. search needs)
+    (λ c. search needs)
     slice-write-rest-2
-    add-rest-2
+    (λ c. search needs)
     slice-write-rest-3
-    same-length
+    (λ c. search needs)
     returns)

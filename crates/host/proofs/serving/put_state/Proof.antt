@@ -9,65 +9,32 @@ use Rattle.image.specs.Parts.{stateBytes}
 use Rattle.host.proofs.serving.put_state.Statement.{statement}
 use Rattle.host.proofs.serving.put_state.Tie as tie
 
-state-bytes-requires : tie.Need-state-bytes-requires
-state-bytes-requires c κs = search needs
-
-array-read-rest : tie.Need-array-read-rest
-array-read-rest c = search needs
-
 slice-write-rest : tie.Need-slice-write-rest
 slice-write-rest c = omega (arith, c .before .before .pre)
-
-array-read-rest-2 : tie.Need-array-read-rest-2
-array-read-rest-2 c = search needs
 
 slice-write-rest-2 : tie.Need-slice-write-rest-2
 slice-write-rest-2 c = simp length-set (omega (arith, c .before .before .pre))
 
-array-read-rest-3 : tie.Need-array-read-rest-3
-array-read-rest-3 c = search needs
-
 slice-write-rest-3 : tie.Need-slice-write-rest-3
 slice-write-rest-3 c = simp length-set (omega (arith, c .before .before .pre))
-
-array-read-rest-4 : tie.Need-array-read-rest-4
-array-read-rest-4 c = search needs
 
 slice-write-rest-4 : tie.Need-slice-write-rest-4
 slice-write-rest-4 c = simp length-set (omega (arith, c .before .before .pre))
 
-array-read-rest-5 : tie.Need-array-read-rest-5
-array-read-rest-5 c = search needs
-
 slice-write-rest-5 : tie.Need-slice-write-rest-5
 slice-write-rest-5 c = simp length-set (omega (arith, c .before .before .pre))
-
-array-read-rest-6 : tie.Need-array-read-rest-6
-array-read-rest-6 c = search needs
 
 slice-write-rest-6 : tie.Need-slice-write-rest-6
 slice-write-rest-6 c = simp length-set (omega (arith, c .before .before .pre))
 
-array-read-rest-7 : tie.Need-array-read-rest-7
-array-read-rest-7 c = search needs
-
 slice-write-rest-7 : tie.Need-slice-write-rest-7
 slice-write-rest-7 c = simp length-set (omega (arith, c .before .before .pre))
-
-array-read-rest-8 : tie.Need-array-read-rest-8
-array-read-rest-8 c = search needs
 
 slice-write-rest-8 : tie.Need-slice-write-rest-8
 slice-write-rest-8 c = simp length-set (omega (arith, c .before .before .pre))
 
-array-read-rest-9 : tie.Need-array-read-rest-9
-array-read-rest-9 c = search needs
-
 slice-write-rest-9 : tie.Need-slice-write-rest-9
 slice-write-rest-9 c = simp length-set (omega (arith, c .before .before .pre))
-
-array-read-rest-10 : tie.Need-array-read-rest-10
-array-read-rest-10 c = search needs
 
 slice-write-rest-10 : tie.Need-slice-write-rest-10
 slice-write-rest-10 c = simp length-set (omega (arith, c .before .before .pre))
@@ -83,26 +50,26 @@ pub put-state-spec : {M : Type 1} → statement M
 put-state-spec =
     tie.close
     (tie.spec
-    state-bytes-requires
-    array-read-rest
+    (λ c κs. search needs)
+    (λ c. search needs)
     slice-write-rest
-    array-read-rest-2
+    (λ c. search needs)
     slice-write-rest-2
-    array-read-rest-3
+    (λ c. search needs)
     slice-write-rest-3
-    array-read-rest-4
+    (λ c. search needs)
     slice-write-rest-4
-    array-read-rest-5
+    (λ c. search needs)
     slice-write-rest-5
-    array-read-rest-6
+    (λ c. search needs)
     slice-write-rest-6
-    array-read-rest-7
+    (λ c. search needs)
     slice-write-rest-7
-    array-read-rest-8
+    (λ c. search needs)
     slice-write-rest-8
-    array-read-rest-9
+    (λ c. search needs)
     slice-write-rest-9
-    array-read-rest-10
+    (λ c. search needs)
     slice-write-rest-10
     same-length
     returns)

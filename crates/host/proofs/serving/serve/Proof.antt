@@ -10,21 +10,6 @@ use Rattle.trace.proofs.ServedAccess.{serves}
 use Rattle.host.proofs.serving.serve.Statement.{statement}
 use Rattle.host.proofs.serving.serve.Tie as tie
 
-cells-requires : tie.Need-cells-requires
-cells-requires c κs = search needs
-
-stored-requires : tie.Need-stored-requires
-stored-requires c κs = search needs
-
-decide-requires : tie.Need-decide-requires
-decide-requires c κs = search needs
-
-answered-requires : tie.Need-answered-requires
-answered-requires c κs = search needs
-
-put-effect-requires : tie.Need-put-effect-requires
-put-effect-requires c κs = search needs
-
 returns : tie.Need-returns
 unfolding seen
 returns c =
@@ -42,9 +27,9 @@ pub serve-spec : {M : Type 1} → statement M
 serve-spec =
     tie.close
     (tie.spec
-    cells-requires
-    stored-requires
-    decide-requires
-    answered-requires
-    put-effect-requires
+    (λ c κs. search needs)
+    (λ c κs. search needs)
+    (λ c κs. search needs)
+    (λ c κs. search needs)
+    (λ c κs. search needs)
     returns)

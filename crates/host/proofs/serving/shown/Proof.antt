@@ -10,24 +10,6 @@ use Rattle.host.specs.Left.{colourAt}
 use Rattle.host.proofs.serving.shown.Statement.{statement}
 use Rattle.host.proofs.serving.shown.Tie as tie
 
-is-in-bank-requires : tie.Need-is-in-bank-requires
-is-in-bank-requires c κs = search needs
-
-bank-place-requires : tie.Need-bank-place-requires
-bank-place-requires c κs = search needs
-
-colour-at-requires : tie.Need-colour-at-requires
-colour-at-requires c κs = search needs
-
-palette-place-requires : tie.Need-palette-place-requires
-palette-place-requires c κs = search needs
-
-colour-at-requires-2 : tie.Need-colour-at-requires-2
-colour-at-requires-2 c κs = search needs
-
-component-requires : tie.Need-component-requires
-component-requires c κs = search needs
-
 returns : tie.Need-returns
 unfolding inBank register seen
 returns c =
@@ -41,10 +23,10 @@ pub shown-spec : {M : Type 1} → statement M
 shown-spec =
     tie.close
     (tie.spec
-    is-in-bank-requires
-    bank-place-requires
-    colour-at-requires
-    palette-place-requires
-    colour-at-requires-2
-    component-requires
+    (λ c κs. search needs)
+    (λ c κs. search needs)
+    (λ c κs. search needs)
+    (λ c κs. search needs)
+    (λ c κs. search needs)
+    (λ c κs. search needs)
     returns)

@@ -5,15 +5,9 @@ use Rattle.host.specs.Numbers.{told}
 use Rattle.host.proofs.serving.told.Statement.{statement}
 use Rattle.host.proofs.serving.told.Tie as tie
 
-mul-result : tie.Need-mul-result
-mul-result c = search needs
-
-add-result : tie.Need-add-result
-add-result c = search needs
-
 returns : tie.Need-returns
 unfolding told
 returns c = refl
 
 pub told-spec : {M : Type 1} → statement M
-told-spec = tie.close (tie.spec mul-result add-result returns)
+told-spec = tie.close (tie.spec (λ c. search needs) (λ c. search needs) returns)

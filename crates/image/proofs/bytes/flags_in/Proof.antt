@@ -24,18 +24,6 @@ shared-slice-read-is-set : tie.Need-shared-slice-read-is-set Inv-loop μ-loop
 shared-slice-read-is-set c =
     let loop = c .before .before in omega (arith, loop .loop .inv .0 .size, c .before .loop-test .taken, loop .before .before .before .pre)
 
-is-set-requires : tie.Need-is-set-requires Inv-loop μ-loop
-is-set-requires c κs = search needs
-
-slice-write-flags : tie.Need-slice-write-flags Inv-loop μ-loop
-slice-write-flags c = search needs
-
-add-k : tie.Need-add-k Inv-loop μ-loop
-add-k c = search needs
-
-loop-less : tie.Need-loop-less Inv-loop μ-loop
-loop-less c = search needs
-
 loop-again : tie.Need-loop-again Inv-loop μ-loop
 loop-again c =
     let loop = c .before .before .before in
@@ -63,10 +51,10 @@ flags-in-spec =
     μ-loop
     loop-holds
     shared-slice-read-is-set
-    is-set-requires
-    slice-write-flags
-    add-k
-    loop-less
+    (λ c κs. search needs)
+    (λ c. search needs)
+    (λ c. search needs)
+    (λ c. search needs)
     loop-again
     same-length
     returns)

@@ -19,24 +19,9 @@ abbrev μ-loop : tie.MeasureT-loop
 loop-holds : tie.Need-loop-holds Inv-loop μ-loop
 loop-holds c = (begun, omega arith, omega arith)
 
-shared-slice-read-flag-byte : tie.Need-shared-slice-read-flag-byte Inv-loop μ-loop
-shared-slice-read-flag-byte c = search needs
-
-flag-byte-requires : tie.Need-flag-byte-requires Inv-loop μ-loop
-flag-byte-requires c κs = search needs
-
 slice-write-buffer : tie.Need-slice-write-buffer Inv-loop μ-loop
 slice-write-buffer c =
     let loop = c .before .before .before in omega (arith, loop .loop .inv .0 .size, loop .loop .inv .1, c .before .before .loop-test .taken, loop .before .before .before .pre)
-
-add-k : tie.Need-add-k Inv-loop μ-loop
-add-k c = search needs
-
-add-to : tie.Need-add-to Inv-loop μ-loop
-add-to c = search needs
-
-loop-less : tie.Need-loop-less Inv-loop μ-loop
-loop-less c = search needs
 
 loop-again : tie.Need-loop-again Inv-loop μ-loop
 loop-again c =
@@ -62,12 +47,12 @@ put-flags-spec =
     Inv-loop
     μ-loop
     loop-holds
-    shared-slice-read-flag-byte
-    flag-byte-requires
+    (λ c. search needs)
+    (λ c κs. search needs)
     slice-write-buffer
-    add-k
-    add-to
-    loop-less
+    (λ c. search needs)
+    (λ c. search needs)
+    (λ c. search needs)
     loop-again
     same-length
     returns)

@@ -18,38 +18,17 @@ abbrev μ-loop : tie.MeasureT-loop
 loop-holds : tie.Need-loop-holds Inv-loop μ-loop
 loop-holds c = (begun, omega arith, omega arith)
 
-mul-colour : tie.Need-mul-colour Inv-loop μ-loop
-mul-colour c = search needs
-
-array-copy-out-colour : tie.Need-array-copy-out-colour Inv-loop μ-loop
-array-copy-out-colour c = search needs
-
 slice-write-buffer : tie.Need-slice-write-buffer Inv-loop μ-loop
 slice-write-buffer c =
     let loop = c .before .before in omega (arith, loop .loop .inv .0 .size, loop .loop .inv .1, c .before .loop-test .taken, loop .before .pre)
-
-add-buffer : tie.Need-add-buffer Inv-loop μ-loop
-add-buffer c = search needs
 
 slice-write-buffer-2 : tie.Need-slice-write-buffer-2 Inv-loop μ-loop
 slice-write-buffer-2 c =
     let loop = c .before .before in simp length-set (omega (arith, loop .loop .inv .0 .size, loop .loop .inv .1, c .before .loop-test .taken, loop .before .pre))
 
-add-buffer-2 : tie.Need-add-buffer-2 Inv-loop μ-loop
-add-buffer-2 c = search needs
-
 slice-write-buffer-3 : tie.Need-slice-write-buffer-3 Inv-loop μ-loop
 slice-write-buffer-3 c =
     let loop = c .before .before in simp length-set (omega (arith, loop .loop .inv .0 .size, loop .loop .inv .1, c .before .loop-test .taken, loop .before .pre))
-
-add-k : tie.Need-add-k Inv-loop μ-loop
-add-k c = search needs
-
-add-to : tie.Need-add-to Inv-loop μ-loop
-add-to c = search needs
-
-loop-less : tie.Need-loop-less Inv-loop μ-loop
-loop-less c = search needs
 
 loop-again : tie.Need-loop-again Inv-loop μ-loop
 loop-again c =
@@ -76,16 +55,16 @@ put-palette-spec =
     Inv-loop
     μ-loop
     loop-holds
-    mul-colour
-    array-copy-out-colour
+    (λ c. search needs)
+    (λ c. search needs)
     slice-write-buffer
-    add-buffer
+    (λ c. search needs)
     slice-write-buffer-2
-    add-buffer-2
+    (λ c. search needs)
     slice-write-buffer-3
-    add-k
-    add-to
-    loop-less
+    (λ c. search needs)
+    (λ c. search needs)
+    (λ c. search needs)
     loop-again
     same-length
     returns)

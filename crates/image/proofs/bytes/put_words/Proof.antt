@@ -18,15 +18,6 @@ abbrev μ-loop : tie.MeasureT-loop
 loop-holds : tie.Need-loop-holds Inv-loop μ-loop
 loop-holds c = (begun, omega arith, omega arith)
 
-mul-word : tie.Need-mul-word Inv-loop μ-loop
-mul-word c = search needs
-
-shared-slice-read-word : tie.Need-shared-slice-read-word Inv-loop μ-loop
-shared-slice-read-word c = search needs
-
-cast-buffer : tie.Need-cast-buffer Inv-loop μ-loop
-cast-buffer c = search needs
-
 slice-write-buffer : tie.Need-slice-write-buffer Inv-loop μ-loop
 slice-write-buffer c =
     let loop = c .before .before in omega (arith, loop .loop .inv .0 .size, loop .loop .inv .1, c .before .loop-test .taken, loop .before .pre)
@@ -34,21 +25,9 @@ slice-write-buffer c =
 cast-buffer-2 : tie.Need-cast-buffer-2 Inv-loop μ-loop
 cast-buffer-2 c = record { fits = omega (arith, c .shared-slice-known .given (c .before .before .loop .k)) }
 
-add-buffer : tie.Need-add-buffer Inv-loop μ-loop
-add-buffer c = search needs
-
 slice-write-buffer-2 : tie.Need-slice-write-buffer-2 Inv-loop μ-loop
 slice-write-buffer-2 c =
     let loop = c .before .before in simp length-set (omega (arith, loop .loop .inv .0 .size, loop .loop .inv .1, c .before .loop-test .taken, loop .before .pre))
-
-add-k : tie.Need-add-k Inv-loop μ-loop
-add-k c = search needs
-
-add-to : tie.Need-add-to Inv-loop μ-loop
-add-to c = search needs
-
-loop-less : tie.Need-loop-less Inv-loop μ-loop
-loop-less c = search needs
 
 loop-again : tie.Need-loop-again Inv-loop μ-loop
 loop-again c =
@@ -70,5 +49,5 @@ returns c =
 pub put-words-spec : {M : Type 1} → statement M
 put-words-spec =
     tie.close
-    (tie.spec Inv-loop μ-loop loop-holds mul-word shared-slice-read-word cast-buffer slice-write-buffer cast-buffer-2 add-buffer slice-write-buffer-2
-    add-k add-to loop-less loop-again same-length returns)
+    (tie.spec Inv-loop μ-loop loop-holds (λ c. search needs) (λ c. search needs) (λ c. search needs) slice-write-buffer cast-buffer-2 (λ c. search needs) slice-write-buffer-2
+    (λ c. search needs) (λ c. search needs) (λ c. search needs) loop-again same-length returns)

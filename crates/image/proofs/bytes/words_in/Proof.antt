@@ -23,30 +23,9 @@ shared-slice-read-two : tie.Need-shared-slice-read-two Inv-loop μ-loop
 shared-slice-read-two c =
     let loop = c .before .before in omega (arith, loop .loop .inv .0 .size, loop .loop .inv .1, c .before .loop-test .taken, loop .before .before .before .pre)
 
-add-two : tie.Need-add-two Inv-loop μ-loop
-add-two c = search needs
-
 shared-slice-read-two-2 : tie.Need-shared-slice-read-two-2 Inv-loop μ-loop
 shared-slice-read-two-2 c =
     let loop = c .before .before .before in omega (arith, loop .loop .inv .0 .size, loop .loop .inv .1, c .before .before .loop-test .taken, loop .before .before .before .pre)
-
-two-requires : tie.Need-two-requires Inv-loop μ-loop
-two-requires c κs = search needs
-
-mul-words : tie.Need-mul-words Inv-loop μ-loop
-mul-words c = search needs
-
-slice-write-words : tie.Need-slice-write-words Inv-loop μ-loop
-slice-write-words c = search needs
-
-add-k : tie.Need-add-k Inv-loop μ-loop
-add-k c = search needs
-
-add-from : tie.Need-add-from Inv-loop μ-loop
-add-from c = search needs
-
-loop-less : tie.Need-loop-less Inv-loop μ-loop
-loop-less c = search needs
 
 loop-again : tie.Need-loop-again Inv-loop μ-loop
 loop-again c =
@@ -76,14 +55,14 @@ words-in-spec =
     μ-loop
     loop-holds
     shared-slice-read-two
-    add-two
+    (λ c. search needs)
     shared-slice-read-two-2
-    two-requires
-    mul-words
-    slice-write-words
-    add-k
-    add-from
-    loop-less
+    (λ c κs. search needs)
+    (λ c. search needs)
+    (λ c. search needs)
+    (λ c. search needs)
+    (λ c. search needs)
+    (λ c. search needs)
     loop-again
     same-length
     returns)

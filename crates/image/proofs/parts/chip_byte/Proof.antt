@@ -5,12 +5,6 @@ use Rattle.image.specs.Parts.{chipByte}
 use Rattle.image.proofs.parts.chip_byte.Statement.{statement}
 use Rattle.image.proofs.parts.chip_byte.Tie as tie
 
-enum-told : tie.Need-enum-told
-enum-told c = search needs
-
-enum-told-2 : tie.Need-enum-told-2
-enum-told-2 c = search needs
-
 returns : tie.Need-returns
 unfolding chipByte
 returns c = search needs
@@ -20,4 +14,4 @@ unfolding chipByte
 returns-2 c = search needs
 
 pub chip-byte-spec : {M : Type 1} → statement M
-chip-byte-spec = tie.close (tie.spec enum-told enum-told-2 returns returns-2)
+chip-byte-spec = tie.close (tie.spec (λ c. search needs) (λ c. search needs) returns returns-2)

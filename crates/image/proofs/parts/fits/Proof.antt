@@ -8,22 +8,13 @@ use Rattle.image.specs.Parts.{fitsIn}
 use Rattle.image.proofs.parts.fits.Statement.{statement}
 use Rattle.image.proofs.parts.fits.Tie as tie
 
-byte-at-requires : tie.Need-byte-at-requires
-byte-at-requires c κs = search needs
-
 returns : tie.Need-returns
 unfolding fitsIn
 returns c = rw (ap (λ (n : ℕ). leb n 1) (sym (c .before .byte-at .ensures)) ∙ lt-leb _ 1 (c .if1 .taken))
 
-byte-at-requires-2 : tie.Need-byte-at-requires-2
-byte-at-requires-2 c κs = search needs
-
 returns-2 : tie.Need-returns-2
 unfolding fitsIn
 returns-2 c = rw (ap (λ (n : ℕ). leb n 1) (sym (c .before .before .before .byte-at .ensures)) ∙ le-leb _ 1 (c .before .before .if1 .left), ap (λ (n : ℕ). leb n 1) (sym (c .before .byte-at2 .ensures)) ∙ lt-leb _ 1 (c .if2 .taken))
-
-byte-at-requires-3 : tie.Need-byte-at-requires-3
-byte-at-requires-3 c κs = search needs
 
 returns-3 : tie.Need-returns-3
 unfolding fitsIn
@@ -32,4 +23,4 @@ returns-3 c = rw (ap (λ (n : ℕ). leb n 1) (sym (c .before .before .before .be
 pub fits-spec : {M : Type 1} → statement M
 fits-spec =
     tie.close
-    (tie.spec byte-at-requires returns byte-at-requires-2 returns-2 byte-at-requires-3 returns-3)
+    (tie.spec (λ c κs. search needs) returns (λ c κs. search needs) returns-2 (λ c κs. search needs) returns-3)

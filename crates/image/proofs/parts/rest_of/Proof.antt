@@ -13,30 +13,6 @@ use Rattle.image.specs.Parts.{stateBytes, restOf}
 use Rattle.image.proofs.parts.rest_of.Statement.{statement}
 use Rattle.image.proofs.parts.rest_of.Tie as tie
 
-state-bytes-requires : tie.Need-state-bytes-requires
-state-bytes-requires c κs = search needs
-
-slice-aggregate-put-bytes : tie.Need-slice-aggregate-put-bytes
-slice-aggregate-put-bytes c = search needs
-
-slice-aggregate-put-bytes-2 : tie.Need-slice-aggregate-put-bytes-2
-slice-aggregate-put-bytes-2 c = search needs
-
-put-bytes-requires : tie.Need-put-bytes-requires
-put-bytes-requires c κs = search needs
-
-slice-aggregate-put-palette : tie.Need-slice-aggregate-put-palette
-slice-aggregate-put-palette c = search needs
-
-put-palette-requires : tie.Need-put-palette-requires
-put-palette-requires c κs = search needs
-
-slice-aggregate-put-bank : tie.Need-slice-aggregate-put-bank
-slice-aggregate-put-bank c = search needs
-
-put-bank-requires : tie.Need-put-bank-requires
-put-bank-requires c κs = search needs
-
 returns : tie.Need-returns
 unfolding restOf stateBytes
 returns c =
@@ -54,12 +30,12 @@ pub rest-of-spec : {M : Type 1} → statement M
 rest-of-spec =
     tie.close
     (tie.spec
-    state-bytes-requires
-    slice-aggregate-put-bytes
-    slice-aggregate-put-bytes-2
-    put-bytes-requires
-    slice-aggregate-put-palette
-    put-palette-requires
-    slice-aggregate-put-bank
-    put-bank-requires
+    (λ c κs. search needs)
+    (λ c. search needs)
+    (λ c. search needs)
+    (λ c κs. search needs)
+    (λ c. search needs)
+    (λ c κs. search needs)
+    (λ c. search needs)
+    (λ c κs. search needs)
     returns)

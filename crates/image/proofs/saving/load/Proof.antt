@@ -12,21 +12,9 @@ returns : tie.Need-returns
 unfolding loadedFrom loads
 returns c = rw (ne-eqb _ imageCount (c .if1 .taken))
 
-is-headed-requires : tie.Need-is-headed-requires
-is-headed-requires c κs = search needs
-
 returns-2 : tie.Need-returns-2
 unfolding loadedFrom loads
 returns-2 c = rw (eq-eqb _ imageCount (c .before .before .if1 .left), sym (c .before .is-headed .ensures) ∙ not-true _ (c .if2 .taken))
-
-registers-in-requires : tie.Need-registers-in-requires
-registers-in-requires c κs = search needs
-
-rest-in-requires : tie.Need-rest-in-requires
-rest-in-requires c κs = search needs
-
-is-file-requires : tie.Need-is-file-requires
-is-file-requires c κs = search needs
 
 returns-3 : tie.Need-returns-3
 unfolding loadedFrom loads
@@ -36,9 +24,6 @@ returns-3 c =
       sym (c .before .before .before .before .before .is-headed .ensures) ∙ not-false _ (c .before .before .before .before .if2 .left),
       sym (c .before .is-file .ensures ∙ ap₂ soundIn (c .before .before .before .registers-in .ensures) (c .before .before .rest-in .ensures)) ∙ not-true _ (c .if3 .taken),
     )
-
-set-after-requires : tie.Need-set-after-requires
-set-after-requires c κs = search needs
 
 returns-4 : tie.Need-returns-4
 unfolding loadedFrom loads
@@ -57,11 +42,11 @@ load-spec =
     tie.close
     (tie.spec
     returns
-    is-headed-requires
+    (λ c κs. search needs)
     returns-2
-    registers-in-requires
-    rest-in-requires
-    is-file-requires
+    (λ c κs. search needs)
+    (λ c κs. search needs)
+    (λ c κs. search needs)
     returns-3
-    set-after-requires
+    (λ c κs. search needs)
     returns-4)

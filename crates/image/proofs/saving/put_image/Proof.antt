@@ -12,39 +12,6 @@ use Rattle.image.specs.Image.{heading, imageOf}
 use Rattle.image.proofs.saving.put_image.Statement.{statement}
 use Rattle.image.proofs.saving.put_image.Tie as tie
 
-heading-requires : tie.Need-heading-requires
-heading-requires c κs = search needs
-
-kept-set-requires : tie.Need-kept-set-requires
-kept-set-requires c κs = search needs
-
-slice-aggregate-put-bytes : tie.Need-slice-aggregate-put-bytes
-slice-aggregate-put-bytes c = search needs
-
-put-bytes-requires : tie.Need-put-bytes-requires
-put-bytes-requires c κs = search needs
-
-slice-aggregate-put-words : tie.Need-slice-aggregate-put-words
-slice-aggregate-put-words c = search needs
-
-put-words-requires : tie.Need-put-words-requires
-put-words-requires c κs = search needs
-
-slice-aggregate-put-bytes-2 : tie.Need-slice-aggregate-put-bytes-2
-slice-aggregate-put-bytes-2 c = search needs
-
-put-bytes-requires-2 : tie.Need-put-bytes-requires-2
-put-bytes-requires-2 c κs = search needs
-
-slice-aggregate-put-bytes-3 : tie.Need-slice-aggregate-put-bytes-3
-slice-aggregate-put-bytes-3 c = search needs
-
-put-bytes-requires-3 : tie.Need-put-bytes-requires-3
-put-bytes-requires-3 c κs = search needs
-
-same-length : tie.Need-same-length
-same-length c = search needs
-
 returns : tie.Need-returns
 unfolding imageOf heading
 returns c =
@@ -63,15 +30,15 @@ pub put-image-spec : {M : Type 1} → statement M
 put-image-spec =
     tie.close
     (tie.spec
-    heading-requires
-    kept-set-requires
-    slice-aggregate-put-bytes
-    put-bytes-requires
-    slice-aggregate-put-words
-    put-words-requires
-    slice-aggregate-put-bytes-2
-    put-bytes-requires-2
-    slice-aggregate-put-bytes-3
-    put-bytes-requires-3
-    same-length
+    (λ c κs. search needs)
+    (λ c κs. search needs)
+    (λ c. search needs)
+    (λ c κs. search needs)
+    (λ c. search needs)
+    (λ c κs. search needs)
+    (λ c. search needs)
+    (λ c κs. search needs)
+    (λ c. search needs)
+    (λ c κs. search needs)
+    (λ c. search needs)
     returns)

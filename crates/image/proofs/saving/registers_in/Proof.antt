@@ -10,21 +10,6 @@ use Rattle.image.specs.Image.{registersIn}
 use Rattle.image.proofs.saving.registers_in.Statement.{statement}
 use Rattle.image.proofs.saving.registers_in.Tie as tie
 
-sub-words-in : tie.Need-sub-words-in
-sub-words-in c = search needs
-
-part-words-in-start : tie.Need-part-words-in-start
-part-words-in-start c = search needs
-
-part-words-in-end : tie.Need-part-words-in-end
-part-words-in-end c = search needs
-
-slice-aggregate-words-in : tie.Need-slice-aggregate-words-in
-slice-aggregate-words-in c = search needs
-
-words-in-requires : tie.Need-words-in-requires
-words-in-requires c κs = search needs
-
 returns : tie.Need-returns
 unfolding registersIn
 returns c =
@@ -36,9 +21,9 @@ pub registers-in-spec : {M : Type 1} → statement M
 registers-in-spec =
     tie.close
     (tie.spec
-    sub-words-in
-    part-words-in-start
-    part-words-in-end
-    slice-aggregate-words-in
-    words-in-requires
+    (λ c. search needs)
+    (λ c. search needs)
+    (λ c. search needs)
+    (λ c. search needs)
+    (λ c κs. search needs)
     returns)

@@ -9,21 +9,6 @@ use Rattle.image.specs.Image.{restIn}
 use Rattle.image.proofs.saving.rest_in.Statement.{statement}
 use Rattle.image.proofs.saving.rest_in.Tie as tie
 
-sub-put-bytes : tie.Need-sub-put-bytes
-sub-put-bytes c = search needs
-
-part-put-bytes-start : tie.Need-part-put-bytes-start
-part-put-bytes-start c = search needs
-
-part-put-bytes-end : tie.Need-part-put-bytes-end
-part-put-bytes-end c = search needs
-
-slice-aggregate-put-bytes : tie.Need-slice-aggregate-put-bytes
-slice-aggregate-put-bytes c = search needs
-
-put-bytes-requires : tie.Need-put-bytes-requires
-put-bytes-requires c κs = search needs
-
 returns : tie.Need-returns
 unfolding restIn
 returns c =
@@ -34,9 +19,9 @@ pub rest-in-spec : {M : Type 1} → statement M
 rest-in-spec =
     tie.close
     (tie.spec
-    sub-put-bytes
-    part-put-bytes-start
-    part-put-bytes-end
-    slice-aggregate-put-bytes
-    put-bytes-requires
+    (λ c. search needs)
+    (λ c. search needs)
+    (λ c. search needs)
+    (λ c. search needs)
+    (λ c κs. search needs)
     returns)

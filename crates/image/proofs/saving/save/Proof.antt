@@ -6,9 +6,6 @@ use Rattle.image.specs.Image.{imageCount, saveAnswer, savedIn}
 use Rattle.image.proofs.saving.save.Statement.{statement}
 use Rattle.image.proofs.saving.save.Tie as tie
 
-is-file-requires : tie.Need-is-file-requires
-is-file-requires c κs = search needs
-
 returns : tie.Need-returns
 unfolding saveAnswer savedIn
 returns c = let e = sym (c .before .is-file .ensures) ∙ not-true _ (c .if1 .taken) in (rw e, rw e)
@@ -19,12 +16,6 @@ returns-2 c =
     let e = sym (c .before .before .is-file .ensures) ∙ not-false _ (c .before .if1 .left) in
     let f = lt-ltb _ imageCount (c .if2 .taken) in (rw (e, f), rw (e, f))
 
-put-image-requires : tie.Need-put-image-requires
-put-image-requires c κs = search needs
-
-same-length : tie.Need-same-length
-same-length c = search needs
-
 returns-3 : tie.Need-returns-3
 unfolding saveAnswer savedIn
 returns-3 c =
@@ -34,4 +25,4 @@ returns-3 c =
 pub save-spec : {M : Type 1} → statement M
 save-spec =
     tie.close
-    (tie.spec is-file-requires returns returns-2 put-image-requires same-length returns-3)
+    (tie.spec (λ c κs. search needs) returns returns-2 (λ c κs. search needs) (λ c. search needs) returns-3)

@@ -13,21 +13,9 @@ use Rattle.image.specs.Parts.{setBytes}
 use Rattle.image.proofs.sets.set_bytes.Statement.{statement}
 use Rattle.image.proofs.sets.set_bytes.Tie as tie
 
-slice-aggregate-put-flags : tie.Need-slice-aggregate-put-flags
-slice-aggregate-put-flags c = search needs
-
-slice-aggregate-put-flags-2 : tie.Need-slice-aggregate-put-flags-2
-slice-aggregate-put-flags-2 c = search needs
-
 put-flags-requires : tie.Need-put-flags-requires
 put-flags-requires c κs =
     let start = c .before .before .before .before .before in omega (arith, is-set (start .args .set) _ (start .good .0) .registers)
-
-slice-aggregate-put-flags-3 : tie.Need-slice-aggregate-put-flags-3
-slice-aggregate-put-flags-3 c = search needs
-
-slice-aggregate-put-flags-4 : tie.Need-slice-aggregate-put-flags-4
-slice-aggregate-put-flags-4 c = search needs
 
 put-flags-requires-2 : tie.Need-put-flags-requires-2
 put-flags-requires-2 c κs =
@@ -35,36 +23,12 @@ put-flags-requires-2 c κs =
     let long : length (c .before .before .before .put-flags .last .1 .0) ≡ 383 = ap length (c .before .before .before .put-flags .ensures) ∙ length-sets {A = ℕ} (replicate 383 0) 0 (flagBytes (start .args .set .registers)) in
     omega (arith, long, is-set (start .args .set) _ (start .good .0) .palette)
 
-slice-aggregate-put-flags-5 : tie.Need-slice-aggregate-put-flags-5
-slice-aggregate-put-flags-5 c = search needs
-
-slice-aggregate-put-flags-6 : tie.Need-slice-aggregate-put-flags-6
-slice-aggregate-put-flags-6 c = search needs
-
 put-flags-requires-3 : tie.Need-put-flags-requires-3
 put-flags-requires-3 c κs =
     let start = c .before .before .before .before .before .before .before .before .before .before .before .before .before in
     let long : length (c .before .before .before .put-flags2 .last .1 .0) ≡ 383 =
     ap length (c .before .before .before .put-flags2 .ensures) ∙ length-sets (c .before .before .before .before .before .before .before .put-flags .last .1 .0) 108 (flagBytes (start .args .set .palette)) ∙ ap length (c .before .before .before .before .before .before .before .put-flags .ensures) ∙ length-sets {A = ℕ} (replicate 383 0) 0 (flagBytes (start .args .set .registers)) in
     omega (arith, long, is-set (start .args .set) _ (start .good .0) .bank)
-
-flag-byte-requires : tie.Need-flag-byte-requires
-flag-byte-requires c κs = search needs
-
-array-write-bytes : tie.Need-array-write-bytes
-array-write-bytes c = search needs
-
-flag-byte-requires-2 : tie.Need-flag-byte-requires-2
-flag-byte-requires-2 c κs = search needs
-
-array-write-bytes-2 : tie.Need-array-write-bytes-2
-array-write-bytes-2 c = search needs
-
-flag-byte-requires-3 : tie.Need-flag-byte-requires-3
-flag-byte-requires-3 c κs = search needs
-
-array-write-bytes-3 : tie.Need-array-write-bytes-3
-array-write-bytes-3 c = search needs
 
 returns : tie.Need-returns
 unfolding setBytes flagBytes
@@ -85,19 +49,19 @@ pub set-bytes-spec : {M : Type 1} → statement M
 set-bytes-spec =
     tie.close
     (tie.spec
-    slice-aggregate-put-flags
-    slice-aggregate-put-flags-2
+    (λ c. search needs)
+    (λ c. search needs)
     put-flags-requires
-    slice-aggregate-put-flags-3
-    slice-aggregate-put-flags-4
+    (λ c. search needs)
+    (λ c. search needs)
     put-flags-requires-2
-    slice-aggregate-put-flags-5
-    slice-aggregate-put-flags-6
+    (λ c. search needs)
+    (λ c. search needs)
     put-flags-requires-3
-    flag-byte-requires
-    array-write-bytes
-    flag-byte-requires-2
-    array-write-bytes-2
-    flag-byte-requires-3
-    array-write-bytes-3
+    (λ c κs. search needs)
+    (λ c. search needs)
+    (λ c κs. search needs)
+    (λ c. search needs)
+    (λ c κs. search needs)
+    (λ c. search needs)
     returns)

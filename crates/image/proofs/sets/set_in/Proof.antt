@@ -13,65 +13,11 @@ use Rattle.image.specs.Parts.{setIn}
 use Rattle.image.proofs.sets.set_in.Statement.{statement}
 use Rattle.image.proofs.sets.set_in.Tie as tie
 
-array-share-prefix-bytes : tie.Need-array-share-prefix-bytes
-array-share-prefix-bytes c = search needs
-
 slice-aggregate-flags-in : tie.Need-slice-aggregate-flags-in
 slice-aggregate-flags-in c = sym (length-take-le 108 (c .before .args .t1) (omega (arith, c .before .good .0 .1 .0 .1)))
 
-slice-aggregate-flags-in-2 : tie.Need-slice-aggregate-flags-in-2
-slice-aggregate-flags-in-2 c = search needs
-
 flags-in-requires : tie.Need-flags-in-requires
 flags-in-requires c κs = length-take-le 108 (c .before .before .args .t1) (omega (arith, c .before .before .good .0 .1 .0 .1))
-
-sub-flags-in : tie.Need-sub-flags-in
-sub-flags-in c = search needs
-
-part-flags-in-start : tie.Need-part-flags-in-start
-part-flags-in-start c = search needs
-
-part-flags-in-end : tie.Need-part-flags-in-end
-part-flags-in-end c = search needs
-
-slice-aggregate-flags-in-3 : tie.Need-slice-aggregate-flags-in-3
-slice-aggregate-flags-in-3 c = search needs
-
-flags-in-requires-2 : tie.Need-flags-in-requires-2
-flags-in-requires-2 c κs = search needs
-
-sub-flags-in-2 : tie.Need-sub-flags-in-2
-sub-flags-in-2 c = search needs
-
-part-flags-in-start-2 : tie.Need-part-flags-in-start-2
-part-flags-in-start-2 c = search needs
-
-part-flags-in-end-2 : tie.Need-part-flags-in-end-2
-part-flags-in-end-2 c = search needs
-
-slice-aggregate-flags-in-4 : tie.Need-slice-aggregate-flags-in-4
-slice-aggregate-flags-in-4 c = search needs
-
-flags-in-requires-3 : tie.Need-flags-in-requires-3
-flags-in-requires-3 c κs = search needs
-
-array-read-is-set : tie.Need-array-read-is-set
-array-read-is-set c = search needs
-
-is-set-requires : tie.Need-is-set-requires
-is-set-requires c κs = search needs
-
-array-read-is-set-2 : tie.Need-array-read-is-set-2
-array-read-is-set-2 c = search needs
-
-is-set-requires-2 : tie.Need-is-set-requires-2
-is-set-requires-2 c κs = search needs
-
-array-read-is-set-3 : tie.Need-array-read-is-set-3
-array-read-is-set-3 c = search needs
-
-is-set-requires-3 : tie.Need-is-set-requires-3
-is-set-requires-3 c κs = search needs
 
 named : {registers registers′ palette palette′ bank bank′ : List Bool} {pointer pointer′ marks marks′ toggle toggle′ : Bool} → registers ≡ registers′ → palette ≡ palette′
     → bank ≡ bank′ → pointer ≡ pointer′ → marks ≡ marks′ → toggle ≡ toggle′
@@ -95,24 +41,24 @@ pub set-in-spec : {M : Type 1} → statement M
 set-in-spec =
     tie.close
     (tie.spec
-    array-share-prefix-bytes
+    (λ c. search needs)
     slice-aggregate-flags-in
-    slice-aggregate-flags-in-2
+    (λ c. search needs)
     flags-in-requires
-    sub-flags-in
-    part-flags-in-start
-    part-flags-in-end
-    slice-aggregate-flags-in-3
-    flags-in-requires-2
-    sub-flags-in-2
-    part-flags-in-start-2
-    part-flags-in-end-2
-    slice-aggregate-flags-in-4
-    flags-in-requires-3
-    array-read-is-set
-    is-set-requires
-    array-read-is-set-2
-    is-set-requires-2
-    array-read-is-set-3
-    is-set-requires-3
+    (λ c. search needs)
+    (λ c. search needs)
+    (λ c. search needs)
+    (λ c. search needs)
+    (λ c κs. search needs)
+    (λ c. search needs)
+    (λ c. search needs)
+    (λ c. search needs)
+    (λ c. search needs)
+    (λ c κs. search needs)
+    (λ c. search needs)
+    (λ c κs. search needs)
+    (λ c. search needs)
+    (λ c κs. search needs)
+    (λ c. search needs)
+    (λ c κs. search needs)
     returns)
