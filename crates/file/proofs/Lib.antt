@@ -5,4 +5,5 @@ pub mod Reached
 pub mod Typed
 pub mod Colours
 pub mod Named
+pub mod NameBytes
 pub mod Codes

@@ -53,7 +53,7 @@ first j = omega arith
 further : (i j n : ℕ) → n ≡ 12 → 12 * suc i + j ≡ n + (12 * i + j)
 further i j n e = omega (arith, e)
 
-flat-at : (rows : List (List ℕ)) (i j : ℕ) → i < length rows → j < 12 → getD (flat rows) (12 * i + j) 0 ≡ getD (block (getD rows i [])) j 0
+pub flat-at : (rows : List (List ℕ)) (i j : ℕ) → i < length rows → j < 12 → getD (flat rows) (12 * i + j) 0 ≡ getD (block (getD rows i [])) j 0
 unfolding flat
 flat-at [] i j l h = absurd (omega arith)
 flat-at (row ∷ rows) zero j l h =

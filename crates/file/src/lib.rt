@@ -61,5 +61,7 @@ pub use registers::BANK;
 pub use registers::File;
 pub use registers::PALETTE;
 pub use registers::REGISTERS;
+pub use sound::are_sound;
 pub use sound::is_sound;
+pub use sound::state_sound;
 pub use state::State;

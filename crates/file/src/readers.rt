@@ -279,6 +279,20 @@ impl File {
         }
     }
 
+    // A byte of a register's name in the table of stored bits, by its number; 0 behind the name, and where no register has the number.
+    pub fn name_byte(number: usize, place: usize) -> u8
+        ensures { λ r. ⌜ r ≡ getD (getD nameTable number []) place 0 ⌝ }
+    {
+        if number >= REGISTERS {
+            return 0;
+        }
+        if place >= 10 {
+            return 0;
+        }
+        let byte = NAMES[12 * number + place + 1];
+        if byte == b'.' { 0 } else { byte }
+    }
+
     // An entry of the palette. Past the last one another is looked up, and not told.
     pub fn palette_entry(self, entry: usize) -> EntryRead
         ensures { λ r. ⌜ r ≡ readPalette self entry ⌝ }

@@ -1,4 +1,5 @@
 ghost use mathlib.Core.Path.{_≡_};
+ghost use Rattle.file.specs.File.{seen};
 ghost use Rattle.file.specs.Palette.{marksSound, pointerSound};
 ghost use Rattle.file.specs.Sound.{sound};
 ghost use Rattle.file.specs.State.{stateSound};
@@ -11,13 +12,20 @@ use crate::state::State;
 pub fn is_sound(file: File) -> bool
     ensures { λ r. ⌜ r ≡ sound file ⌝ }
 {
-    let state = file.state;
+    let registers = file.registers;
+    are_sound(registers, file.state)
+}
+
+// A file with these registers and this state is sound: colours play no part in it.
+pub fn are_sound(registers: [u16; REGISTERS], state: State) -> bool
+    ensures { λ r. ⌜ r ≡ sound (seen registers state) ⌝ }
+{
     let chip = state.chip;
     let stored = File::stored(chip);
     let mut stray: u16 = 0;
     let mut i = 0;
     while i < REGISTERS {
-        stray = stray | bits::stray(stored[i], file.registers[i]);
+        stray = stray | bits::stray(stored[i], registers[i]);
         i += 1;
     }
     if stray == 0 {
@@ -28,7 +36,7 @@ pub fn is_sound(file: File) -> bool
 }
 
 // The marks name a direction and a colour, the pointer is one that its steps can reach, and the line one that lines pass to.
-fn state_sound(state: State) -> bool
+pub fn state_sound(state: State) -> bool
     ensures { λ r. ⌜ r ≡ stateSound state ⌝ }
 {
     if !marks_sound(state.marks) {

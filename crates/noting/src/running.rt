@@ -1,9 +1,9 @@
 // A run that keeps the set: the loop of a run without it, with the set as one more local.
 ghost use mathlib.Core.Path.{_≡_};
 ghost use mathlib.Core.List.{_++_};
-ghost use Prim.Native.Nat.{_*_, _≤_};
+ghost use Prim.Native.Nat.{_+_, _*_, _≤_};
 ghost use lib.Dec.{T};
-ghost use lib.ListN.{length, drop};
+ghost use lib.ListN.{length, take, drop};
 ghost use Rattle.file.specs.declared.answer.Answer.the-variants.{Done as DoneAnswer};
 ghost use Rattle.file.specs.File.{seen};
 ghost use Rattle.file.specs.Registers.{storedTable};
@@ -11,7 +11,7 @@ ghost use Rattle.file.specs.Sound.{sound};
 ghost use Rattle.places.specs.EngineCells.{cellTable};
 ghost use Rattle.access.specs.Access.{reach as reachIn};
 ghost use Rattle.trace.specs.EngineServed.{Serves};
-ghost use Rattle.trace.specs.Records.{items};
+ghost use Rattle.trace.specs.Records.{items, recordOf};
 ghost use Rattle.trace.specs.Run.{fileAfter, replies as repliesOf, runCount};
 ghost use Rattle.touched.specs.Noted.{notedAll};
 ghost use Rattle.noting.specs.Noting.{runReaches, RunNotedKept};
@@ -36,7 +36,7 @@ use trace::palette_entry;
 use trace::put_effect;
 use trace::put_fragment;
 use trace::put_reply;
-use trace::record_at;
+use trace::record_of;
 
 // What an access leaves beside the registers, and what it reached.
 pub struct ServedNoting {
@@ -48,6 +48,15 @@ pub struct ServedNoting {
 pub struct Behind {
     pub file: File,
     pub touched: Touched,
+}
+
+// The record of a place where 8 bytes stand.
+fn record_at(bytes: &[u8], at: usize) -> Record
+    requires { ⌜ at + 8 ≤ length (now bytes) ⌝ }
+    ensures { λ r. ⌜ r ≡ recordOf (take 8 (drop at (now (bytes .entry)))) ⌝ }
+{
+    let left = &bytes[at..];
+    record_of(left)
 }
 
 // One access: the registers where they stand, the state by value.

@@ -28,5 +28,7 @@ pub use slots::slot_of;
 pub use smalls::SMALLS;
 pub use smalls::smalls_of;
 pub use smalls::state_in;
+pub use turning::read_place;
 pub use turning::turn_read;
 pub use turning::turn_write;
+pub use turning::write_place;

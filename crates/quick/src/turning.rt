@@ -64,8 +64,8 @@ fn low(value: u16) -> u8
     (value % 256) as u8
 }
 
-// A read at a place.
-fn read_place(
+// A read at the place that a cell names, whatever the file holds.
+pub fn read_place(
     registers: &[u16; REGISTERS],
     smalls: &mut [u8; SMALLS],
     line: u16,
@@ -122,8 +122,8 @@ pub fn turn_read(
     read_place(registers, smalls, line, chip, behind)
 }
 
-// A write at a place.
-fn write_place(
+// A write at such a place.
+pub fn write_place(
     stored: &[u16; REGISTERS],
     registers: &mut [u16; REGISTERS],
     smalls: &mut [u8; SMALLS],

@@ -1,6 +1,6 @@
 -- A second trace behind a saved file, by its parts: the file that it leads to, and the set of what it touched. Assumes nothing.
-use Prim.Native.Nat.{ℕ, _+_, _*_, _/_, _%_, _^_, _≤_, min}
-use mathlib.Core.Bool.{true, false}
+use Prim.Native.Nat.{ℕ, zero, suc, _+_, _*_, _/_, _%_, _-_, _^_, _≤_, _<_, min}
+use mathlib.Core.Bool.{true, false, true≢false}
 use mathlib.Core.List.{List, [], _∷_, _++_}
 use mathlib.Core.Path.{_≡_, refl, sym, ap, ap₂, _∙_, subst₂}
 use native.Mathlib.Omega.{arith}
@@ -28,7 +28,7 @@ use Rattle.replaying.proofs.Pieces.{file-parts, trace-cut}
 use Rattle.replaying.proofs.Whole.{part-sound}
 use Rattle.shell.specs.declared.following.Onward.{Onward}
 use Rattle.shell.specs.declared.reading.Filled.{Filled}
-use Rattle.shell.specs.SecondTrace.{Followed, Gone, touchedAfter}
+use Rattle.shell.specs.SecondTrace.{Ended, Followed, Gone, touchedAfter}
 use Rattle.shell.specs.Parts.{counted}
 use Rattle.shell.proofs.Turns.{counted-on, none-after}
 
@@ -73,12 +73,26 @@ module _ {s : Touched} {f : File} {part before after : List ℕ} {r : RunNoted} 
 
 -- ---- turns
 
-pub followed-none : (saved : File) (r : Onward) → r .file ≡ saved → r .touched ≡ nothing → r .read .all ≡ 0 → Followed saved r
-unfolding touchedAfter itemCount items runReaches notedAll
-followed-none saved r file touched all =
-    record { trace = []; file = file ∙ none-after saved; touched = touched; all = all; whole = λ _. refl }
+-- where the turns so far led to, with so many turns left: no read failed, and there are turns enough for as many bytes as can be counted
+pub record Following (saved : File) (turns : ℕ) (r : Onward) : Type 0 where
+  pub come : Followed saved r
+  pub unfailed : r .failed ≡ false
+  pub read : r .read .failed ≡ false
+  pub left : r .more ≡ true → r .read .all + 8192 * turns ≡ 8192 * 18446744073709551615
 
-pub followed-on : (saved : File) (before : Onward) (read : Filled) (part : List ℕ) (r : Onward) → Followed saved before → before .more ≡ true
+pub following-none : (saved : File) (r : Onward) → r .file ≡ saved → r .touched ≡ nothing → r .failed ≡ false
+    → r .read ≡ record { count = 0; failed = false; all = 0 } → Following saved 18446744073709551615 r
+unfolding touchedAfter itemCount items runReaches notedAll
+following-none saved r file touched unfailed read =
+    let all = ap (λ (x : Filled). x .all) read in
+    record {
+      come = record { trace = []; file = file ∙ none-after saved; touched = touched; all = all; whole = λ _. refl };
+      unfailed = unfailed;
+      read = ap (λ (x : Filled). x .failed) read;
+      left = λ _. omega (arith, all);
+    }
+
+followed-on : (saved : File) (before : Onward) (read : Filled) (part : List ℕ) (r : Onward) → Followed saved before → before .more ≡ true
     → read .all ≡ counted (before .read .all) (length part) → Gone before read part r → Followed saved r
 followed-on saved before read part r come more all on =
     let whole = come .whole more in
@@ -94,6 +108,36 @@ followed-on saved before read part r come more all on =
           λ goes. let full : length part ≡ 8192 = eqb-true _ _ (sym (on .more) ∙ goes) in
           rw length-append (omega (arith, whole, full));
     }
+
+pub following-on : (saved : File) (turns : ℕ) (before : Onward) (read : Filled) (part : List ℕ) (r : Onward) → Following saved turns before → 0 < turns
+    → before .more ≡ true → read .all ≡ counted (before .read .all) (length part) → before .read .all + 8192 < 2 ^ 64 → read .failed ≡ false
+    → Gone before read part r → Following saved (turns - 1) r
+following-on saved turns before read part r on some more all low unfailed gone =
+    record {
+      come = followed-on saved before read part r (on .come) more all gone;
+      unfailed = gone .failed;
+      read = ap (λ (x : Filled). x .failed) (gone .read) ∙ unfailed;
+      left =
+          λ goes. let full : length part ≡ 8192 = eqb-true _ _ (sym (gone .more) ∙ goes) in
+          let now = ap (λ (x : Filled). x .all) (gone .read) ∙ all in
+          omega (arith, on .left more, full, now, low, some);
+    }
+
+by-less : (n : ℕ) → (0 < n → ⊥) → (n ≡ 0 → ⊥) → ⊥
+by-less zero some none = none refl
+by-less (suc n) some none = some (omega arith)
+
+-- the turns are never used up
+pub followed-to-end : (saved : File) (turns : ℕ) (r : Onward) → Following saved turns r → (0 < turns → r .more ≡ false) → Ended saved r
+followed-to-end saved turns r on end =
+    record {
+      ended = by-test (r .more) (λ e. absurd (turned e)) (λ e. e);
+      failed = on .unfailed ∙ sym (on .read);
+      led = λ _. on .come;
+    }
+  where
+    turned : r .more ≡ true → ⊥
+    turned e = by-less turns (λ some. true≢false (sym e ∙ end some)) (λ none. omega (arith, on .left e, on .come .all, none))
 
 -- each turn begins with a sound file
 pub followed-sound : (saved : File) (r : Onward) → T (sound saved) → Followed saved r → T (sound (r .file))

@@ -36,3 +36,9 @@ pub record Followed (saved : File) (r : Onward) : Type 0 where
   pub touched : r .touched ≡ touchedAfter nothing saved trace
   pub all : r .read .all ≡ length trace % 2 ^ 64
   pub whole : r .more ≡ true → length trace % 8 ≡ 0
+
+-- how it ends: there is no more to read, and it failed exactly where its last read did; else it has led somewhere
+pub record Ended (saved : File) (r : Onward) : Type 0 where
+  pub ended : r .more ≡ false
+  pub failed : r .failed ≡ r .read .failed
+  pub led : r .failed ≡ false → Followed saved r

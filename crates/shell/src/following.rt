@@ -4,19 +4,16 @@ ghost use mathlib.Core.Bool.{true, false};
 ghost use Prim.Native.Nat.{_≤_};
 ghost use lib.Dec.{T};
 ghost use lib.ListN.{length};
-ghost use Rattle.io.specs.Counts.{Counts};
 ghost use Rattle.file.specs.Sound.{sound};
 ghost use Rattle.touched.specs.Things.{nothing};
-ghost use Rattle.shell.specs.SecondTrace.{Followed, Gone};
-ghost use Rattle.shell.specs.Parts.{counted};
+ghost use Rattle.shell.specs.SecondTrace.{Ended, Gone};
 use crate::course::run_input;
 use crate::reading::Filled;
-use crate::reading::fill_from;
 use crate::reading::nothing_read;
+use crate::reading::read_second;
 use crate::saving::tell_refusal;
 use crate::telling::Handed;
 use crate::telling::choose_course_behind;
-use crate::telling::tell;
 use crate::telling::tell_failure;
 use crate::telling::write_out;
 use choosing::Chosen;
@@ -39,7 +36,7 @@ pub struct Onward {
 
 // Right behind the first trace: its file is saved, and the set is empty.
 fn set_out(saved: File) -> Onward
-    ensures { λ r. ⌜ (r .file ≡ saved) × (r .touched ≡ nothing) × (r .read .all ≡ 0) ⌝ }
+    ensures { λ r. ⌜ (r .file ≡ saved) × (r .touched ≡ nothing) × (r .failed ≡ false) × (r .read ≡ record { count = 0; failed = false; all = 0 }) ⌝ }
 {
     Onward {
         more: true,
@@ -50,27 +47,15 @@ fn set_out(saved: File) -> Onward
     }
 }
 
-// What fails ends it.
-fn stopped(before: Onward) -> Onward
-    ensures { λ r. ⌜ r .failed ≡ true ⌝ }
+// A read that failed ends it.
+fn stopped(before: Onward, read: Filled) -> Onward
+    ensures { λ r. ⌜ (r .more ≡ false) × (r .failed ≡ true) × (r .read ≡ read) ⌝ }
 {
     let mut onward = before;
     onward.more = false;
     onward.failed = true;
+    onward.read = read;
     onward
-}
-
-// The next buffer of the second trace; what goes wrong is told.
-fn read_next(from: i32, before: Filled, part: &mut [u8; 8192]) -> Filled
-    ensures { λ r. ⌜ Counts (r .count) (now (part .exit)) ⌝ }
-    ensures { λ r. ⌜ r .count ≤ 8192 ⌝ }
-    ensures { λ r. ⌜ r .all ≡ counted (before .all) (r .count) ⌝ }
-{
-    let read = fill_from(from, before, part);
-    if read.has_failed() {
-        tell_failure(b"snapshot", b": the second trace");
-    }
-    read
 }
 
 // One turn, a function of the bytes that were read: they are run, and the set gets what they touch.
@@ -95,24 +80,20 @@ fn go_on(before: Onward, read: Filled, part: &[u8], replies: &mut [u8; 8192]) ->
 // The whole of it. A proved loop has to end, so this one counts its turns down, from a number that no run uses up.
 fn follow(from: i32, saved: File) -> Onward
     requires { ⌜ T (sound saved) ⌝ }
-    ensures { λ r. ⌜ (r .failed ≡ false → Followed saved r × (r .more ≡ false)) ⌝ }
+    ensures { λ r. ⌜ Ended saved r ⌝ }
 {
     let mut part = [0u8; 8192];
     let mut replies = [0u8; 8192];
     let mut onward = set_out(saved);
     let mut turns = u64::MAX;
     while turns > 0 && onward.more {
-        let read = read_next(from, onward.read, &mut part);
+        let read = read_second(from, onward.read, &mut part);
         if read.has_failed() {
-            return stopped(onward);
+            return stopped(onward, read);
         }
         let size = read.count;
         onward = go_on(onward, read, &part[..size], &mut replies);
         turns -= 1;
-    }
-    if onward.more {
-        tell(b"snapshot", b": the second trace has no end");
-        return stopped(onward);
     }
     onward
 }

@@ -19,5 +19,6 @@ pub use saving::snapshot;
 pub use telling::Handed;
 pub use telling::nothing_handed;
 pub use telling::tell;
+pub use telling::tell_choice;
 pub use telling::tell_failure;
 pub use telling::write_out;

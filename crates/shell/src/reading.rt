@@ -13,6 +13,9 @@ use std::num::wrapping_add_u64;
 // The last number at which a whole buffer of records still has numbers.
 const LAST: u64 = u64::MAX - 1024;
 
+// The last count of bytes at which those of a whole buffer are still counted.
+const LAST_BYTE: u64 = u64::MAX - 8192;
+
 // How many bytes came into a buffer, whether a read failed, and how many bytes came in all, as far as 64 bits count. It is made here
 // alone: no other module can say that bytes came or that a read failed.
 pub struct Filled {
@@ -113,6 +116,24 @@ pub fn read_some(program: &[u8], number: u64, before: Filled, trace: &mut [u8; 8
     let read = fill(before, trace);
     if read.failed {
         tell_failure(program, b": standard input");
+    }
+    read
+}
+
+// The next buffer of a second trace, a file that is open; what goes wrong is told.
+pub fn read_second(from: i32, before: Filled, part: &mut [u8; 8192]) -> Filled
+    ensures { λ r. ⌜ Counts (r .count) (now (part .exit)) ⌝ }
+    ensures { λ r. ⌜ r .count ≤ 8192 ⌝ }
+    ensures { λ r. ⌜ r .all ≡ counted (before .all) (r .count) ⌝ }
+    ensures { λ r. ⌜ (r .failed ≡ false → before .all + 8192 < 2 ^ 64) ⌝ }
+{
+    if before.all > LAST_BYTE {
+        tell(b"snapshot", b": the second trace has no end");
+        return filled_with(before, 0, true);
+    }
+    let read = fill_from(from, before, part);
+    if read.failed {
+        tell_failure(b"snapshot", b": the second trace");
     }
     read
 }

@@ -65,7 +65,9 @@ impl Handed {
 }
 
 // What was chosen; where the words name none, that is told.
-fn told(program: &[u8], choice: Choice) -> Chosen {
+pub fn tell_choice(program: &[u8], choice: Choice) -> Chosen
+    ensures { λ r. ⌜ r ≡ choice .chosen ⌝ }
+{
     let chosen = choice.chosen;
     if let Chosen::Unknown = chosen {
         tell(
@@ -78,10 +80,10 @@ fn told(program: &[u8], choice: Choice) -> Chosen {
 
 // The chip and the engine that a program is started for.
 pub fn choose_course(program: &[u8]) -> Chosen {
-    told(program, choose())
+    tell_choice(program, choose())
 }
 
 // The same by the words behind the first.
 pub fn choose_course_behind(program: &[u8]) -> Chosen {
-    told(program, choose_behind())
+    tell_choice(program, choose_behind())
 }

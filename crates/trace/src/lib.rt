@@ -16,7 +16,6 @@ pub use running::put_fragment;
 pub use running::run;
 pub use wire::item_of;
 pub use wire::put_reply;
-pub use wire::record_at;
 pub use wire::record_bytes;
 pub use wire::record_of;
 pub use wire::reply_bytes;

@@ -385,12 +385,14 @@ fn run_whole(whole: File, trace: &[u8], replies: &mut [u8], count: usize) -> Fil
     }
 }
 
-// The reply to the fragment at the end of a trace: code 2.
+// The reply to the fragment from a place of a trace on: code 2. Where the trace ends before it, or there is no room, nothing is written.
 pub fn put_fragment(trace: &[u8], replies: &mut [u8], at: usize)
-    requires { ⌜ at < length (now trace) ⌝ }
-    requires { ⌜ at + 8 ≤ length (now replies) ⌝ }
-    ensures { λ _. ⌜ now (replies .exit) ≡ take at (now (replies .entry)) ++ replyBytes (replyTo (recordOf (take 8 (drop at (now (trace .entry))))) MalformedAnswer) ++ drop (at + 8) (now (replies .entry)) ⌝ }
+    ensures { λ _. ⌜ (at ≤ length (now (trace .entry)) → at + 8 ≤ length (now (replies .entry)) → now (replies .exit) ≡ take at (now (replies .entry)) ++ replyBytes (replyTo (recordOf (take 8 (drop at (now (trace .entry))))) MalformedAnswer) ++ drop (at + 8) (now (replies .entry))) ⌝ }
+    ensures { λ _. ⌜ (length (now (trace .entry)) < at → now (replies .exit) ≡ now (replies .entry)) × (length (now (replies .entry)) < at + 8 → now (replies .exit) ≡ now (replies .entry)) ⌝ }
 {
+    if trace.len() < at {
+        return;
+    }
     let left = &trace[at..];
     put_reply(replies, at, record_of(left), 2, 0);
 }

@@ -1,7 +1,7 @@
 // Records and replies as bytes: 8 each, little-endian.
 ghost use mathlib.Core.Path.{_≡_};
 ghost use mathlib.Core.List.{_++_};
-ghost use Prim.Native.Nat.{_+_, _*_, _/_, _%_, _≤_};
+ghost use Prim.Native.Nat.{_+_, _*_, _/_, _%_, _<_, _≤_};
 ghost use lib.ListN.{length, getD, take, drop};
 ghost use Rattle.quick.specs.Slots.{byKey};
 ghost use Rattle.trace.specs.Records.{four as fourOf, recordOf, bytesOf, replyBytes, itemOf};
@@ -60,20 +60,6 @@ pub fn item_of(bytes: &[u8]) -> Item
     }
 }
 
-// The record of a place where 8 bytes stand.
-pub fn record_at(bytes: &[u8], at: usize) -> Record
-    requires { ⌜ at + 8 ≤ length (now bytes) ⌝ }
-    ensures { λ r. ⌜ r ≡ recordOf (take 8 (drop at (now (bytes .entry)))) ⌝ }
-{
-    let value = four(bytes[at + 4], bytes[at + 5], bytes[at + 6], bytes[at + 7]);
-    Record {
-        kind: bytes[at],
-        width: bytes[at + 1],
-        address: two(bytes[at + 2], bytes[at + 3]),
-        value,
-    }
-}
-
 // The number of four bytes from a place on.
 pub fn four_at(bytes: &[u8], at: usize) -> u32
     requires { ⌜ at + 4 ≤ length (now bytes) ⌝ }
@@ -126,22 +112,7 @@ pub fn reply_bytes(reply: Reply) -> [u8; 8]
     ]
 }
 
-// The reply to a record, from a place of a buffer on.
-pub fn put_reply(replies: &mut [u8], at: usize, asked: Record, code: u8, value: u16)
-    requires { ⌜ at + 8 ≤ length (now replies) ⌝ }
-    ensures { λ _. ⌜ now (replies .exit) ≡ take at (now (replies .entry)) ++ replyBytes (record { code = code; kind = asked .kind; address = asked .address; value = value }) ++ drop (at + 8) (now (replies .entry)) ⌝ }
-{
-    replies[at] = code;
-    replies[at + 1] = asked.kind;
-    replies[at + 2] = (asked.address % 256) as u8;
-    replies[at + 3] = (asked.address / 256) as u8;
-    replies[at + 4] = (value % 256) as u8;
-    replies[at + 5] = (value / 256) as u8;
-    replies[at + 6] = 0;
-    replies[at + 7] = 0;
-}
-
-// The same, by the record's first four bytes as one number.
+// The reply to a record, by its first four bytes as one number, from a place of a buffer on, which has room for it.
 pub fn put_said(replies: &mut [u8], at: usize, key: u32, code: u8, value: u16)
     requires { ⌜ at + 8 ≤ length (now replies) ⌝ }
     ensures { λ _. ⌜ now (replies .exit) ≡ take at (now (replies .entry)) ++ replyBytes (record { code = code; kind = key % 256; address = key / 65536; value = value }) ++ drop (at + 8) (now (replies .entry)) ⌝ }
@@ -154,4 +125,20 @@ pub fn put_said(replies: &mut [u8], at: usize, key: u32, code: u8, value: u16)
     replies[at + 5] = (value / 256) as u8;
     replies[at + 6] = 0;
     replies[at + 7] = 0;
+}
+
+// The same of any place, where there is room for it.
+pub fn put_reply(replies: &mut [u8], at: usize, asked: Record, code: u8, value: u16)
+    ensures { λ _. ⌜ (at + 8 ≤ length (now (replies .entry)) → now (replies .exit) ≡ take at (now (replies .entry)) ++ replyBytes (record { code = code; kind = asked .kind; address = asked .address; value = value }) ++ drop (at + 8) (now (replies .entry))) ⌝ }
+    ensures { λ _. ⌜ (length (now (replies .entry)) < at + 8 → now (replies .exit) ≡ now (replies .entry)) ⌝ }
+{
+    let size = replies.len();
+    if size < 8 {
+        return;
+    }
+    if size - 8 < at {
+        return;
+    }
+    let key = asked.kind as u32 + 65536 * (asked.address as u32);
+    put_said(replies, at, key, code, value);
 }

@@ -8,17 +8,11 @@ use Rattle.file.proofs.registers.File.power_on.Reads as power-on-reads
 use Rattle.paper.proofs.set_register.Reads as set-register-reads
 
 -- src/lib.rt:25:18
-power-on-requires : tie.Need-power-on-requires
-power-on-requires c κs = search needs
-
 -- src/lib.rt:25:5
-set-register-requires : tie.Need-set-register-requires
-set-register-requires c κs = search needs
-
 -- src/lib.rt:22:1
 returns : tie.Need-returns
 unfolding started
 returns c = cc (c .set-register .ensures, c .before .power-on .ensures)
 
 pub opened-spec : {M : Type 1} → statement M
-opened-spec = tie.close (tie.spec power-on-requires set-register-requires returns)
+opened-spec = tie.close (tie.spec (λ c κs. search needs) (λ c κs. search needs) returns)

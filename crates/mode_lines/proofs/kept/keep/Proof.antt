@@ -19,14 +19,8 @@ Inv-loop buffer₀ count bytes at size i₀ buffer i =
 abbrev μ-loop : tie.MeasureT-loop
 μ-loop buffer₀ count bytes at size i₀ buffer i = size - i
 
-least-requires : tie.Need-least-requires Inv-loop μ-loop
-least-requires c κs = search needs
-
 sub-least : tie.Need-sub-least Inv-loop μ-loop
 sub-least c = omega arith
-
-least-requires-2 : tie.Need-least-requires-2 Inv-loop μ-loop
-least-requires-2 c κs = search needs
 
 loop-holds : tie.Need-loop-holds Inv-loop μ-loop
 loop-holds c = (rw add-zero, omega arith, refl)
@@ -86,9 +80,9 @@ keep-spec =
     (tie.spec
     Inv-loop
     μ-loop
-    least-requires
+    (λ c κs. search needs)
     sub-least
-    least-requires-2
+    (λ c κs. search needs)
     loop-holds
     shared-slice-read-buffer
     add-buffer

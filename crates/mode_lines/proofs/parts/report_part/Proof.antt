@@ -16,9 +16,6 @@ Inv-loop number count file part kept₀ reports₀ last done₀ kept reports don
 abbrev μ-loop : tie.MeasureT-loop
 μ-loop number count file part kept₀ reports₀ last done₀ kept reports done = length part - done .used
 
-last-number-requires : tie.Need-last-number-requires Inv-loop μ-loop
-last-number-requires c κs = search needs
-
 loop-holds : tie.Need-loop-holds Inv-loop μ-loop
 unfolding lastNumber
 loop-holds c =
@@ -27,12 +24,6 @@ loop-holds c =
 
 sub-report-next : tie.Need-sub-report-next Inv-loop μ-loop
 sub-report-next c = omega arith
-
-part-report-next-start : tie.Need-part-report-next-start Inv-loop μ-loop
-part-report-next-start c = search needs
-
-part-report-next-end : tie.Need-part-report-next-end Inv-loop μ-loop
-part-report-next-end c = search needs
 
 report-next-requires : tie.Need-report-next-requires Inv-loop μ-loop
 unfolding lastNumber
@@ -87,11 +78,11 @@ report-part-spec =
     (tie.spec
     Inv-loop
     μ-loop
-    last-number-requires
+    (λ c κs. search needs)
     loop-holds
     sub-report-next
-    part-report-next-start
-    part-report-next-end
+    (λ c. search needs)
+    (λ c. search needs)
     report-next-requires
     loop-less
     loop-again

@@ -21,33 +21,9 @@ Inv-loop buffer₀ at numbers at₀ i₀ buffer here i =
 abbrev μ-loop : tie.MeasureT-loop
 μ-loop buffer₀ at numbers at₀ i₀ buffer here i = length numbers - i
 
-slice-aggregate-keep : tie.Need-slice-aggregate-keep Inv-loop μ-loop
-slice-aggregate-keep c = search needs
-
-keep-requires : tie.Need-keep-requires Inv-loop μ-loop
-keep-requires c κs = search needs
-
 loop-holds : tie.Need-loop-holds Inv-loop μ-loop
 unfolding spaced
 loop-holds c = (kept-none _ _ (c .before .before .keep .ensures .1 .0), omega arith, refl)
-
-mul-to-u64 : tie.Need-mul-to-u64 Inv-loop μ-loop
-mul-to-u64 c = search needs
-
-shared-slice-read-to-u64 : tie.Need-shared-slice-read-to-u64 Inv-loop μ-loop
-shared-slice-read-to-u64 c = search needs
-
-to-u64-requires : tie.Need-to-u64-requires Inv-loop μ-loop
-to-u64-requires c κs = search needs
-
-put-behind-requires : tie.Need-put-behind-requires Inv-loop μ-loop
-put-behind-requires c κs = search needs
-
-add-i : tie.Need-add-i Inv-loop μ-loop
-add-i c = search needs
-
-loop-less : tie.Need-loop-less Inv-loop μ-loop
-loop-less c = search needs
 
 loop-again : tie.Need-loop-again Inv-loop μ-loop
 loop-again c =
@@ -74,15 +50,15 @@ put-each-spec =
     (tie.spec
     Inv-loop
     μ-loop
-    slice-aggregate-keep
-    keep-requires
+    (λ c. search needs)
+    (λ c κs. search needs)
     loop-holds
-    mul-to-u64
-    shared-slice-read-to-u64
-    to-u64-requires
-    put-behind-requires
-    add-i
-    loop-less
+    (λ c. search needs)
+    (λ c. search needs)
+    (λ c κs. search needs)
+    (λ c κs. search needs)
+    (λ c. search needs)
+    (λ c. search needs)
     loop-again
     same-length
     returns)

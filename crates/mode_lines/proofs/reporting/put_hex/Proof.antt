@@ -5,21 +5,6 @@ use borrow.Author.Needs.{needs}
 use Rattle.mode_lines.proofs.reporting.put_hex.Statement.{statement}
 use Rattle.mode_lines.proofs.reporting.put_hex.Tie as tie
 
-capital-requires : tie.Need-capital-requires
-capital-requires c κs = search needs
-
-capital-requires-2 : tie.Need-capital-requires-2
-capital-requires-2 c κs = search needs
-
-slice-aggregate-keep : tie.Need-slice-aggregate-keep
-slice-aggregate-keep c = search needs
-
-keep-requires : tie.Need-keep-requires
-keep-requires c κs = search needs
-
-same-length : tie.Need-same-length
-same-length c = search needs
-
 returns : tie.Need-returns
 unfolding space hexTwo
 returns c =
@@ -29,9 +14,9 @@ pub put-hex-spec : {M : Type 1} → statement M
 put-hex-spec =
     tie.close
     (tie.spec
-    capital-requires
-    capital-requires-2
-    slice-aggregate-keep
-    keep-requires
-    same-length
+    (λ c κs. search needs)
+    (λ c κs. search needs)
+    (λ c. search needs)
+    (λ c κs. search needs)
+    (λ c. search needs)
     returns)

@@ -7,9 +7,6 @@ use Rattle.modes.proofs.stages.clocked.Statement.{statement}
 use Rattle.modes.proofs.stages.clocked.Tie as tie
 
 -- three digits are less than 1000 MHz
-behind-whole-requires : tie.Need-behind-whole-requires
-behind-whole-requires c κs = search needs
-
 returns : tie.Need-returns
 unfolding readClock
 returns c =
@@ -24,4 +21,4 @@ returns-2 c =
 
 pub clocked-spec : {M : Type 1} → statement M
 clocked-spec =
-    tie.close (tie.spec (λ c κs. search needs) (λ c κs. search needs) returns behind-whole-requires returns-2)
+    tie.close (tie.spec (λ c κs. search needs) (λ c κs. search needs) returns (λ c κs. search needs) returns-2)

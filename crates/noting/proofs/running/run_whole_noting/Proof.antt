@@ -65,11 +65,6 @@ mul-record-at c = search needs
 mul-put-reply : tie.Need-mul-put-reply Inv-loop μ-loop
 mul-put-reply c = record { fits = mul-record-at (c .before .before .before .before .before .before .before .before .before .before) .fits }
 
-put-reply-requires : tie.Need-put-reply-requires Inv-loop μ-loop
-put-reply-requires c κs =
-    let room = c .before .before .before .before .before .before .before .before .before .before .before .before .before .before .before .before .before .before .before .before .pre .2 in
-    omega (arith, buffer-long _ _ _ (c .before .before .before .before .before .before .before .before .before .before .before .loop .inv .held) room, c .before .before .before .before .before .before .before .before .before .before .loop-test .taken, room)
-
 mul-bank : tie.Need-mul-bank Inv-loop μ-loop
 mul-bank c = record { fits = omega (arith, c .bank-entry2 .ensures .1) }
 
@@ -114,7 +109,7 @@ loop-again c =
           (λ x. rw (x .0 .left) (x .1))))
           (came-by (painted .came) (λ x. rw (x .0 .taken, x .1 .taken) (x .4 ∙ ap (λ (i : ℕ). set (turn .bank) i (after .colour)) (x .2 .ensures .0)))
           (λ y. came-by y (λ x. rw (x .0 .taken, x .1 .left) (x .4)) (λ x. rw (x .0 .left) (x .2))))
-          _ (c .before .before .before .before .before .put-reply .ensures);
+          _ (c .before .before .before .before .before .put-reply .ensures .0 (omega (arith, buffer-long _ _ _ inv (start .pre .2), more, start .pre .2)));
       noted =
           noted-step _ _ _ (turn .n) (omega (arith, more, start .pre .1)) (turn .registers) (turn .palette) (turn .bank) (turn .state) (inv .file)
           (asked .result) (asked .ensures) (turn .set) _ (done .result .reach) (turn .inv .noted) (done .ensures .1) (c .before .before .before .before .before .before .before .before .note .ensures);
@@ -142,6 +137,6 @@ run-whole-noting-spec =
     tie.close
     (tie.spec Inv-loop μ-loop (λ c κs. search needs) (λ c κs. search needs) loop-holds (λ c. search needs) (λ c κs. search needs)
     serve-noting-requires (λ c κs. search needs) (λ c κs. search needs) (λ c κs. search needs) mul-in-bank array-copy-out-in-bank
-    (λ c κs. search needs) mul-in-palette array-copy-out-in-palette (λ c κs. search needs) mul-put-reply put-reply-requires
+    (λ c κs. search needs) mul-in-palette array-copy-out-in-palette (λ c κs. search needs) mul-put-reply (λ c κs. search needs)
     (λ c κs. search needs) mul-bank array-set-from-bank (λ c κs. search needs) mul-palette array-set-from-palette add-n loop-less
     loop-again same-length returns)

@@ -12,15 +12,6 @@ use borrow.Author.Needs.{needs}
 use Rattle.plan.proofs.short_planning.put_stages.Statement.{statement}
 use Rattle.plan.proofs.short_planning.put_stages.Tie as tie
 
-slice-aggregate-registers : tie.Need-slice-aggregate-registers
-slice-aggregate-registers c = search needs
-
-slice-aggregate-named : tie.Need-slice-aggregate-named
-slice-aggregate-named c = search needs
-
-register-rows-requires : tie.Need-register-rows-requires
-register-rows-requires c κs = search needs
-
 put-opening-requires : tie.Need-put-opening-requires
 put-opening-requires c κs = let start = c .before .before .before .before .before .before .before .before .before in omega (arith, stage-parts (start .args .saved) (start .args .set), start .pre)
 
@@ -41,9 +32,6 @@ put-marks-requires c κs =
     let w = start .args .saved in
     room-behind 3 (second .put-short-colours .ensures)
     (room-behind (length (shortColours (start .args .set) (w .palette) (w .bank)) + 3) (first .put-opening .ensures) (omega (arith, stage-parts w (start .args .set), start .pre)))
-
-slice-aggregate-put-named-registers : tie.Need-slice-aggregate-put-named-registers
-slice-aggregate-put-named-registers c = search needs
 
 put-named-registers-requires : tie.Need-put-named-registers-requires
 unfolding opening
@@ -94,9 +82,6 @@ put-closing-requires c κs =
     (room-behind (marks + (before + 10)) (second .put-short-colours .ensures)
     (room-behind (length (shortColours (start .args .set) (w .palette) (w .bank)) + (marks + (before + 10))) (first .put-opening .ensures) (omega (arith, stage-parts w (start .args .set), start .pre))))))
 
-same-length : tie.Need-same-length
-same-length c = search needs
-
 returns : tie.Need-returns
 unfolding stageRecords
 returns c =
@@ -117,15 +102,15 @@ pub put-stages-spec : {M : Type 1} → statement M
 put-stages-spec =
     tie.close
     (tie.spec
-    slice-aggregate-registers
-    slice-aggregate-named
-    register-rows-requires
+    (λ c. search needs)
+    (λ c. search needs)
+    (λ c κs. search needs)
     put-opening-requires
     put-short-colours-requires
     put-marks-requires
-    slice-aggregate-put-named-registers
+    (λ c. search needs)
     put-named-registers-requires
     put-indices-requires
     put-closing-requires
-    same-length
+    (λ c. search needs)
     returns)

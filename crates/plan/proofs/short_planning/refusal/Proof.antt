@@ -8,22 +8,13 @@ use borrow.Author.Needs.{needs}
 use Rattle.plan.proofs.short_planning.refusal.Statement.{statement}
 use Rattle.plan.proofs.short_planning.refusal.Tie as tie
 
-is-sound-requires : tie.Need-is-sound-requires
-is-sound-requires c κs = search needs
-
 returns : tie.Need-returns
 unfolding withoutRoom
 returns c = rw (sym (c .before .is-sound .ensures) ∙ not-true _ (c .if1 .taken))
 
-is-sound-requires-2 : tie.Need-is-sound-requires-2
-is-sound-requires-2 c κs = search needs
-
 returns-2 : tie.Need-returns-2
 unfolding withoutRoom
 returns-2 c = rw (sym (c .before .before .before .is-sound .ensures) ∙ not-false _ (c .before .before .if1 .left), sym (c .before .is-sound2 .ensures) ∙ not-true _ (c .if2 .taken))
-
-on-one-chip-requires : tie.Need-on-one-chip-requires
-on-one-chip-requires c κs = search needs
 
 returns-3 : tie.Need-returns-3
 unfolding withoutRoom
@@ -33,9 +24,6 @@ returns-4 : tie.Need-returns-4
 unfolding withoutRoom
 returns-4 c =
     rw (sym (c .before .before .before .before .before .before .before .is-sound .ensures) ∙ not-false _ (c .before .before .before .before .before .before .if1 .left), sym (c .before .before .before .before .before .is-sound2 .ensures) ∙ not-false _ (c .before .before .before .before .if2 .left), sym (c .before .before .before .on-one-chip .ensures) ∙ not-false _ (c .before .before .if3 .left), ne-eqb (c .before .before .before .before .before .before .before .before .args .saved .state .pointer .next) 0 (c .if4 .taken))
-
-agrees-outside-requires : tie.Need-agrees-outside-requires
-agrees-outside-requires c κs = search needs
 
 returns-5 : tie.Need-returns-5
 unfolding withoutRoom
@@ -55,13 +43,13 @@ pub refusal-spec : {M : Type 1} → statement M
 refusal-spec =
     tie.close
     (tie.spec
-    is-sound-requires
+    (λ c κs. search needs)
     returns
-    is-sound-requires-2
+    (λ c κs. search needs)
     returns-2
-    on-one-chip-requires
+    (λ c κs. search needs)
     returns-3
     returns-4
-    agrees-outside-requires
+    (λ c κs. search needs)
     returns-5
     returns-6)

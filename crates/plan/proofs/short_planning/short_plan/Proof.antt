@@ -11,12 +11,6 @@ use borrow.Author.Needs.{needs}
 use Rattle.plan.proofs.short_planning.short_plan.Statement.{statement}
 use Rattle.plan.proofs.short_planning.short_plan.Tie as tie
 
-refusal-requires : tie.Need-refusal-requires
-refusal-requires c κs = search needs
-
-code-requires : tie.Need-code-requires
-code-requires c κs = search needs
-
 returns : tie.Need-returns
 returns c =
     let args = c .before .before .before .before .args in
@@ -36,9 +30,6 @@ put-short-requires c κs =
     let w = start .args .saved in
     omega (arith, short-no-longer w (start .args .set), plan-room w (is-file w _ (start .good .1 .0)), c .before .if2 .left)
 
-same-length : tie.Need-same-length
-same-length c = search needs
-
 returns-3 : tie.Need-returns-3
 returns-3 c =
     let start = c .before .before .before .before .before .before .before .before .before in
@@ -51,10 +42,10 @@ pub short-plan-spec : {M : Type 1} → statement M
 short-plan-spec =
     tie.close
     (tie.spec
-    refusal-requires
-    code-requires
+    (λ c κs. search needs)
+    (λ c κs. search needs)
     returns
     returns-2
     put-short-requires
-    same-length
+    (λ c. search needs)
     returns-3)

@@ -22,9 +22,6 @@ unfolding entryRecords pixel
 put-pixel-requires c κs =
     room-behind 3 (c .before .before .before .mmio-write .ensures) (omega (arith, rw (not-false (c .before .before .before .before .before .before .before .before .args .named) (c .before .before .before .before .before .before .if1 .left), c .before .before .before .before .before .if2 .taken) at (c .before .before .before .before .before .before .before .before .pre)))
 
-same-length : tie.Need-same-length
-same-length c = search needs
-
 returns-2 : tie.Need-returns-2
 unfolding entryRecords pixel
 returns-2 c = rw (not-false (c .before .before .before .before .before .before .before .before .before .before .before .args .named) (c .before .before .before .before .before .before .before .before .before .if1 .left), c .before .before .before .before .before .before .before .before .if2 .taken) (append-then (c .before .before .before .before .before .before .mmio-write .ensures) (c .before .before .put-pixel .ensures))
@@ -32,9 +29,6 @@ returns-2 c = rw (not-false (c .before .before .before .before .before .before .
 put-pixel-requires-2 : tie.Need-put-pixel-requires-2
 unfolding entryRecords pixel
 put-pixel-requires-2 c κs = omega (arith, rw (not-false (c .before .before .before .before .args .named) (c .before .before .if1 .left), c .before .if2 .left) at (c .before .before .before .before .pre))
-
-same-length-2 : tie.Need-same-length-2
-same-length-2 c = search needs
 
 returns-3 : tie.Need-returns-3
 unfolding entryRecords pixel
@@ -47,8 +41,8 @@ put-entry-spec =
     returns
     mmio-write-requires
     put-pixel-requires
-    same-length
+    (λ c. search needs)
     returns-2
     put-pixel-requires-2
-    same-length-2
+    (λ c. search needs)
     returns-3)

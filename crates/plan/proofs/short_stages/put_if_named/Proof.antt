@@ -8,17 +8,11 @@ use borrow.Author.Needs.{needs}
 use Rattle.plan.proofs.short_stages.put_if_named.Statement.{statement}
 use Rattle.plan.proofs.short_stages.put_if_named.Tie as tie
 
-is-marked-requires : tie.Need-is-marked-requires
-is-marked-requires c κs = search needs
-
 put-register-requires : tie.Need-put-register-requires
 put-register-requires c κs =
     let start = c .before .before .before .before .before .before in
     let one = named-one (now (start .args .registers)) (now (start .args .named)) (start .args .row) (sym (c .before .before .is-marked .ensures) ∙ c .before .if1 .taken) in
     omega (arith, rw one at (start .pre))
-
-same-length : tie.Need-same-length
-same-length c = search needs
 
 returns : tie.Need-returns
 returns c =
@@ -33,4 +27,4 @@ returns-2 c =
 
 pub put-if-named-spec : {M : Type 1} → statement M
 put-if-named-spec =
-    tie.close (tie.spec is-marked-requires put-register-requires same-length returns returns-2)
+    tie.close (tie.spec (λ c κs. search needs) put-register-requires (λ c. search needs) returns returns-2)

@@ -18,32 +18,11 @@ abbrev μ-loop : tie.MeasureT-loop
 loop-holds : tie.Need-loop-holds Inv-loop μ-loop
 loop-holds c = record { rest = all-left _ _ (entriesNamed true 0 (c .before .args .t1) (c .before .args .t2)); few = omega arith }
 
-array-read-put-entry : tie.Need-array-read-put-entry Inv-loop μ-loop
-array-read-put-entry c = search needs
-
-word-requires : tie.Need-word-requires Inv-loop μ-loop
-word-requires c κs = search needs
-
-mul-put-entry : tie.Need-mul-put-entry Inv-loop μ-loop
-mul-put-entry c = search needs
-
-array-copy-out-put-entry : tie.Need-array-copy-out-put-entry Inv-loop μ-loop
-array-copy-out-put-entry c = search needs
-
 put-entry-requires : tie.Need-put-entry-requires Inv-loop μ-loop
 put-entry-requires c κs =
     let loop = c .before .before .before .before in
     let start = loop .before .before in
     rw (c .before .before .word .ensures) (named-room (start .good .0 .1 .0 .1) (start .good .1 .0 .1 .0 .1) (loop .loop .inv) _ (omega arith) (start .pre))
-
-array-read-apart : tie.Need-array-read-apart Inv-loop μ-loop
-array-read-apart c = search needs
-
-add-i : tie.Need-add-i Inv-loop μ-loop
-add-i c = search needs
-
-loop-less : tie.Need-loop-less Inv-loop μ-loop
-loop-less c = search needs
 
 loop-again : tie.Need-loop-again Inv-loop μ-loop
 loop-again c =
@@ -67,14 +46,14 @@ put-named-bank-spec =
     Inv-loop
     μ-loop
     loop-holds
-    array-read-put-entry
-    word-requires
-    mul-put-entry
-    array-copy-out-put-entry
+    (λ c. search needs)
+    (λ c κs. search needs)
+    (λ c. search needs)
+    (λ c. search needs)
     put-entry-requires
-    array-read-apart
-    add-i
-    loop-less
+    (λ c. search needs)
+    (λ c. search needs)
+    (λ c. search needs)
     loop-again
     same-length
     returns)

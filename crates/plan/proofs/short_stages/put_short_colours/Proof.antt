@@ -12,9 +12,6 @@ use borrow.Author.Needs.{needs}
 use Rattle.plan.proofs.short_stages.put_short_colours.Statement.{statement}
 use Rattle.plan.proofs.short_stages.put_short_colours.Tie as tie
 
-array-write-in-bank : tie.Need-array-write-in-bank
-array-write-in-bank c = search needs
-
 put-named-palette-requires : tie.Need-put-named-palette-requires
 put-named-palette-requires c κs =
     let start = c .before .before .before .before in
@@ -33,9 +30,6 @@ put-named-bank-requires c κs =
     room-behind left (c .before .before .before .mmio-write .ensures)
     (room-behind (1 + left) (c .before .before .before .before .before .before .before .put-named-palette .ensures) (omega (arith, short-room (start .args .set) (start .args .palette) (start .args .bank), start .pre)))
 
-same-length : tie.Need-same-length
-same-length c = search needs
-
 returns : tie.Need-returns
 unfolding openBank bankNamed lastEntry
 returns c =
@@ -47,9 +41,9 @@ pub put-short-colours-spec : {M : Type 1} → statement M
 put-short-colours-spec =
     tie.close
     (tie.spec
-    array-write-in-bank
+    (λ c. search needs)
     put-named-palette-requires
     mmio-write-requires
     put-named-bank-requires
-    same-length
+    (λ c. search needs)
     returns)

@@ -21,33 +21,6 @@ loop-holds : tie.Need-loop-holds Inv-loop μ-loop
 unfolding everyBelow
 loop-holds c = (refl, omega arith)
 
-array-read-either : tie.Need-array-read-either Inv-loop μ-loop
-array-read-either c = search needs
-
-mul-either : tie.Need-mul-either Inv-loop μ-loop
-mul-either c = search needs
-
-array-read-either-2 : tie.Need-array-read-either-2 Inv-loop μ-loop
-array-read-either-2 c = search needs
-
-mul-either-2 : tie.Need-mul-either-2 Inv-loop μ-loop
-mul-either-2 c = search needs
-
-array-read-either-3 : tie.Need-array-read-either-3 Inv-loop μ-loop
-array-read-either-3 c = search needs
-
-either-requires : tie.Need-either-requires Inv-loop μ-loop
-either-requires c κs = search needs
-
-both-requires : tie.Need-both-requires Inv-loop μ-loop
-both-requires c κs = search needs
-
-add-n : tie.Need-add-n Inv-loop μ-loop
-add-n c = search needs
-
-loop-less : tie.Need-loop-less Inv-loop μ-loop
-loop-less c = search needs
-
 loop-again : tie.Need-loop-again Inv-loop μ-loop
 unfolding wordAgrees black
 loop-again c =
@@ -71,14 +44,14 @@ registers-agree-spec =
     Inv-loop
     μ-loop
     loop-holds
-    array-read-either
-    mul-either
-    array-read-either-2
-    mul-either-2
-    array-read-either-3
-    either-requires
-    both-requires
-    add-n
-    loop-less
+    (λ c. search needs)
+    (λ c. search needs)
+    (λ c. search needs)
+    (λ c. search needs)
+    (λ c. search needs)
+    (λ c κs. search needs)
+    (λ c κs. search needs)
+    (λ c. search needs)
+    (λ c. search needs)
     loop-again
     returns)

@@ -49,7 +49,7 @@ returns-3 c =
         c .before .before .before .before .before .before .before .run-whole2 .ensures .0 ∙ sym (fragment-file (start .args .whole) trace (length trace / 8) short) ∙ ap (λ (k : ℕ). fileAfter (start .args .whole) (items k trace)) (sym count),
         sym count,
       ),
-      c .before .before .put-fragment .ensures ∙ next-said (start .args .whole) trace (start .args .replies .now) (length trace / 8) _ _ (c .before .before .before .before .before .before .before .run-whole2 .ensures .1) (fragment-replies (start .args .whole) trace (length trace / 8) short (start .pre)) ∙ ap (λ (k : ℕ). replies (start .args .whole) (items k trace) ++ drop (8 * k) (start .args .replies .now)) (sym count),
+      c .before .before .put-fragment .ensures .0 (omega arith) (search needs) ∙ next-said (start .args .whole) trace (start .args .replies .now) (length trace / 8) _ _ (c .before .before .before .before .before .before .before .run-whole2 .ensures .1) (fragment-replies (start .args .whole) trace (length trace / 8) short (start .pre)) ∙ ap (λ (k : ℕ). replies (start .args .whole) (items k trace) ++ drop (8 * k) (start .args .replies .now)) (sym count),
     )
 
 pub run-sound-spec : {M : Type 1} → statement M

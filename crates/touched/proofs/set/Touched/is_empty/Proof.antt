@@ -7,12 +7,9 @@ use borrow.Author.Needs.{needs}
 use Rattle.touched.proofs.set.Touched.is_empty.Statement.{statement}
 use Rattle.touched.proofs.set.Touched.is_empty.Tie as tie
 
-size-requires : tie.Need-size-requires
-size-requires c κs = search needs
-
 returns : tie.Need-returns
 unfolding isEmpty
 returns c = ap (λ (n : ℕ). eqb n 0) (c .size .ensures)
 
 pub is-empty-spec : {M : Type 1} → statement M
-is-empty-spec = tie.close (tie.spec size-requires returns)
+is-empty-spec = tie.close (tie.spec (λ c κs. search needs) returns)

@@ -7,46 +7,19 @@ use borrow.Author.Needs.{needs}
 use Rattle.touched.proofs.set.Touched.size.Statement.{statement}
 use Rattle.touched.proofs.set.Touched.size.Tie as tie
 
-slice-aggregate-many : tie.Need-slice-aggregate-many
-slice-aggregate-many c = search needs
-
-many-requires : tie.Need-many-requires
-many-requires c κs = search needs
-
-slice-aggregate-many-2 : tie.Need-slice-aggregate-many-2
-slice-aggregate-many-2 c = search needs
-
-many-requires-2 : tie.Need-many-requires-2
-many-requires-2 c κs = search needs
-
 add-entries : tie.Need-add-entries
 add-entries c =
     let start = c .before .before .before .before .before .before .before in
     let is = is-set (start .args .self) _ (start .good .0) in
     omega (arith, c .before .before .many .ensures, c .many2 .ensures, many-few (start .args .self .palette), many-few (start .args .self .bank), is .palette, is .bank)
 
-one-requires : tie.Need-one-requires
-one-requires c κs = search needs
-
-one-requires-2 : tie.Need-one-requires-2
-one-requires-2 c κs = search needs
-
 add-state : tie.Need-add-state
 add-state c = omega (arith, c .before .one .ensures, c .one2 .ensures, one-few (c .before .before .before .before .before .before .before .before .before .args .self .pointer), one-few (c .before .before .before .before .before .before .before .before .before .args .self .marks))
-
-one-requires-3 : tie.Need-one-requires-3
-one-requires-3 c κs = search needs
 
 add-state-2 : tie.Need-add-state-2
 add-state-2 c =
     let self = c .before .before .before .before .before .before .before .before .before .before .args .self in
     omega (arith, c .before .before .one .ensures, c .before .one2 .ensures, c .one3 .ensures, one-few (self .pointer), one-few (self .marks), one-few (self .toggle))
-
-slice-aggregate-many-3 : tie.Need-slice-aggregate-many-3
-slice-aggregate-many-3 c = search needs
-
-many-requires-3 : tie.Need-many-requires-3
-many-requires-3 c κs = search needs
 
 add-result : tie.Need-add-result
 add-result c =
@@ -104,18 +77,18 @@ pub size-spec : {M : Type 1} → statement M
 size-spec =
     tie.close
     (tie.spec
-    slice-aggregate-many
-    many-requires
-    slice-aggregate-many-2
-    many-requires-2
+    (λ c. search needs)
+    (λ c κs. search needs)
+    (λ c. search needs)
+    (λ c κs. search needs)
     add-entries
-    one-requires
-    one-requires-2
+    (λ c κs. search needs)
+    (λ c κs. search needs)
     add-state
-    one-requires-3
+    (λ c κs. search needs)
     add-state-2
-    slice-aggregate-many-3
-    many-requires-3
+    (λ c. search needs)
+    (λ c κs. search needs)
     add-result
     add-result-2
     returns)

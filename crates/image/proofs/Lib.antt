@@ -1,0 +1,3 @@
+pub mod Filling
+pub mod SavedLoads
+pub mod RestKept

@@ -1,0 +1,4 @@
+pub mod Typed
+pub mod Counts
+pub mod SummedOneByOne
+pub mod NoneFull

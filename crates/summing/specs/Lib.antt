@@ -1,0 +1,4 @@
+pub mod Summed
+pub mod OneByOne
+pub mod Together
+pub mod Closing
