@@ -1,4 +1,6 @@
 // One access to a register file: record, place, answer and effect.
+#![tactic(auto)]
+
 mod access;
 mod engine;
 mod record;

@@ -1,4 +1,6 @@
 // Bits of numbers: the store rule, the pieces of split fields and tables of numbers in pieces. Nothing here knows a card.
+#![tactic(auto)]
+
 mod numbers;
 mod pieces;
 

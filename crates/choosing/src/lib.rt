@@ -1,4 +1,6 @@
 // The chip and the engine that a program is started for, by its words.
+#![tactic(auto)]
+
 mod choosing;
 mod options;
 mod words;

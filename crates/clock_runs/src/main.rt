@@ -1,6 +1,8 @@
 // The dot clock of files, run over the compiled code. Standard input has nine bytes for each: MISC, SR0B to SR0E and SR1B to SR1E, which
 // stand in a file at power-on as they are, so that a bit that isn't stored makes it unsound. A line for each: the code, the rate's bits in
 // hex or `none`, and both whole numbers.
+#![tactic(auto)]
+
 use clock::{ClockRead, DotClock, clock};
 use file::{Chip, File, MISC};
 use libc::{STDIN_FILENO, STDOUT_FILENO};

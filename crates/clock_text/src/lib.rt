@@ -1,4 +1,6 @@
 // The clock report over lent bytes: a line for each register set, and a summary.
+#![tactic(auto)]
+
 mod parts;
 mod put;
 mod sets;

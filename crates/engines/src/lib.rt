@@ -1,4 +1,6 @@
 // Either engine: the quick one, `trace::run`, and the plain one, `plain::run`. Both have one contract, so what comes of a trace is the same by either.
+#![tactic(auto)]
+
 ghost use Rattle.std.specs.Prelude.{◌≡◌};
 ghost use Rattle.trace.specs.Run.{run as run_of};
 

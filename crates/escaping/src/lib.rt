@@ -1,4 +1,6 @@
 // Bytes of any kind as text that is safe on a terminal.
+#![tactic(auto)]
+
 ghost use Rattle.std.specs.Prelude.{◌≡◌, ◌+◌, ◌≤◌, ◌<◌, leb, length};
 ghost use Rattle.text.specs.Lent.{Wrote};
 ghost use Rattle.text.specs.Text.{capital as capitalOf};

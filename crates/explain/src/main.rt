@@ -1,4 +1,6 @@
 // Explain: a trace on standard input, from a chip's power-on, with lines in words for each record, or with what it did in all.
+#![tactic(auto)]
+
 mod course;
 
 use choosing::{Choice, Chosen, choose, choose_behind};

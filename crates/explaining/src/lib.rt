@@ -1,4 +1,6 @@
 // What a trace's records do, in words: the line of a record, and what it may change.
+#![tactic(auto)]
+
 mod explain;
 mod line;
 mod meaning;

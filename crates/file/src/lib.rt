@@ -1,4 +1,6 @@
 // The register file of the CL-GD546X as a value: registers, palette, bank, and a state with pointer, marks, toggle and chip; what an access may do to it.
+#![tactic(auto)]
+
 mod answer;
 mod chip;
 mod effect;

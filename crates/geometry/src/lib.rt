@@ -1,5 +1,7 @@
 // The hardware cursor, window 2 and the capture window of a register file. Horizontal places are pixels, a third kind beside clocks and scanlines.
 // Where a place may lie before the first pixel or scanline its unit is a signed one. What is captured comes with clocks and scanlines of its own.
+#![tactic(auto)]
+
 mod edge;
 mod reader;
 

@@ -1,4 +1,6 @@
 // The bytes of a text for people: words of two hex digits with blanks, line ends and comments around them. The text is read in parts, in fixed memory.
+#![tactic(auto)]
+
 mod reading;
 mod source;
 mod state;

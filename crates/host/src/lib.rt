@@ -1,4 +1,6 @@
 // The register file for a host in C: a file is 108 words and 826 bytes that the host owns and lends.
+#![tactic(auto)]
+
 mod finding;
 mod lists;
 mod serving;

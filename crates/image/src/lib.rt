@@ -1,4 +1,6 @@
 // A file as its host owns it, in words and bytes, and the image that it is saved as.
+#![tactic(auto)]
+
 mod bytes;
 mod parts;
 mod saving;

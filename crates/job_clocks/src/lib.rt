@@ -1,4 +1,6 @@
 // The job of the command `clocks`: register sets that are fed in parts, a line for each, and the summary when it is closed.
+#![tactic(auto)]
+
 ghost use Rattle.std.specs.Prelude.{◌≡◌, min};
 ghost use Rattle.io.specs.Counts.{IsPrefixLen};
 ghost use Rattle.text.specs.Lent.{Lined};

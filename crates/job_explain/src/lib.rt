@@ -1,4 +1,6 @@
 // The command `explain` as a job over lent bytes: it is started on a chip, fed a trace in parts, and closed.
+#![tactic(auto)]
+
 mod job;
 mod part;
 mod turn;

@@ -1,4 +1,6 @@
 // The job of the command `modeline`: lines that are fed in parts, each read into a file and reported; and the line of a file.
+#![tactic(auto)]
+
 mod line;
 mod lines;
 

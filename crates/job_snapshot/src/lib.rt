@@ -1,4 +1,6 @@
 // Snapshot as a job: the plan of a file as bytes; and a second trace that is fed in parts, with the short plan back to the file that it began with.
+#![tactic(auto)]
+
 mod following;
 mod refusing;
 mod saving;

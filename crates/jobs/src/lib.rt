@@ -1,5 +1,7 @@
 // Every command as one job over lent bytes: it is started from the options, fed its input in parts, and closed; and the way from the bytes that were read,
 // a text for people or not, to the job.
+#![tactic(auto)]
+
 mod closing;
 mod flow;
 mod job;

@@ -1,6 +1,8 @@
 // For bench/run: runs the trace on standard input from power-on and prints nothing of it; then does one thing some hundred times with
 // the file that it ends in. Words: `run`, or `flat`, the run by the plain engine; or `read`, `write` (the timing), `plan` or `restore` (from
 // power-on) and a digit for the hundreds. The number that it prints hangs on all that it did.
+#![tactic(auto)]
+
 use engines::{Engine, run_by};
 use file::{Chip, File};
 use libc::{STDIN_FILENO, STDOUT_FILENO};

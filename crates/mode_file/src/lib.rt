@@ -1,4 +1,6 @@
 // A modeline into a register file, and out of one.
+#![tactic(auto)]
+
 mod into;
 mod said;
 mod verdict;

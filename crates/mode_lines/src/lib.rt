@@ -1,4 +1,6 @@
 // Modelines of an input, line by line, and what is reported of each; and the line of a file, from a name and a clock in words.
+#![tactic(auto)]
+
 mod composed;
 mod kept;
 mod parts;

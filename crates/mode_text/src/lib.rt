@@ -1,4 +1,6 @@
 // A modeline out of a register file.
+#![tactic(auto)]
+
 mod fits;
 mod put;
 mod write;

@@ -1,4 +1,6 @@
 // Modeline: some lines of an input, and what is reported of each.
+#![tactic(auto)]
+
 mod lines;
 mod out;
 mod words;

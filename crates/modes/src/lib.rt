@@ -1,4 +1,6 @@
 // The form of a modeline, and the reader of one: text to a name, a clock, eight numbers and two flags, or to the place of the first bad byte.
+#![tactic(auto)]
+
 mod flags;
 mod mode;
 mod number;

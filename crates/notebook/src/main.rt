@@ -1,5 +1,7 @@
 // Notebook: the timing of the portable sibling, of CR00h to CR1Bh on standard input. Without a word it prints the code and the fourteen numbers; behind a
 // list of fourteen numbers it writes the bytes with these in them, or tells the code.
+#![tactic(auto)]
+
 ghost use Rattle.std.specs.Prelude.{◌++◌, ◌≡◌, ◌≤◌, length, drop};
 ghost use Rattle.io.specs.Counts.{IsPrefixLen};
 ghost use Rattle.portable_text.specs.Line.{line_most, line_of};

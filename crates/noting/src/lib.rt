@@ -1,4 +1,6 @@
 // 02, 11/13: accesses, runs, timing writes and modelines that keep the set of what they touched beside the file.
+#![tactic(auto)]
+
 mod kept;
 mod running;
 mod writing;

@@ -1,5 +1,7 @@
 // For bench/run: one access by value, some hundred times, with both spaces on. Words: `access` and a digit for the hundreds. The number that it prints hangs on
 // all that it did. It is a program of its own: beside another caller the compiler lays out a run in another way.
+#![tactic(auto)]
+
 use access::Record;
 use file::{Chip, File};
 use libc::STDOUT_FILENO;

@@ -1,4 +1,6 @@
 // The words that the program is started with, and what is said of wrong ones.
+#![tactic(auto)]
+
 mod ending;
 mod inputs;
 mod line;

@@ -1,4 +1,6 @@
 // The start of 01's worked examples, made by the file type's power-on constructor and its mask constants.
+#![tactic(auto)]
+
 ghost use Rattle.std.specs.Prelude.{◌≡◌};
 ghost use Rattle.paper.specs.Examples.{set_register, started, opened as openedSettings};
 

@@ -1,4 +1,6 @@
 // A stored trace is replayed through the reader: by one run, by runs that have places for three replies, and item by item.
+#![tactic(auto)]
+
 ghost use Rattle.std.specs.Prelude.{◌≡◌, min};
 
 mod printing;

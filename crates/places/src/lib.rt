@@ -1,4 +1,6 @@
 // What stands at each address of each space, and the engine's way to find it: a table of cells, made once and lent.
+#![tactic(auto)]
+
 mod decode;
 mod place;
 

@@ -18,6 +18,8 @@
 //    stands there is `reg`, register 20h of the file. The lock refuses CR0 to CR6 (8) and not CR7; of CR7 it leaves bit 4 to the write, and not the row's
 //    stored bits, FF. So bit 4 is taken from FFh and the others stay.
 // 4. `put_reply` (running) stores the reply: code 0, kind 5, address 1Ch, value 0, that is 00 05 1C 00 00 00 00 00.
+#![tactic(auto)]
+
 mod accessing;
 mod checks;
 mod lines;

@@ -1,4 +1,6 @@
 // The plan: records that put any card into a wanted file, and the short one back to a saved file.
+#![tactic(auto)]
+
 mod chips;
 mod planning;
 mod records;

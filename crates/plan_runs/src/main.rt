@@ -1,4 +1,6 @@
 // 01's runs of plan and restore over the compiled code, a line for each: code, count, and what became of file and buffer.
+#![tactic(auto)]
+
 use file::{Chip, Colour, File, Pointer, REGISTERS, State};
 use libc::STDOUT_FILENO;
 use paper::set_register;

@@ -1,4 +1,6 @@
 // The timing numbers of the portable sibling, the CL-GD7541/7543, in 28 lent bytes: CR00h to CR1Bh.
+#![tactic(auto)]
+
 mod lent;
 mod table;
 

@@ -1,4 +1,6 @@
 // The portable sibling's timing as text: the line that is printed of its bytes, and a list of fourteen numbers that is written into them.
+#![tactic(auto)]
+
 mod listing;
 mod printing;
 mod writing;

@@ -1,5 +1,7 @@
 // The one program of all commands: it reads, pours into a job of the library, writes, until the end. It is proved safe and ending. No contract ties it to
 // what the system read and wrote, nor to what it does with that: these lines are checked by reading them.
+#![tactic(auto)]
+
 mod system;
 mod telling;
 

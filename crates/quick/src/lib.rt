@@ -1,4 +1,6 @@
 // The quick way of an access whose kind, width and address have a slot: no check is made twice, and what changes is changed where it stands.
+#![tactic(auto)]
+
 mod classes;
 mod pixels;
 mod said;

@@ -1,4 +1,6 @@
 // How many records of a trace answered each code, and the line that is said of those that were refused.
+#![tactic(auto)]
+
 mod codes;
 mod line;
 mod put;

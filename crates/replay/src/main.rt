@@ -1,4 +1,6 @@
 // Replay: 01's example.
+#![tactic(auto)]
+
 fn main() {
     shell::replay();
 }

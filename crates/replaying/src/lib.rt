@@ -1,4 +1,6 @@
 // A trace replayed from lent bytes to lent bytes: its records are run, and their lines stored. The replies stand in a buffer lent for them.
+#![tactic(auto)]
+
 ghost use Rattle.std.specs.Prelude.{cond, ◌≡◌};
 ghost use Rattle.file.specs.declared.answer.Answer.TheVariants.{NotSound as NotSoundAnswer};
 ghost use Rattle.file.specs.File.{power_on};

@@ -1,4 +1,6 @@
 // A restore: the plan of a wanted file, written and run.
+#![tactic(auto)]
+
 ghost use Rattle.std.specs.Prelude.{◌≡◌, cond};
 ghost use Rattle.file.specs.declared.answer.Answer.TheVariants.{OtherChip as OtherChipAnswer, NotSound as NotSoundAnswer};
 ghost use Rattle.file.specs.Sound.{sound};

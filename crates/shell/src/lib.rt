@@ -1,4 +1,6 @@
 // What the programs do between standard input and standard output.
+#![tactic(auto)]
+
 mod course;
 mod following;
 mod outlining;

@@ -1,4 +1,6 @@
 // 02, 11/13: restores that hand back the set of what was touched: by a short plan, and by the full one.
+#![tactic(auto)]
+
 mod kept;
 
 ghost use Rattle.std.specs.Prelude.{◌≡◌};

@@ -1,4 +1,6 @@
 // What a whole trace did: of each register, code and timing number, and which numbers moved together.
+#![tactic(auto)]
+
 mod closing;
 mod summary;
 mod together;

@@ -1,4 +1,6 @@
 // The lines that the programs print, as bytes in a lent buffer.
+#![tactic(auto)]
+
 mod line;
 mod number;
 mod numbers;

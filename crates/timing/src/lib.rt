@@ -1,4 +1,6 @@
 // The fifteen timing numbers of a register file, in two units that cannot be mixed up.
+#![tactic(auto)]
+
 mod table;
 mod vertical;
 

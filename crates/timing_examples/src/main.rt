@@ -1,4 +1,6 @@
 // 01's examples P9 to P11, run over the compiled code and printed, on each chip.
+#![tactic(auto)]
+
 ghost use Rattle.std.specs.Prelude.{◌≡◌, ◌+◌, ◌^◌, ◌<◌};
 ghost use Rattle.paper.specs.Examples.{blanked as blankedNumbers, mode12, started};
 ghost use Rattle.timing.specs.Timing.{timing_of};

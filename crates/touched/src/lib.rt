@@ -1,4 +1,6 @@
 // 02, 11/13: the set of what was stored into or moved since a file was saved, kept beside it.
+#![tactic(auto)]
+
 mod outside;
 mod reached;
 mod set;

@@ -1,4 +1,6 @@
 // A trace: records and replies as bytes, an access by them, and a run over them.
+#![tactic(auto)]
+
 mod replying;
 mod running;
 mod wire;
