@@ -8,7 +8,7 @@ use crate::record::{Item, Record, Reply};
 use file::{Answer, File, Reach, is_sound};
 
 // What an access hands back: the file after it, its answer, and the reply that says it.
-#[derive(Drop)]
+#[derive(Clone, Copy)]
 pub struct Accessed {
     pub file: File,
     pub answer: Answer,
@@ -16,7 +16,7 @@ pub struct Accessed {
 }
 
 // What a reader of an access's reach hands back.
-#[derive(Drop)]
+#[derive(Clone, Copy)]
 pub struct ReachRead {
     pub answer: Answer,
     pub reach: Reach,

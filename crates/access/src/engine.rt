@@ -22,7 +22,7 @@ use file::{
 use places::{CELLS, OTHER_WAY_HELD, Place, WIDER_HELD};
 
 // What the common checks say: a refusal, the cell of the place to be asked, or that lines pass.
-#[derive(Drop)]
+#[derive(Clone, Copy)]
 pub enum Looked {
     Refused(Answer),
     At(u8),
@@ -224,7 +224,7 @@ pub fn entry_number(bank: bool, address: u8) -> usize
 }
 
 // What an access answers and what it does, and whether what was read is the pixel that the pointer names: the answer then has 0 for it.
-#[derive(Drop)]
+#[derive(Clone, Copy)]
 pub struct Decision {
     pub answer: Answer,
     pub effect: Effect,

@@ -1,6 +1,6 @@
 // A record of a trace: 8 bytes, little-endian. The kind is 0 or 1 config read or write, 2 or 3 port, 4 or 5 MMIO; 6 lets so many lines pass as the value
 // says.
-#[derive(Drop)]
+#[derive(Clone, Copy)]
 pub struct Record {
     pub kind: u8,
     pub width: u8,
@@ -9,14 +9,14 @@ pub struct Record {
 }
 
 // What stands next in a trace: a whole record, or a last fragment, its missing bytes taken as zero.
-#[derive(Drop)]
+#[derive(Clone, Copy)]
 pub enum Item {
     Whole(Record),
     Fragment(Record),
 }
 
 // A reply: 8 bytes, of which the last two are zero.
-#[derive(Drop)]
+#[derive(Clone, Copy)]
 pub struct Reply {
     pub code: u8,
     pub kind: u8,

@@ -13,4 +13,3 @@ pub mod Encoded
 pub mod Bounded
 pub mod Rows
 pub mod Steps
-pub mod Walk

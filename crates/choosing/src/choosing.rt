@@ -8,14 +8,14 @@ use engines::Engine;
 use file::Chip;
 
 // A chip and an engine, or words that name none.
-#[derive(Drop)]
+#[derive(Clone, Copy)]
 pub enum Chosen {
     On(Chip, Engine),
     Unknown,
 }
 
 // What was chosen, and the words that chose it.
-#[derive(Drop)]
+#[derive(Clone, Copy)]
 pub struct Choice {
     pub words: Words,
     pub chosen: Chosen,

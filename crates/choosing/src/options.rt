@@ -7,7 +7,7 @@ use engines::Engine;
 use file::Chip;
 
 // A chip, an engine, or nothing that there is.
-#[derive(Drop)]
+#[derive(Clone, Copy)]
 pub enum Wish {
     OnChip(Chip),
     ByEngine(Engine),

@@ -4,21 +4,21 @@ ghost use Rattle.file.specs.Readers.{same};
 ghost use Rattle.choosing.specs.Choosing.{text_of};
 
 // A word; one that is missing, or longer than any option or name, counts as an empty one. It is made here alone: no other module can say what a word was.
-#[derive(Drop)]
+#[derive(Clone, Copy)]
 pub struct Word {
     bytes: [u8; 8],
     size: usize,
 }
 
 // An option, and the name behind it.
-#[derive(Drop)]
+#[derive(Clone, Copy)]
 pub struct Asked {
     pub option: Word,
     pub name: Word,
 }
 
 // How many words there were, the program's own name among them, and the four behind it. It is made here alone too.
-#[derive(Drop)]
+#[derive(Clone, Copy)]
 pub struct Words {
     count: usize,
     first: Asked,

@@ -4,7 +4,7 @@ ghost use Rattle.clock.specs.Clock.{dot_clock};
 ghost use Rattle.clock.specs.Clock.{denominator as denominatorOf, divisor as divisor_of, product as productOf};
 
 // The rate in Hz, or that there is none.
-#[derive(Drop)]
+#[derive(Clone, Copy)]
 pub enum DotClock {
     Rate(f64),
     None,

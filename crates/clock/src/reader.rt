@@ -12,7 +12,7 @@ const SR0B: usize = 15;
 const SR1B: usize = 21;
 
 // What the selected clock's registers say: the rate, and beside it the two whole numbers. Of a file that isn't sound there is none.
-#[derive(Drop)]
+#[derive(Clone, Copy)]
 pub struct ClockRead {
     pub answer: Answer,
     pub clock: DotClock,

@@ -3,7 +3,7 @@ ghost use Rattle.std.specs.Prelude.{◌≡◌, ◌<◌};
 ghost use Rattle.clock.specs.Lowest.{common_divisor, lowest};
 
 // p divided by q; both 0 where there is no rate.
-#[derive(Drop)]
+#[derive(Clone, Copy)]
 pub struct Terms {
     pub p: u32,
     pub q: u32,

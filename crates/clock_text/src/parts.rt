@@ -17,7 +17,7 @@ const LINE_MOST: usize = 15;
 const SUMMARY_MOST: usize = 131;
 
 // What a part of the input leaves: its answer, what is counted behind it, and where its lines end.
-#[derive(Drop)]
+#[derive(Clone, Copy)]
 pub struct SetsPart {
     pub answer: Answer,
     pub tally: Tally,

@@ -5,7 +5,7 @@ ghost use Rattle.clock_text.specs.Sets.{set_clock, set_clocks};
 use clock::{Terms, terms_of};
 
 // A rate in lowest terms, that there is none, or that the set is refused.
-#[derive(Drop)]
+#[derive(Clone, Copy)]
 pub enum SetClock {
     Rate(Terms),
     None,

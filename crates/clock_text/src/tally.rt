@@ -7,7 +7,7 @@ use crate::sets::SetClock;
 use clock::Terms;
 
 // How many sets have a rate, have none and are refused, and the largest and the smallest rate; both 0/0 where there is none.
-#[derive(Drop)]
+#[derive(Clone, Copy)]
 pub struct Tally {
     pub rates: u64,
     pub nones: u64,

@@ -14,7 +14,7 @@ const TURNS: u64 = u64::MAX / 2048;
 
 // How far a run has come: what was counted, whether there is more to read, whether something failed, what was read and what was handed to
 // be written.
-#[derive(Drop)]
+#[derive(Clone, Copy)]
 pub struct Course {
     pub tally: Tally,
     pub more: bool,
@@ -24,7 +24,7 @@ pub struct Course {
 }
 
 // One turn: where its lines end, and the course after it.
-#[derive(Drop)]
+#[derive(Clone, Copy)]
 struct Turn {
     end: usize,
     course: Course,

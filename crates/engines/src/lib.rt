@@ -7,7 +7,7 @@ ghost use Rattle.trace.specs.Run.{run as run_of};
 use file::File;
 use trace::Ran;
 
-#[derive(Drop)]
+#[derive(Clone, Copy)]
 pub enum Engine {
     Quick,
     Plain,

@@ -16,7 +16,7 @@ use trace::item_of;
 
 // How far a run has come: how many records there were, whether there is more to read, whether something failed, what was read and what
 // was handed to be written, the file after the records, and their summary, where they are summed.
-#[derive(Drop)]
+#[derive(Clone, Copy)]
 pub struct Course {
     pub number: u64,
     pub more: bool,
@@ -28,7 +28,7 @@ pub struct Course {
 }
 
 // One turn: where its lines end, and the course after it.
-#[derive(Drop)]
+#[derive(Clone, Copy)]
 struct Turn {
     end: usize,
     course: Course,

@@ -26,7 +26,7 @@ const LINES: usize = 21;
 const RECORD_MOST: usize = 3360;
 
 // What is told of a record: its number; whether all its bytes were there; the files before and after it, with their timing numbers.
-#[derive(Drop)]
+#[derive(Clone, Copy)]
 pub struct Case {
     pub number: u64,
     pub whole: bool,

@@ -8,7 +8,7 @@ use crate::token::{Form, Token};
 use file::File;
 
 // The bytes so far, and how many they are.
-#[derive(Drop)]
+#[derive(Clone, Copy)]
 pub struct Line {
     pub bytes: [u8; 159],
     pub end: usize,

@@ -4,7 +4,7 @@ ghost use Rattle.explaining.specs.Lines.{decimal_token, hex_token, name_token, n
 
 // How a token is written: its words up to the first dot; the name of the register of its number; its number in decimal, or in so many hex digits
 // with an h behind them.
-#[derive(Drop)]
+#[derive(Clone, Copy)]
 pub enum Form {
     Words,
     Name,
@@ -12,7 +12,7 @@ pub enum Form {
     Hex(u8),
 }
 
-#[derive(Drop)]
+#[derive(Clone, Copy)]
 pub struct Token {
     pub form: Form,
     pub bytes: [u8; 24],

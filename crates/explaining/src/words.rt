@@ -10,7 +10,7 @@ use file::{B0, CAPTURE_Y_START, File};
 use places::Place;
 
 // What stands where a record looks.
-#[derive(Drop)]
+#[derive(Clone, Copy)]
 pub enum Found {
     Held(Place),
     NotFound,

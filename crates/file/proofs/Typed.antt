@@ -13,13 +13,13 @@ use Rattle.file.specs.Registers.{register_count}
 use Rattle.file.specs.contracts.registers.File.{the_type}
 
 pub registers-count : (f : File) (vs : List Val) → Is (row the_type) f vs → length f.registers ≡ register_count
-registers-count f vs g = sym (length-map f.registers _) ∙ g.1.1.0.1.0.1
+registers-count f vs g = g.1.1.0.1.0.1
 
 pub palette-count : (f : File) (vs : List Val) → Is (row the_type) f vs → length f.palette ≡ palette_count
-palette-count f vs g = sym (length-map f.palette _) ∙ g.1.1.1.0.1.0.1
+palette-count f vs g = g.1.1.1.0.1.0.1
 
 pub bank-count : (f : File) (vs : List Val) → Is (row the_type) f vs → length f.bank ≡ bank_count
-bank-count f vs g = sym (length-map f.bank _) ∙ g.1.1.1.1.0.1.0.1
+bank-count f vs g = g.1.1.1.1.0.1.0.1
 
 -- and the pointer's address is a byte
 pub address-byte : (f : File) (vs : List Val) → Is (row the_type) f vs → f.state.pointer.address < 256

@@ -2,7 +2,7 @@ ghost use Rattle.std.specs.Prelude.{◌≡◌};
 ghost use Rattle.file.specs.Answers.{code_of, value_of};
 
 // 01's table of codes, and 02's: what an access, a reader, a writer, a plan or a restore answers.
-#[derive(Drop)]
+#[derive(Clone, Copy)]
 pub enum Answer {
     // 0, with what a read gave
     Done(u16),

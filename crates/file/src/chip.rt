@@ -6,7 +6,7 @@ ghost use Rattle.file.specs.Registers.{stored_bits};
 use crate::groups::v_port;
 
 // The chip that a file is of, chosen when it is made. No access changes it.
-#[derive(Drop)]
+#[derive(Clone, Copy)]
 pub enum Chip {
     Gd5462,
     Gd5464,

@@ -8,7 +8,7 @@ use crate::registers::{BANK, File, PALETTE, REGISTERS};
 use crate::state::State;
 
 // What an access does to the file.
-#[derive(Drop)]
+#[derive(Clone, Copy)]
 pub enum Effect {
     Nothing,
     // the register takes the value inside the reach; a write of 3C0h flips the toggle too
@@ -40,7 +40,7 @@ pub enum Effect {
 }
 
 // What an access may change: bits of one register, the toggle, the pointer, the marks, the line, an entry of the bank or the palette.
-#[derive(Drop)]
+#[derive(Clone, Copy)]
 pub struct Reach {
     pub register: usize,
     pub bits: u16,

@@ -2,7 +2,7 @@ ghost use Rattle.std.specs.Prelude.{◌≡◌, ◌+◌, ◌%◌, ◌≤◌};
 ghost use Rattle.file.specs.Palette.{by_colour, component as componentOf, addressed as addressedAt, after_write, after_read, stores as storesNow, mixed as mixedWith, dac_state, marks_from};
 
 // An entry of the palette or of the bank: three whole bytes.
-#[derive(Drop)]
+#[derive(Clone, Copy)]
 pub struct Colour {
     pub red: u8,
     pub green: u8,
@@ -10,7 +10,7 @@ pub struct Colour {
 }
 
 // The palette pointer. `next` is the next colour: 0 red, 1 green, 2 blue; `red` and `green` are the held bytes.
-#[derive(Drop)]
+#[derive(Clone, Copy)]
 pub struct Pointer {
     pub address: u8,
     pub reading: bool,

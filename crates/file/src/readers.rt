@@ -9,21 +9,21 @@ use crate::registers::{BANK, File, PALETTE, REGISTERS};
 use crate::sound::is_sound;
 
 // An entry of the palette or the bank; black where the answer is not 0.
-#[derive(Drop)]
+#[derive(Clone, Copy)]
 pub struct EntryRead {
     pub answer: Answer,
     pub colour: Colour,
 }
 
 // The palette pointer; as at power-on where the answer is not 0.
-#[derive(Drop)]
+#[derive(Clone, Copy)]
 pub struct PointerRead {
     pub answer: Answer,
     pub pointer: Pointer,
 }
 
 // The last pixel data access: whether it was a read, and the colour that was next before it; write, red where the answer is not 0.
-#[derive(Drop)]
+#[derive(Clone, Copy)]
 pub struct MarksRead {
     pub answer: Answer,
     pub reading: bool,
@@ -31,14 +31,14 @@ pub struct MarksRead {
 }
 
 // The toggle; off where the answer is not 0.
-#[derive(Drop)]
+#[derive(Clone, Copy)]
 pub struct ToggleRead {
     pub answer: Answer,
     pub toggle: bool,
 }
 
 // A register's number; 0 where the answer is not 0.
-#[derive(Drop)]
+#[derive(Clone, Copy)]
 pub struct NumberRead {
     pub answer: Answer,
     pub number: usize,

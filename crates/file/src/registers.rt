@@ -19,7 +19,7 @@ pub const PALETTE: usize = 256;
 pub const BANK: usize = 16;
 
 // The register file. The registers are those of 01's list of stored bits and then 02's V-Port registers, by their numbers; the state is everything else but the colours.
-#[derive(Drop)]
+#[derive(Clone, Copy)]
 pub struct File {
     pub registers: [u16; REGISTERS],
     pub palette: [Colour; PALETTE],

@@ -6,7 +6,7 @@ use crate::palette::Pointer;
 
 // The small parts of a file beside its registers and colours. The toggle says whether the next 3C0h write is data; the marks of the last pixel
 // data access are what B0[2:0] reads; the chip stays what it was made; the line is the one that the display is at.
-#[derive(Drop)]
+#[derive(Clone, Copy)]
 pub struct State {
     pub line: u16,
     pub pointer: Pointer,

@@ -10,24 +10,24 @@ use file::Answer;
 pub use reader::read_geometry;
 use timing::Scanlines;
 
-#[derive(Drop)]
+#[derive(Clone, Copy)]
 pub struct Pixels(pub u16);
 
-#[derive(Drop)]
+#[derive(Clone, Copy)]
 pub struct SignedPixels(pub i16);
 
-#[derive(Drop)]
+#[derive(Clone, Copy)]
 pub struct SignedScanlines(pub i16);
 
 // The pixel clocks that incoming video is counted in, and its scanlines.
-#[derive(Drop)]
+#[derive(Clone, Copy)]
 pub struct PixelClocks(pub u16);
 
-#[derive(Drop)]
+#[derive(Clone, Copy)]
 pub struct IncomingScanlines(pub u16);
 
 // The cursor: left and top may be negative, as 01 has them.
-#[derive(Drop)]
+#[derive(Clone, Copy)]
 pub struct Cursor {
     pub enabled: bool,
     pub left: SignedPixels,
@@ -38,7 +38,7 @@ pub struct Cursor {
 }
 
 // Window 2: right and bottom are not included.
-#[derive(Drop)]
+#[derive(Clone, Copy)]
 pub struct Window {
     pub enabled: bool,
     pub video: bool,
@@ -53,7 +53,7 @@ pub struct Window {
 }
 
 // The V-Port's capture window: start and stop, across and down.
-#[derive(Drop)]
+#[derive(Clone, Copy)]
 pub struct Capture {
     pub xstart: PixelClocks,
     pub xstop: PixelClocks,
@@ -61,7 +61,7 @@ pub struct Capture {
     pub ystop: IncomingScanlines,
 }
 
-#[derive(Drop)]
+#[derive(Clone, Copy)]
 pub struct Geometry {
     pub answer: Answer,
     pub cursor: Cursor,

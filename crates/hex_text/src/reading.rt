@@ -6,7 +6,7 @@ ghost use Rattle.hex_text.specs.Promises.{PartRead, Stored, TextEnded, TextPut, 
 use crate::state::{Given, HexText, end_given, ended, gives, stepped};
 
 // The text after a part of it, how many bytes of the part were used, and where its bytes end in the buffer.
-#[derive(Drop)]
+#[derive(Clone, Copy)]
 pub struct TextRead {
     pub text: HexText,
     pub used: usize,

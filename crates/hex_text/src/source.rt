@@ -54,14 +54,14 @@ pub fn looks_like_text(bytes: &[u8]) -> bool
 }
 
 // An input: whether it is a text, and how far that is read.
-#[derive(Drop)]
+#[derive(Clone, Copy)]
 pub struct Source {
     pub textual: bool,
     pub text: HexText,
 }
 
 // The input after a part of it, how many bytes of the part were used, and where the bytes that are held end in the buffer.
-#[derive(Drop)]
+#[derive(Clone, Copy)]
 pub struct TakenIn {
     pub source: Source,
     pub used: usize,

@@ -6,7 +6,7 @@ ghost use Rattle.hex_text.specs.Machine.{ends_word, bytes_of, given_by, end_give
 
 // Where a text stands: between words, after a digit that began a word, after a word of two digits with its byte, after a CR that follows such a word, after
 // a CR that follows none, in a comment, or after a bad word.
-#[derive(Drop)]
+#[derive(Clone, Copy)]
 pub enum Stand {
     Between,
     Digit(u8),
@@ -19,7 +19,7 @@ pub enum Stand {
 
 // How far a text is read: where it stands, the line, and the column of the word at hand, of the bad word, or else of the next byte. Both count from 1 and
 // stay at the largest number of 64 bits.
-#[derive(Drop)]
+#[derive(Clone, Copy)]
 pub struct HexText {
     pub stand: Stand,
     pub line: u64,
@@ -27,7 +27,7 @@ pub struct HexText {
 }
 
 // What one byte of a text gives: no byte, or one.
-#[derive(Drop)]
+#[derive(Clone, Copy)]
 pub enum Given {
     Nothing,
     One(u8),

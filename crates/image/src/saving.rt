@@ -12,7 +12,7 @@ use file::{Answer, REGISTERS};
 pub const IMAGE: usize = 1433;
 
 // What a load hands back: the parts as they are from then on.
-#[derive(Drop)]
+#[derive(Clone, Copy)]
 pub struct Loaded {
     pub answer: Answer,
     pub registers: [u16; REGISTERS],

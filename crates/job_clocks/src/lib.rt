@@ -16,7 +16,7 @@ use text::Placed;
 const LINE_MOST: usize = 15;
 
 // What was counted after a part, how many bytes of the part were used, and where their lines end.
-#[derive(Drop)]
+#[derive(Clone, Copy)]
 pub struct ClocksFed {
     pub tally: Tally,
     pub used: usize,

@@ -10,7 +10,7 @@ use summing::{Summary, summary_lines};
 use text::Placed;
 
 // How many records there were, the file after them, their summary, where they are summed, and how often each code came.
-#[derive(Drop)]
+#[derive(Clone, Copy)]
 pub struct ExplainJob {
     pub number: u64,
     pub file: File,

@@ -10,7 +10,7 @@ use crate::turn::explain_record;
 const RECORD_MOST: usize = 3360;
 
 // The job after some bytes of a part, how many those are, and where their text ends.
-#[derive(Drop)]
+#[derive(Clone, Copy)]
 pub struct ExplainFed {
     pub job: ExplainJob,
     pub used: usize,

@@ -15,7 +15,7 @@ use summing::{Summary, take_in, together_lines};
 use trace::item_of;
 
 // The job after a record, and the place in the buffer after its text.
-#[derive(Drop)]
+#[derive(Clone, Copy)]
 pub struct Turn {
     pub job: ExplainJob,
     pub end: usize,

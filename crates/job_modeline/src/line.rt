@@ -7,7 +7,7 @@ use mode_lines::{keep, line_of};
 use text::{Placed, plain_text};
 
 // The code, and where the line ends in the buffer.
-#[derive(Drop)]
+#[derive(Clone, Copy)]
 pub struct LineEnded {
     pub code: u8,
     pub end: usize,

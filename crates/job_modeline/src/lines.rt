@@ -7,7 +7,7 @@ use file::{CR1B, Chip, Effect, File};
 use mode_lines::report_part;
 
 // The number of the line at hand, how many of its bytes are kept, these, and the file that each line is read into.
-#[derive(Drop)]
+#[derive(Clone, Copy)]
 pub struct LinesJob {
     pub number: u64,
     pub count: usize,
@@ -16,7 +16,7 @@ pub struct LinesJob {
 }
 
 // The job after a part, how many bytes of the part were used, and where the reports end.
-#[derive(Drop)]
+#[derive(Clone, Copy)]
 pub struct LinesFed {
     pub job: LinesJob,
     pub used: usize,

@@ -9,14 +9,14 @@ use portable_text::{timing_line, write_list};
 use text::plain_text;
 
 // The code, and where the line ends in the buffer.
-#[derive(Drop)]
+#[derive(Clone, Copy)]
 pub struct PortableEnded {
     pub code: u8,
     pub end: usize,
 }
 
 // Whether the text was a list of fourteen numbers, the code, and where the bytes end in the buffer.
-#[derive(Drop)]
+#[derive(Clone, Copy)]
 pub struct ListEnded {
     pub listed: bool,
     pub code: u8,

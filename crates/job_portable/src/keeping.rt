@@ -6,7 +6,7 @@ ghost use Rattle.job_portable.specs.Kept.{begun, job_after, with_byte};
 const MOST: usize = 29;
 
 // The bytes that are kept, and how many they are; more than 29 counts as 29.
-#[derive(Drop)]
+#[derive(Clone, Copy)]
 pub struct PortableJob {
     pub bytes: [u8; 29],
     pub count: usize,

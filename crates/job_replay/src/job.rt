@@ -9,7 +9,7 @@ use text::{Placed, timing_line};
 use timing::read_timing;
 
 // How far a trace has come: how many records there were, the file after them, and how many of them answered each code.
-#[derive(Drop)]
+#[derive(Clone, Copy)]
 pub struct TraceJob {
     pub number: u64,
     pub file: File,
@@ -17,7 +17,7 @@ pub struct TraceJob {
 }
 
 // What one step leaves: the job after it, how many bytes of the part it used, and where its lines end.
-#[derive(Drop)]
+#[derive(Clone, Copy)]
 pub struct TraceFed {
     pub job: TraceJob,
     pub used: usize,

@@ -13,7 +13,7 @@ use plan::short_plan;
 use touched::Touched;
 
 // The file that was saved, the file after the records so far, and the set of what they touched.
-#[derive(Drop)]
+#[derive(Clone, Copy)]
 pub struct FollowJob {
     pub saved: File,
     pub file: File,
@@ -21,7 +21,7 @@ pub struct FollowJob {
 }
 
 // The job after a step, and how many bytes of the part the step used.
-#[derive(Drop)]
+#[derive(Clone, Copy)]
 pub struct FollowFed {
     pub job: FollowJob,
     pub used: usize,

@@ -9,7 +9,7 @@ use file::File;
 use plan::plan;
 
 // A code of the list, and where the bytes end in the buffer: 0 where they are refused.
-#[derive(Drop)]
+#[derive(Clone, Copy)]
 pub struct Ended {
     pub code: u8,
     pub end: usize,

@@ -8,7 +8,7 @@ use options::{Asked, part};
 use text::Placed;
 
 // A code of the list, where the text ends that was put out, and whether a list was one, which only `portable --write` asks.
-#[derive(Drop)]
+#[derive(Clone, Copy)]
 pub struct Ended {
     pub code: u8,
     pub end: usize,

@@ -9,7 +9,7 @@ use hex_text::{Source, TakenIn, end_source, looks_like_text, take_in};
 
 // How far an input has come: the job, the source, how many bytes are held for the job at the start of the buffer, whether the source is ended, and whether
 // anything moved in the last step.
-#[derive(Drop)]
+#[derive(Clone, Copy)]
 pub struct Flow {
     pub job: Job,
     pub source: Source,
@@ -19,7 +19,7 @@ pub struct Flow {
 }
 
 // The flow after some bytes, how many of them were used, and where the text ends that was put out.
-#[derive(Drop)]
+#[derive(Clone, Copy)]
 pub struct Poured {
     pub flow: Flow,
     pub used: usize,

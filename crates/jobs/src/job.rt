@@ -12,7 +12,7 @@ use job_snapshot::{FollowJob, follow};
 use options::{Asked, Command};
 
 // What a job does with its input: the commands, of which snapshot has a second input with `--since`, and modeline and portable another end with an option.
-#[derive(Drop)]
+#[derive(Clone, Copy)]
 pub enum Kind {
     Replay,
     Snapshot,
@@ -29,7 +29,7 @@ pub enum Kind {
 }
 
 // A job of any kind: the kind, the engine, whether it sums and whether it is quiet, and how far each kind of job has come.
-#[derive(Drop)]
+#[derive(Clone, Copy)]
 pub struct Job {
     pub kind: Kind,
     pub engine: Engine,

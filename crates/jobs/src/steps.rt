@@ -7,7 +7,7 @@ use crate::job::{Job, Kind};
 use text::plain_text;
 
 // The job after a part, how many bytes of the part were used, and where the text ends that was put out of them.
-#[derive(Drop)]
+#[derive(Clone, Copy)]
 pub struct JobFed {
     pub job: Job,
     pub used: usize,

@@ -18,7 +18,7 @@ fn to_u64(x: u8) -> u64 {
 }
 
 // How far a run has come: the file, the sum of a reply byte of each buffer, and whether there is more to read.
-#[derive(Drop)]
+#[derive(Clone, Copy)]
 struct Course {
     file: File,
     sum: u64,

@@ -10,7 +10,7 @@ use timing::write_timing;
 
 // What is answered: of a line that was read the name, as the place of its first byte and its size, the clock, and the file with the mode.
 // A refusal has no name, no clock and the file as given; of bad text also the place of the first bad byte.
-#[derive(Drop)]
+#[derive(Clone, Copy)]
 pub struct ReadLine {
     pub verdict: Verdict,
     pub position: usize,

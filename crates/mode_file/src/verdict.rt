@@ -2,7 +2,7 @@ ghost use Rattle.std.specs.Prelude.{◌≡◌};
 ghost use Rattle.mode_file.specs.Verdicts.{number_of};
 
 // 01's and 02's codes: what reading or writing a line answers.
-#[derive(Drop)]
+#[derive(Clone, Copy)]
 pub enum Verdict {
     // 0
     Done,

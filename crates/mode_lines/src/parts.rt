@@ -8,7 +8,7 @@ use crate::split::take_line;
 use file::File;
 
 // How many bytes of a part were taken, the number of the line at hand, how many of its bytes are kept, and where the reports end.
-#[derive(Drop)]
+#[derive(Clone, Copy)]
 pub struct Progress {
     pub used: usize,
     pub number: u64,

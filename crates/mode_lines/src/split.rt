@@ -6,7 +6,7 @@ ghost use Rattle.mode_lines.specs.Lines.{TookLine, up_to};
 use crate::kept::keep;
 
 // How many bytes of a part were taken, how many of the line are kept, and whether it is whole.
-#[derive(Drop)]
+#[derive(Clone, Copy)]
 pub struct Taken {
     pub used: usize,
     pub count: usize,

@@ -10,7 +10,7 @@ use mode_file::Verdict;
 use timing::read_timing;
 
 // How many bytes the line has; none where it is refused.
-#[derive(Drop)]
+#[derive(Clone, Copy)]
 pub struct WrittenLine {
     pub verdict: Verdict,
     pub size: usize,

@@ -6,7 +6,7 @@ use mode_lines::report_part;
 use shell::{fill, nothing_handed, nothing_read, tell, tell_failure, write_out};
 
 // How far the reading has come: the number of the line at hand, how many of its bytes are kept, and whether there is more to read.
-#[derive(Drop)]
+#[derive(Clone, Copy)]
 struct Course {
     number: u64,
     count: usize,
@@ -14,7 +14,7 @@ struct Course {
 }
 
 // How many bytes of a part were taken, and the course after them. None were where the course ends.
-#[derive(Drop)]
+#[derive(Clone, Copy)]
 struct Turn {
     used: usize,
     course: Course,

@@ -1,5 +1,5 @@
 // What a good line says.
-#[derive(Drop)]
+#[derive(Clone, Copy)]
 pub struct Mode {
     // how many bytes the name has; it starts behind the first quote
     pub name: usize,
@@ -13,7 +13,7 @@ pub struct Mode {
 }
 
 // A good line and what it says; or a bad one, and the place of the first byte that no good line has there.
-#[derive(Drop)]
+#[derive(Clone, Copy)]
 pub struct Parsed {
     pub good: bool,
     pub position: usize,

@@ -4,7 +4,7 @@ ghost use Rattle.modes.specs.Form.{digit};
 ghost use Rattle.modes.specs.Scan.{decimal_runner, digit_runner, number_from, state};
 
 // Where the digits end, how many more might have come, and what they spell.
-#[derive(Drop)]
+#[derive(Clone, Copy)]
 pub struct Number {
     pub end: usize,
     pub left: usize,

@@ -5,25 +5,25 @@ use timing::Written;
 use touched::Touched;
 use trace::Ran;
 
-#[derive(Drop)]
+#[derive(Clone, Copy)]
 pub struct AccessNoted {
     pub done: Accessed,
     pub touched: Touched,
 }
 
-#[derive(Drop)]
+#[derive(Clone, Copy)]
 pub struct RunNoted {
     pub done: Ran,
     pub touched: Touched,
 }
 
-#[derive(Drop)]
+#[derive(Clone, Copy)]
 pub struct TimingNoted {
     pub done: Written,
     pub touched: Touched,
 }
 
-#[derive(Drop)]
+#[derive(Clone, Copy)]
 pub struct LineNoted {
     pub done: ReadLine,
     pub touched: Touched,

@@ -23,14 +23,14 @@ use trace::{
 };
 
 // What an access leaves beside the registers, and what it reached.
-#[derive(Drop)]
+#[derive(Clone, Copy)]
 pub struct ServedNoting {
     pub served: Served,
     pub reach: Reach,
 }
 
 // The file and the set behind some records.
-#[derive(Drop)]
+#[derive(Clone, Copy)]
 pub struct Behind {
     pub file: File,
     pub touched: Touched,

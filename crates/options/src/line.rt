@@ -8,7 +8,7 @@ use escaping::escaped;
 use text::{Placed, plain_text};
 
 // The bytes so far, and how many they are.
-#[derive(Drop)]
+#[derive(Clone, Copy)]
 pub struct Line {
     pub bytes: [u8; 400],
     pub end: usize,

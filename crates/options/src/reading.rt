@@ -10,7 +10,7 @@ use crate::stepping::stepped;
 use crate::types::{Asked, Reading, Span, Wrong};
 
 // How far the bytes are passed: what their words say, and where the next word starts.
-#[derive(Drop)]
+#[derive(Clone, Copy)]
 struct Progress {
     reading: Reading,
     start: usize,

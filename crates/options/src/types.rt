@@ -2,7 +2,7 @@
 use file::Chip;
 
 // The commands, in the order of their table.
-#[derive(Drop)]
+#[derive(Clone, Copy)]
 pub enum Command {
     Replay,
     Snapshot,
@@ -15,14 +15,14 @@ pub enum Command {
 }
 
 // A word, or a part of one: its bytes stand from `start` to before `end` in the slice of the words.
-#[derive(Drop)]
+#[derive(Clone, Copy)]
 pub struct Span {
     pub start: usize,
     pub end: usize,
 }
 
 // What is wrong with the words; nothing, where they are Fine.
-#[derive(Drop)]
+#[derive(Clone, Copy)]
 pub enum Wrong {
     Fine,
     NoCommand,
@@ -44,7 +44,7 @@ pub enum Wrong {
 }
 
 // What the words ask for. Where they are wrong, `word` is the wrong word, if there is one, and the rest is what was read before it.
-#[derive(Drop)]
+#[derive(Clone, Copy)]
 pub struct Asked {
     pub wrong: Wrong,
     pub word: Span,
@@ -67,7 +67,7 @@ pub struct Asked {
 
 // How far the words are read: whether none was wrong, else what is and which; how many there were; the command's number; whether `--` ended the options;
 // the slot that the next word is the value of, and in `word` the option that it is of; and of each slot whether it was given, and where.
-#[derive(Drop)]
+#[derive(Clone, Copy)]
 pub struct Reading {
     pub good: bool,
     pub wrong: Wrong,

@@ -1,5 +1,5 @@
 // What an address, and an index, of a space and a direction names.
-#[derive(Drop)]
+#[derive(Clone, Copy)]
 pub enum Place {
     // a register of the file, by its number
     Register(usize),

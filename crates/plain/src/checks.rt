@@ -13,7 +13,7 @@ use access::Record;
 use file::{Answer, Chip, File, MISC, PCI04, is_sound};
 
 // What the checks say: a refusal, or the row that the record means.
-#[derive(Drop)]
+#[derive(Clone, Copy)]
 pub enum Looked {
     Refused(Answer),
     Means(Row),

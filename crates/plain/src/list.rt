@@ -106,7 +106,7 @@ const LIST: [u8; BYTES] = *b"\
     port 3C5 SR1E RW 1   7F reg     18 SR1E     \
     port 3C5 SR06 RW 1      gives   12 SR6      \
     port 3C5      RW 1      none                \
-    port 3C6      RW 1   FF reg      5 pixel_mask\
+    port 3C6      RW 1   FF reg      5 pixelMask\
     port 3C7      RW 1      dac                 \
     port 3C8      RW 1      where               \
     port 3C9      RW 1      pixel               \
@@ -224,7 +224,7 @@ const LIST: [u8; BYTES] = *b"\
     mmio  80      RW 1   EF reg      0 MISC     \
     mmio  84      RW 1   FF reg     12 SR0E     \
     mmio  88      RW 1   7F reg     18 SR1E     \
-    mmio  A0      RW 1   FF reg      5 pixel_mask\
+    mmio  A0      RW 1   FF reg      5 pixelMask\
     mmio  A4      RW 1      dac                 \
     mmio  A8      RW 1      where               \
     mmio  AC      RW 1      pixel               \

@@ -7,7 +7,7 @@ use places::Place;
 
 // The first letters of its space and of its index, the number that the index has to be, and the other columns. A row where lines pass is among those that
 // read: its kind of record, 6, is even as theirs are.
-#[derive(Drop)]
+#[derive(Clone, Copy)]
 pub struct Row {
     pub space: u8,
     pub address: u16,

@@ -4,7 +4,7 @@ ghost use Rattle.file.specs.File.{with_state};
 
 use file::{Answer, File, State};
 
-#[derive(Drop)]
+#[derive(Clone, Copy)]
 pub struct Told {
     pub answer: Answer,
     pub file: File,

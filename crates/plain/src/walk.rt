@@ -10,7 +10,7 @@ use access::Record;
 use file::{ARX, CRX, Chip, File, GRX, SRX};
 
 // The row that a record means, if there is one.
-#[derive(Drop)]
+#[derive(Clone, Copy)]
 pub enum Found {
     At(Row),
     Nothing,

@@ -8,7 +8,7 @@ use crate::stages::{put_closing, put_colours, put_indices, put_marks, put_openin
 use file::{Answer, File, is_sound};
 
 // What a plan answers, and how many records it has; 0 if it is refused.
-#[derive(Drop)]
+#[derive(Clone, Copy)]
 pub struct Planned {
     pub answer: Answer,
     pub count: usize,

@@ -2,7 +2,7 @@
 ghost use Rattle.std.specs.Prelude.{◌≡◌};
 ghost use Rattle.plan.specs.ShortAnswers.{number_of};
 
-#[derive(Drop)]
+#[derive(Clone, Copy)]
 pub enum ShortAnswer {
     // 0
     Done,

@@ -15,7 +15,7 @@ use file::{File, is_sound};
 use touched::{Touched, agrees_outside};
 
 // What a short plan answers, and how many records it has; 0 if it is refused.
-#[derive(Drop)]
+#[derive(Clone, Copy)]
 pub struct ShortPlanned {
     pub answer: ShortAnswer,
     pub count: usize,

@@ -15,7 +15,7 @@ use timing::{Clocks, Scanlines};
 const COUNT: usize = 28;
 
 // The fourteen numbers, in the order of 01's table: the register file's, without the screen start.
-#[derive(Drop)]
+#[derive(Clone, Copy)]
 pub struct Timing {
     pub h_total: Clocks,
     pub h_display: Clocks,
@@ -34,7 +34,7 @@ pub struct Timing {
 }
 
 // What the reader answers: the numbers are 0 where it refuses.
-#[derive(Drop)]
+#[derive(Clone, Copy)]
 pub struct Read {
     pub answer: Answer,
     pub timing: Timing,

@@ -6,7 +6,7 @@ ghost use Rattle.portable_text.specs.Numbers.{listed_in, no_list};
 use portable::Timing;
 
 // Whether a text is a list of fourteen numbers, and these; none where it isn't.
-#[derive(Drop)]
+#[derive(Clone, Copy)]
 pub struct Listed {
     pub good: bool,
     pub timing: Timing,
@@ -14,7 +14,7 @@ pub struct Listed {
 
 // How far a list is read: whether it may still be one, how many numbers have ended, whether the one at hand has a digit and what it is so far, and those
 // that have ended.
-#[derive(Drop)]
+#[derive(Clone, Copy)]
 struct Scan {
     good: bool,
     count: usize,

@@ -6,7 +6,7 @@ use file::Answer;
 use portable::write_timing;
 
 // Whether the text was a list, and what the writer answered.
-#[derive(Drop)]
+#[derive(Clone, Copy)]
 pub struct Tried {
     pub listed: bool,
     pub answer: Answer,

@@ -7,7 +7,7 @@ use jobs::Flow;
 use libc::{STDIN_FILENO, STDOUT_FILENO};
 
 // How many bytes came, whether the input is over, and whether the read failed.
-#[derive(Drop)]
+#[derive(Clone, Copy)]
 pub struct Bytes {
     pub size: usize,
     pub over: bool,

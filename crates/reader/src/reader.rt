@@ -8,7 +8,7 @@ use file::File;
 use trace::{Ran, item_of, run};
 
 // What stands next in a trace: a record or the last fragment, or its end.
-#[derive(Drop)]
+#[derive(Clone, Copy)]
 pub enum Next {
     Item(Item),
     End,
@@ -62,7 +62,7 @@ pub fn after_many(trace: &[u8], at: usize, count: usize) -> usize
 }
 
 // What a run from a position on hands back, and the position after it.
-#[derive(Drop)]
+#[derive(Clone, Copy)]
 pub struct RanAt {
     pub ran: Ran,
     pub at: usize,
@@ -81,14 +81,14 @@ pub fn run_at(trace: &[u8], at: usize, whole: File, replies: &mut [u8]) -> RanAt
 }
 
 // A lent trace, and the position of what is not yet read.
-#[derive(Drop)]
+#[derive(Clone, Copy)]
 pub struct Reader<'a> {
     pub trace: &'a [u8],
     pub at: usize,
 }
 
 // What a reader's run hands back: what the run gives, and the reader of the part not yet read.
-#[derive(Drop)]
+#[derive(Clone, Copy)]
 pub struct HandedBack<'a> {
     pub ran: Ran,
     pub reader: Reader<'a>,
@@ -150,7 +150,7 @@ pub fn unread<'a>(trace: &'a [u8], count: usize) -> &'a [u8]
 }
 
 // What stands at a position of a trace, and the position past it.
-#[derive(Drop)]
+#[derive(Clone, Copy)]
 pub struct NextAt {
     pub next: Next,
     pub at: usize,

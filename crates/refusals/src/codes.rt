@@ -3,7 +3,7 @@ ghost use Rattle.std.specs.Prelude.{◌≡◌};
 ghost use Rattle.refusals.specs.Counted.{counted_at, counting_of, more as moreOf, none_counted, replies_counted};
 
 // How many answers had each code, from code 0 to code 22.
-#[derive(Drop)]
+#[derive(Clone, Copy)]
 pub struct Refusals {
     pub counts: [u64; 23],
 }

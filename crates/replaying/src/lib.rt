@@ -18,7 +18,7 @@ use timing::read_timing;
 pub const TIMING_MOST: usize = 172;
 
 // What a part of a trace leaves: its answer, the file after it, the count of its records, and where its lines end.
-#[derive(Drop)]
+#[derive(Clone, Copy)]
 pub struct Part {
     pub answer: Answer,
     pub file: File,

@@ -11,7 +11,7 @@ use plan::{on_one_chip, plan};
 use trace::run;
 
 // What a restore answers: also how many records its plan has, 0 if it is refused, and the file that the run ends in.
-#[derive(Drop)]
+#[derive(Clone, Copy)]
 pub struct Restored {
     pub answer: Answer,
     pub count: usize,

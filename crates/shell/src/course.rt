@@ -12,7 +12,7 @@ use replaying::{Part, replay_part};
 
 // How far a run has come: how many records there were, whether there is more to read, whether something failed, what was read and what
 // was handed to be written, and the file after the records.
-#[derive(Drop)]
+#[derive(Clone, Copy)]
 pub struct Course {
     pub number: u64,
     pub more: bool,
@@ -23,7 +23,7 @@ pub struct Course {
 }
 
 // One turn: where its lines end, and the course after it.
-#[derive(Drop)]
+#[derive(Clone, Copy)]
 struct Turn {
     end: usize,
     course: Course,

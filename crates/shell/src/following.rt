@@ -17,7 +17,7 @@ use touched::Touched;
 
 // How far the second trace has come: whether there is more to read, whether something failed, what was read, the file after the records, and the set of what they
 // touched.
-#[derive(Drop)]
+#[derive(Clone, Copy)]
 pub struct Onward {
     pub more: bool,
     pub failed: bool,

@@ -15,7 +15,7 @@ const LAST_BYTE: u64 = u64::MAX - 8192;
 
 // How many bytes came into a buffer, whether a read failed, and how many bytes came in all, as far as 64 bits count. It is made here
 // alone: no other module can say that bytes came or that a read failed.
-#[derive(Drop)]
+#[derive(Clone, Copy)]
 pub struct Filled {
     pub count: usize,
     failed: bool,
@@ -32,7 +32,7 @@ impl Filled {
 }
 
 // What one read brought.
-#[derive(Drop)]
+#[derive(Clone, Copy)]
 struct Got {
     count: usize,
     failed: bool,

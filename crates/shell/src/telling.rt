@@ -21,7 +21,7 @@ pub fn tell(program: &[u8], what: &[u8]) {
 
 // How many bytes were handed to be written in all, as far as 64 bits count, and whether writing the last of them failed. It is made here
 // alone: no other module can say that bytes were handed on or that a write failed.
-#[derive(Drop)]
+#[derive(Clone, Copy)]
 pub struct Handed {
     all: u64,
     failed: bool,

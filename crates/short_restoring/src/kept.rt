@@ -4,7 +4,7 @@ use restoring::Restored;
 use touched::Touched;
 
 // What a restore by a short plan answers: also the file that the run ends in, and the set after it, which is empty unless it is refused.
-#[derive(Drop)]
+#[derive(Clone, Copy)]
 pub struct ShortRestored {
     pub answer: ShortAnswer,
     pub count: usize,
@@ -13,7 +13,7 @@ pub struct ShortRestored {
 }
 
 // A restore by the full plan, and the set after it.
-#[derive(Drop)]
+#[derive(Clone, Copy)]
 pub struct RestoreNoted {
     pub done: Restored,
     pub touched: Touched,

@@ -11,7 +11,7 @@ const CODES: usize = 21;
 
 // Of each register how many writes, the union of reaches and the bits that ever moved; how often each code came; the timing numbers at the start and
 // at the end.
-#[derive(Drop)]
+#[derive(Clone, Copy)]
 pub struct Summary {
     pub writes: [u64; 108],
     pub reaches: [u16; 108],

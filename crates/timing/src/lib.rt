@@ -12,14 +12,14 @@ use file::{Answer, CR1B, CR11, File};
 pub use vertical::{v_display, v_sync_end, v_sync_start, v_total};
 
 // Character clocks.
-#[derive(Drop)]
+#[derive(Clone, Copy)]
 pub struct Clocks(pub u16);
 
-#[derive(Drop)]
+#[derive(Clone, Copy)]
 pub struct Scanlines(pub u16);
 
 // The fifteen numbers, in the order of 01's table.
-#[derive(Drop)]
+#[derive(Clone, Copy)]
 pub struct Timing {
     pub h_total: Clocks,
     pub h_display: Clocks,
@@ -39,14 +39,14 @@ pub struct Timing {
 }
 
 // What the reader answers: the numbers are 0 where it refuses.
-#[derive(Drop)]
+#[derive(Clone, Copy)]
 pub struct Read {
     pub answer: Answer,
     pub timing: Timing,
 }
 
 // What the writer answers: the file is as given where it refuses.
-#[derive(Drop)]
+#[derive(Clone, Copy)]
 pub struct Written {
     pub answer: Answer,
     pub file: File,

@@ -13,7 +13,7 @@ use Rattle.touched.specs.contracts.set.Touched.{the_type}
 pub is-set : (s : Touched) (vs : List Val) → Is (row the_type) s vs → IsSet s
 is-set s vs g =
     record {
-      registers = sym (length-map s.registers _) ∙ g.1.1.0.1.0.1;
-      palette = sym (length-map s.palette _) ∙ g.1.1.1.0.1.0.1;
-      bank = sym (length-map s.bank _) ∙ g.1.1.1.1.0.1.0.1;
+      registers = g.1.1.0.1.0.1;
+      palette = g.1.1.1.0.1.0.1;
+      bank = g.1.1.1.1.0.1.0.1;
     }

@@ -4,7 +4,7 @@ ghost use Rattle.touched.specs.Things.{nothing as nothingNamed};
 use file::{BANK, PALETTE, REGISTERS};
 
 // Of each register, entry of the palette and entry of the bank, of the pointer, the marks and the toggle, whether the set names it.
-#[derive(Drop)]
+#[derive(Clone, Copy)]
 pub struct Touched {
     pub registers: [bool; REGISTERS],
     pub palette: [bool; PALETTE],

@@ -6,7 +6,7 @@ use crate::wire::{item_of, reply_bytes};
 use file::File;
 
 // The file after an access, and the 8 bytes of its reply.
-#[derive(Drop)]
+#[derive(Clone, Copy)]
 pub struct Replied {
     pub file: File,
     pub reply: [u8; 8],

@@ -24,7 +24,7 @@ use quick::{
 };
 
 // What a run hands back: its answer, the new file and the count of replies. What is left of the trace begins at 8 times the count.
-#[derive(Drop)]
+#[derive(Clone, Copy)]
 pub struct Ran {
     pub answer: Answer,
     pub file: File,
@@ -89,7 +89,7 @@ fn store_in(registers: &mut [u16; REGISTERS], number: usize, reach: u16, value: 
 
 // What an access leaves beside the registers: its reply's code and value, the state; whether what was read is the pixel that the pointer
 // names, and whether it paints, a colour, in the bank or the palette.
-#[derive(Drop)]
+#[derive(Clone, Copy)]
 pub struct Served {
     pub code: u8,
     pub value: u16,

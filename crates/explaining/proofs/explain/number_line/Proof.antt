@@ -13,7 +13,7 @@ returns c = c.blank-line.ensures ∙ sym (no_number c.before.before.args.t1 c.be
 
 returns-2 : tie.Need-returns-2
 unfolding number_line wide register
-returns-2 c = rw (c.part-line.ensures, c.before.number-label.ensures, c.before.before.alone2.ensures, c.before.before.before.decimal2.ensures, c.before.before.before.before.from-u322.ensures, c.before.before.before.before.before.alone.ensures, c.before.before.before.before.before.before.decimal.ensures, c.before.before.before.before.before.before.before.from-u32.ensures, c.before.before.before.before.before.before.before.before.before.before.may-move.ensures, c.before.before.before.before.before.before.before.before.before.before.before.before.is_IsWide.ensures)
+returns-2 c = rw (c.part-line.ensures, c.before.number-label.ensures, c.before.before.alone2.ensures, c.before.before.before.decimal2.ensures, c.before.before.before.before.from-u322.ensures, c.before.before.before.before.before.alone.ensures, c.before.before.before.before.before.before.decimal.ensures, c.before.before.before.before.before.before.before.from-u32.ensures, c.before.before.before.before.before.before.before.before.before.before.may-move.ensures, c.before.before.before.before.before.before.before.before.before.before.before.before.is_wide.ensures)
 
 pub number-line-spec : {M : Type 1} → statement M
 number-line-spec =

@@ -40,8 +40,8 @@ returns-2 c =
       read = read.ensures;
       noted =
           c.with-timing.ensures
-          ∙ ap (noted_all (timing_reaches c.before.is_IsWide.result)) flagged
-          ∙ ap (λ (b : Bool). noted_all (line_reaches b) args.touched) c.before.is_IsWide.ensures
+          ∙ ap (noted_all (timing_reaches c.before.is_wide.result)) flagged
+          ∙ ap (λ (b : Bool). noted_all (line_reaches b) args.touched) c.before.is_wide.ensures
           ∙ sym (ap (λ (b : Bool). cond b (noted_all (line_reaches (wide args.t2)) args.touched) args.touched) done);
     }
 

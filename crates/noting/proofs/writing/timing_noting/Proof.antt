@@ -32,7 +32,7 @@ returns-2 c =
     let below : refused (timing_answer args.t1 args.timing) ≡ false = lt-leb 2 (code_of (timing_answer args.t1 args.timing)) (omega (arith, code, c.before.before.before.if1.false)) in
     let set =
     c.with-timing.ensures
-    ∙ ap (λ (b : Bool). noted_all (timing_reaches b) args.touched) c.before.is_IsWide.ensures
+    ∙ ap (λ (b : Bool). noted_all (timing_reaches b) args.touched) c.before.is_wide.ensures
     ∙ sym (ap (λ (b : Bool). cond b args.touched (noted_all (timing_reaches (wide args.t1)) args.touched)) below) in
     λ i. record { done = written i; touched = set i }
 

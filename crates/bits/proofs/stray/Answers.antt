@@ -1,0 +1,6 @@
+-- `bits::stray` meets its contract. Assumes nothing.
+use Rattle.std.proofs.Common.{rules}
+use Rattle.bits.proofs.stray.Goals as goal
+
+pub returns : goal.returns
+returns c = rw c.store.ensures

@@ -1,0 +1,19 @@
+-- `Pointer::after_read` meets its contract. Assumes nothing.
+use mathlib.Core.Path.{sym, ap, ◌∙◌}
+use Rattle.file.specs.Palette.{addressed, moved, after_read}
+use Rattle.file.proofs.Colours.{blue-left}
+use borrow.Author.Rules.{rules}
+use Rattle.file.proofs.palette.Pointer.after_read.Goals as goal
+
+pub returns-in-0 : goal.returns-in-0
+unfolding after_read moved
+returns-in-0 c = rw c.in-0.is
+
+pub returns-in-1 : goal.returns-in-1
+unfolding after_read moved
+returns-in-1 c = rw c.in-1.is
+
+pub returns-in_default : goal.returns-in_default
+unfolding after_read moved addressed
+returns-in_default c = c.addressed.ensures ∙ ap (addressed _) c.risen.ensures
+    ∙ sym (blue-left c.args.self.next _ _ _ c.in_default.in_default-own.rest.0.1 c.in_default.in_default-own.rest.1)

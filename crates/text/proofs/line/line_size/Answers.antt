@@ -1,0 +1,8 @@
+-- `line::line_size` meets its contract. Assumes nothing.
+use mathlib.Core.Path.{sym}
+use borrow.Author.Rules.{rules}
+use Rattle.text.proofs.Lines.{line-length}
+use Rattle.text.proofs.line.line_size.Goals as goal
+
+pub returns : goal.returns
+returns c = λ value. sym (line-length c.args.number c.args.code value _ _ c.places.ensures.0 c.places-2.ensures.0)

@@ -1,0 +1,21 @@
+-- `numbers::all_fit` meets its contract. Assumes nothing.
+use Prim.Native.Nat.{◌+◌, ◌-◌}
+use mathlib.Core.Path.{◌∙◌}
+use native.Mathlib.Omega.{arith}
+use borrow.Author.Rules.{rules}
+use borrow.Author.Tests.{lt-leb}
+use lib.ListN.{length}
+use Rattle.text.specs.Text.{spaced}
+use Rattle.text.proofs.Tests.{same_test}
+use Rattle.text.proofs.numbers.all_fit.Goals as goal
+
+pub returns-then-room-at : goal.returns-then-room-at
+returns-then-room-at c =
+    let args = c.args in
+    rw (lt-leb (args.at + length (spaced args.minus.now args.numbers.now)) args.room (omega arith))
+
+pub returns : goal.returns
+returns c =
+    let args = c.args in
+    let size = length (spaced args.minus.now args.numbers.now) in
+    c.spaced_fit.ensures ∙ same_test size (args.room - args.at) (args.at + size) args.room (λ h. omega arith) (λ h. omega arith)

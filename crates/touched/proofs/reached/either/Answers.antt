@@ -1,0 +1,9 @@
+-- `either` meets its contract. Assumes nothing.
+use borrow.Author.Rules.{rules}
+use Rattle.touched.proofs.reached.either.Goals as goal
+
+pub returns-then-named : goal.returns-then-named
+returns-then-named c = rw c.if-named.true
+
+pub returns-else-named : goal.returns-else-named
+returns-else-named c = rw c.if-named.false
