@@ -1,0 +1,35 @@
+-- `look` meets its contract. Assumes nothing.
+use mathlib.Core.Path.{sym, ◌∙◌}
+use borrow.Author.Tests.{not-true, not-false}
+use Rattle.access.specs.Checks.{malformed}
+use Rattle.plain.specs.Looked.{looked_over}
+use borrow.Author.Rules.{rules}
+use Rattle.plain.proofs.checks.look.Goals as goal
+
+pub returns-then-not-is_sound : goal.returns-then-not-is_sound
+unfolding looked_over
+returns-then-not-is_sound c = rw (sym c.is_sound.ensures ∙ not-true _ c.if-not-is_sound.true-raw)
+
+pub returns-then-is_malformed : goal.returns-then-is_malformed
+unfolding looked_over malformed
+returns-then-is_malformed c = rw (sym c.is_sound.ensures ∙ not-false _ c.if-not-is_sound.false-raw, sym c.is_malformed.ensures ∙ c.if-is_malformed.true)
+
+pub returns-then-is_space_off : goal.returns-then-is_space_off
+unfolding looked_over malformed
+returns-then-is_space_off c =
+    rw (
+      sym c.is_sound.ensures ∙ not-false _ c.if-not-is_sound.false-raw,
+      sym c.is_malformed.ensures ∙ c.if-is_malformed.false,
+      sym c.is_space_off.ensures ∙ c.if-is_space_off.true,
+    )
+
+pub returns : goal.returns
+unfolding looked_over malformed
+returns c =
+    rw (
+      sym c.is_sound.ensures ∙ not-false _ c.if-not-is_sound.false-raw,
+      sym c.is_malformed.ensures ∙ c.if-is_malformed.false,
+      sym c.is_space_off.ensures ∙ c.if-is_space_off.false,
+      ← c.find.ensures,
+    )
+    c.look_at.ensures

@@ -1,0 +1,8 @@
+-- `line_shown` meets its contract. Assumes nothing.
+use Rattle.access.specs.Access.{line_shown}
+use borrow.Author.Rules.{rules}
+use Rattle.plain.proofs.lines.line_shown.Goals as goal
+
+pub returns : goal.returns
+unfolding line_shown
+returns c = rw c.total.ensures.0

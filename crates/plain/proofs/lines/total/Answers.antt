@@ -1,0 +1,7 @@
+-- `total` meets its contract. Assumes nothing.
+use Rattle.plain.proofs.VerticalNumbers.{total-there}
+use borrow.Author.Rules.{rules}
+use Rattle.plain.proofs.lines.total.Goals as goal
+
+pub returns : goal.returns
+returns c = total-there c.args.whole c.v_total.result c.v_total.ensures

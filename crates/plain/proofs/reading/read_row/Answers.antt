@@ -1,0 +1,96 @@
+-- `read_row` meets its contract. Assumes nothing.
+use Prim.Native.Nat.{ℕ}
+use mathlib.Core.Path.{refl, sym, ap, ◌∙◌}
+use mathlib.Core.Logic.{⊎_elim}
+use native.Mathlib.Omega.{arith}
+use Rattle.file.specs.declared.answer.Answer.TheVariants.{Done}
+use Rattle.file.specs.Answers.{code_of, refused}
+use Rattle.file.specs.Effects.{apply}
+use Rattle.file.specs.File.{register}
+use Rattle.places.specs.Profile.{profile}
+use Rattle.access.specs.Access.{answer_of_read, read_effect, shown_state}
+use Rattle.access.proofs.PassedChecks.{register-below, attribute-below}
+use Rattle.plain.specs.Told.{told, told_of_read}
+use borrow.Author.Rules.{rules}
+use Rattle.plain.proofs.reading.read_row.Goals as goal
+
+pub offset_bounds-whole-number : goal.offset_bounds-whole-number
+offset_bounds-whole-number c = record { fits = omega (arith, register-below _ _ c.in-Register.is c.requires) }
+
+pub bounds-whole-number : goal.bounds-whole-number
+bounds-whole-number c = register-below _ _ c.in-Register.is c.requires
+
+pub offset_bounds-whole-number-in-Attribute : goal.offset_bounds-whole-number-in-Attribute
+offset_bounds-whole-number-in-Attribute c = record { fits = omega (arith, attribute-below _ _ c.in-Attribute.is c.requires) }
+
+pub bounds-whole-number-in-Attribute : goal.bounds-whole-number-in-Attribute
+bounds-whole-number-in-Attribute c = attribute-below _ _ c.in-Attribute.is c.requires
+
+pub returns-in-Register : goal.returns-in-Register
+unfolding profile told_of_read told answer_of_read read_effect refused code_of apply register shown_state
+returns-in-Register c = rw c.in-Register.is c.leaving.ensures
+
+pub returns-in-Attribute : goal.returns-in-Attribute
+unfolding profile told_of_read told answer_of_read read_effect refused code_of apply register shown_state
+returns-in-Attribute c = rw c.in-Attribute.is c.leaving-in-Attribute.ensures
+
+pub returns-in-PaletteState : goal.returns-in-PaletteState
+unfolding profile told_of_read told answer_of_read read_effect refused code_of apply register shown_state
+returns-in-PaletteState c = rw (c.in-PaletteState.is, ← c.store-shown.ensures) c.leaving-in-PaletteState.ensures
+
+pub returns-in-VPortState : goal.returns-in-VPortState
+unfolding profile told_of_read told answer_of_read read_effect refused code_of apply register shown_state
+returns-in-VPortState c = rw (c.in-VPortState.is, ← c.v_port_control.ensures) c.leaving-in-VPortState.ensures
+
+pub returns-in-Fixed : goal.returns-in-Fixed
+unfolding profile told_of_read told answer_of_read read_effect refused code_of apply register shown_state
+returns-in-Fixed c = rw c.in-Fixed.is c.leaving-in-Fixed.ensures
+
+pub returns-in-DeviceId : goal.returns-in-DeviceId
+unfolding profile told_of_read told answer_of_read read_effect refused code_of apply register shown_state
+returns-in-DeviceId c = rw (c.in-DeviceId.is, ← c.device_id.ensures) c.leaving-in-DeviceId.ensures
+
+pub returns-after-state : goal.returns-after-state
+unfolding profile told_of_read told answer_of_read read_effect refused code_of apply register shown_state
+returns-after-state c =
+    rw c.in-ToggleState.is
+    (c.leaving-in-ToggleState.ensures
+    ∙ ap (λ (n : ℕ). record { answer = Done n; file = c.args.whole })
+    (⊎_elim (λ w. w.1 ∙ sym (rw w.0.taken refl)) (λ w. w.1 ∙ sym (rw w.0.left refl)) c.if-state.branch))
+
+pub returns-in-AttributeIndex : goal.returns-in-AttributeIndex
+unfolding profile told_of_read told answer_of_read read_effect refused code_of apply register shown_state
+returns-in-AttributeIndex c = rw c.in-AttributeIndex.is c.leaving-in-AttributeIndex.ensures
+
+pub returns-in-ReadAddress : goal.returns-in-ReadAddress
+unfolding profile told_of_read told answer_of_read read_effect refused code_of apply register shown_state
+returns-in-ReadAddress c = rw (c.in-ReadAddress.is, ← c.dac_state.ensures) c.leaving-in-ReadAddress.ensures
+
+pub returns-in-WriteAddress : goal.returns-in-WriteAddress
+unfolding profile told_of_read told answer_of_read read_effect refused code_of apply register shown_state
+returns-in-WriteAddress c = rw c.in-WriteAddress.is c.leaving-in-WriteAddress.ensures
+
+pub returns-in-PixelData : goal.returns-in-PixelData
+unfolding profile told_of_read told answer_of_read read_effect refused code_of apply register shown_state
+returns-in-PixelData c = rw c.in-PixelData.is c.read_pixel.ensures
+
+pub returns-in-ToggleReset : goal.returns-in-ToggleReset
+unfolding profile told_of_read told answer_of_read read_effect refused code_of apply register shown_state
+returns-in-ToggleReset c =
+    rw (c.in-ToggleReset.is, c.with_state.ensures, c.toggling.ensures, c.display_state.ensures)
+
+pub returns-in-Unnamed : goal.returns-in-Unnamed
+unfolding profile told_of_read told answer_of_read read_effect refused code_of apply register shown_state
+returns-in-Unnamed c = rw c.in-Unnamed.is c.leaving-in-Unnamed.ensures
+
+pub returns-in-UnnamedAttribute : goal.returns-in-UnnamedAttribute
+unfolding profile told_of_read told answer_of_read read_effect refused code_of apply register shown_state
+returns-in-UnnamedAttribute c = rw c.in-UnnamedAttribute.is c.leaving-in-UnnamedAttribute.ensures
+
+pub returns-in-CurrentLine : goal.returns-in-CurrentLine
+unfolding profile told_of_read told answer_of_read read_effect refused code_of apply register shown_state
+returns-in-CurrentLine c = rw (c.in-CurrentLine.is, ← c.line_shown.ensures) c.leaving-in-CurrentLine.ensures
+
+pub returns-in-Passing : goal.returns-in-Passing
+unfolding profile told_of_read told answer_of_read read_effect refused code_of apply register shown_state
+returns-in-Passing c = rw c.in-Passing.is c.leaving-in-Passing.ensures

@@ -1,0 +1,40 @@
+-- `put_reply` meets its contract: eight stores, one after the other. Assumes nothing.
+use mathlib.Core.Path.{ap}
+use native.Mathlib.Numerals.{towards_suc}
+use native.Mathlib.Omega.{arith}
+use lib.ListN.{length-set}
+use lib.Seq.{sets-eq}
+use Rattle.access.specs.Access.{reply_to}
+use Rattle.trace.specs.Records.{reply_bytes}
+use borrow.Author.Rules.{rules}
+use Rattle.plain.proofs.running.put_reply.Goals as goal
+
+pub bounds-replies-at-2 : goal.bounds-replies-at-2
+bounds-replies-at-2 c = simp length-set (omega (arith, c.requires))
+
+pub bounds-replies-at-3 : goal.bounds-replies-at-3
+bounds-replies-at-3 c = simp length-set (omega (arith, c.requires))
+
+pub bounds-replies-at-4 : goal.bounds-replies-at-4
+bounds-replies-at-4 c = simp length-set (omega (arith, c.requires))
+
+pub bounds-replies-at-5 : goal.bounds-replies-at-5
+bounds-replies-at-5 c = simp length-set (omega (arith, c.requires))
+
+pub bounds-replies-at-6 : goal.bounds-replies-at-6
+bounds-replies-at-6 c = simp length-set (omega (arith, c.requires))
+
+pub bounds-replies-at-7 : goal.bounds-replies-at-7
+bounds-replies-at-7 c = simp length-set (omega (arith, c.requires))
+
+pub bounds-replies-at-8 : goal.bounds-replies-at-8
+bounds-replies-at-8 c = simp length-set (omega (arith, c.requires))
+
+pub shape_of-replies : goal.shape_of-replies
+shape_of-replies c = simp length-set
+
+pub returns : goal.returns
+unfolding reply_bytes reply_to
+returns c =
+    rw (c.value-value.ensures, c.code.ensures)
+    (simp towards_suc (simp towards_suc at (sets-eq (reply_bytes (reply_to c.args.asked c.args.answer)) c.args.replies.now c.args.at c.requires)))

@@ -1,0 +1,50 @@
+-- `is_selected` meets its contract. Assumes nothing.
+use Prim.Native.Nat.{ℕ, ◌%◌}
+use mathlib.Core.Path.{◌≡◌}
+use native.Mathlib.Omega.{arith}
+use borrow.Author.Tests.{ne_eqb}
+use Rattle.bits.specs.Store.{bits}
+use Rattle.bits.proofs.Test.{and-true}
+use Rattle.file.specs.File.{register}
+use Rattle.places.specs.Lookup.{attribute_index, selects}
+use Rattle.plain.specs.Rows.{of_chip, index_of}
+use Rattle.plain.specs.Walk.{selected}
+use borrow.Author.Rules.{rules}
+use Rattle.plain.proofs.walk.is_selected.Goals as goal
+
+-- 'ARX[4:0]'
+five-bits : (n : ℕ) → n % 32 ≡ bits 4 0 n
+unfolding bits
+five-bits n = omega arith
+
+pub returns-in-83 : goal.returns-in-83
+unfolding selected of_chip index_of selects register attribute_index
+returns-in-83 c = rw c.in-83.is
+
+pub returns-in-67 : goal.returns-in-67
+unfolding selected of_chip index_of selects register attribute_index
+returns-in-67 c = rw c.in-67.is
+
+pub returns-in-71 : goal.returns-in-71
+unfolding selected of_chip index_of selects register attribute_index
+returns-in-71 c = rw c.in-71.is
+
+pub returns-in-65 : goal.returns-in-65
+unfolding selected of_chip index_of selects register attribute_index
+returns-in-65 c = rw (c.in-65.is, five-bits)
+
+pub returns-in-105 : goal.returns-in-105
+unfolding selected of_chip index_of selects register attribute_index
+returns-in-105 c = rw c.in-105.is
+
+pub returns-then-toggle : goal.returns-then-toggle
+unfolding selected of_chip index_of selects register attribute_index
+returns-then-toggle c = rw (c.in-100.is, c.if-toggle.true, five-bits)
+
+pub returns-else-toggle : goal.returns-else-toggle
+unfolding selected of_chip index_of selects register attribute_index
+returns-else-toggle c = rw (c.in-100.is, c.if-toggle.false)
+
+pub returns-in_default : goal.returns-in_default
+unfolding selected of_chip index_of selects register attribute_index
+returns-in_default c = rw (ne_eqb _ _ c.in_default.in_default-own.rest.0.0.0.0.0.1, ne_eqb _ _ c.in_default.in_default-own.rest.0.0.0.0.1, ne_eqb _ _ c.in_default.in_default-own.rest.0.0.0.1, ne_eqb _ _ c.in_default.in_default-own.rest.0.0.1, ne_eqb _ _ c.in_default.in_default-own.rest.0.1, ne_eqb _ _ c.in_default.in_default-own.rest.1, and-true) c.is_of_chip.ensures

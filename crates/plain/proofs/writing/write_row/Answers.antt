@@ -1,0 +1,95 @@
+-- `write_row` meets its contract. Assumes nothing.
+use mathlib.Core.Path.{subst, sym}
+use lib.Dec.{T}
+use Rattle.file.specs.Answers.{code_of, refused}
+use Rattle.file.specs.Effects.{apply}
+use Rattle.places.specs.declared.place.Place.{Place}
+use Rattle.places.specs.EngineCells.{takes_bytes}
+use Rattle.places.specs.Profile.{profile}
+use Rattle.access.specs.Access.{write_answer, write_effect}
+use Rattle.access.proofs.PassedChecks.{register-below, attribute-below}
+use Rattle.plain.specs.Told.{told, write_told}
+use borrow.Author.Rules.{rules}
+use Rattle.plain.proofs.writing.write_row.Goals as goal
+
+pub write_register-requires : goal.write_register-requires
+write_register-requires c = register-below _ _ c.in-Register.is c.requires.t
+
+pub write_register-requires-in-Attribute : goal.write_register-requires-in-Attribute
+write_register-requires-in-Attribute c = attribute-below _ _ c.in-Attribute.is c.requires.t
+
+pub byte-requires : goal.byte-requires
+unfolding takes_bytes profile
+byte-requires c = c.requires.value_bound (subst (λ (p : Place). T (takes_bytes (profile p).writing)) (sym c.in-ReadAddress.is) tt)
+
+pub byte-requires-in-WriteAddress : goal.byte-requires-in-WriteAddress
+unfolding takes_bytes profile
+byte-requires-in-WriteAddress c = c.requires.value_bound (subst (λ (p : Place). T (takes_bytes (profile p).writing)) (sym c.in-WriteAddress.is) tt)
+
+pub byte-requires-in-PixelData : goal.byte-requires-in-PixelData
+unfolding takes_bytes profile
+byte-requires-in-PixelData c = c.requires.value_bound (subst (λ (p : Place). T (takes_bytes (profile p).writing)) (sym c.in-PixelData.is) tt)
+
+pub returns-in-Register : goal.returns-in-Register
+unfolding profile write_told told write_answer write_effect refused code_of apply
+returns-in-Register c = rw c.in-Register.is c.write_register.ensures
+
+pub returns-in-Attribute : goal.returns-in-Attribute
+unfolding profile write_told told write_answer write_effect refused code_of apply
+returns-in-Attribute c = rw c.in-Attribute.is c.write_register-in-Attribute.ensures
+
+pub returns-in-PaletteState : goal.returns-in-PaletteState
+unfolding profile write_told told write_answer write_effect refused code_of apply
+returns-in-PaletteState c = rw c.in-PaletteState.is c.write_register-in-PaletteState.ensures
+
+pub returns-in-VPortState : goal.returns-in-VPortState
+unfolding profile write_told told write_answer write_effect refused code_of apply
+returns-in-VPortState c = rw c.in-VPortState.is c.write_register-in-VPortState.ensures
+
+pub returns-in-ReadAddress : goal.returns-in-ReadAddress
+unfolding profile write_told told write_answer write_effect refused code_of apply
+returns-in-ReadAddress c = rw (c.in-ReadAddress.is, ← c.byte.ensures) c.write_address.ensures
+
+pub returns-in-WriteAddress : goal.returns-in-WriteAddress
+unfolding profile write_told told write_answer write_effect refused code_of apply
+returns-in-WriteAddress c = rw (c.in-WriteAddress.is, ← c.byte-in-WriteAddress.ensures) c.write_address-in-WriteAddress.ensures
+
+pub returns-in-PixelData : goal.returns-in-PixelData
+unfolding profile write_told told write_answer write_effect refused code_of apply
+returns-in-PixelData c = rw (c.in-PixelData.is, ← c.byte-in-PixelData.ensures) c.write_pixel.ensures
+
+pub returns-in-Fixed : goal.returns-in-Fixed
+unfolding profile write_told told write_answer write_effect refused code_of apply
+returns-in-Fixed c = rw c.in-Fixed.is c.leaving.ensures
+
+pub returns-in-DeviceId : goal.returns-in-DeviceId
+unfolding profile write_told told write_answer write_effect refused code_of apply
+returns-in-DeviceId c = rw c.in-DeviceId.is c.leaving-in-DeviceId.ensures
+
+pub returns-in-ToggleState : goal.returns-in-ToggleState
+unfolding profile write_told told write_answer write_effect refused code_of apply
+returns-in-ToggleState c = rw c.in-ToggleState.is c.leaving-in-ToggleState.ensures
+
+pub returns-in-AttributeIndex : goal.returns-in-AttributeIndex
+unfolding profile write_told told write_answer write_effect refused code_of apply
+returns-in-AttributeIndex c = rw c.in-AttributeIndex.is c.leaving-in-AttributeIndex.ensures
+
+pub returns-in-ToggleReset : goal.returns-in-ToggleReset
+unfolding profile write_told told write_answer write_effect refused code_of apply
+returns-in-ToggleReset c = rw c.in-ToggleReset.is c.leaving-in-ToggleReset.ensures
+
+pub returns-in-CurrentLine : goal.returns-in-CurrentLine
+unfolding profile write_told told write_answer write_effect refused code_of apply
+returns-in-CurrentLine c = rw c.in-CurrentLine.is c.leaving-in-CurrentLine.ensures
+
+pub returns-in-Passing : goal.returns-in-Passing
+unfolding profile write_told told write_answer write_effect refused code_of apply
+returns-in-Passing c = rw c.in-Passing.is c.pass_lines.ensures
+
+pub returns-in-Unnamed : goal.returns-in-Unnamed
+unfolding profile write_told told write_answer write_effect refused code_of apply
+returns-in-Unnamed c = rw c.in-Unnamed.is c.leaving-in-Unnamed.ensures
+
+pub returns-in-UnnamedAttribute : goal.returns-in-UnnamedAttribute
+unfolding profile write_told told write_answer write_effect refused code_of apply
+returns-in-UnnamedAttribute c = rw (c.in-UnnamedAttribute.is, c.with_state.ensures, c.toggling.ensures)
