@@ -248,6 +248,19 @@ def as_record(body, names):
                 head, tuple_ = body[:cut.end()], body[cut.end():]
                 break
     parts = parts_of(tuple_)
+    if parts is None and re.match(r"(?:rw|subst) ", tuple_.strip()):
+        # what is left behind a rewriting answers the clauses together
+        depth, at = 0, len(tuple_.rstrip()) - 1
+        whole = tuple_.rstrip()
+        if whole.endswith(")"):
+            for at in range(len(whole) - 1, -1, -1):
+                depth += {")": 1, "]": 1, "}": 1, "(": -1, "[": -1, "{": -1}.get(whole[at], 0)
+                if depth == 0:
+                    break
+            inner = parts_of(whole[at:])
+            if inner:
+                return f"{head}{whole[:at]}({as_record(whole[at:], names).strip()})"
+        return f"{head}{tuple_}"
     if parts is None:
         # what is no tuple is cut into its parts
         whole = body.strip()
@@ -276,6 +289,24 @@ def turn_paths(text, names, place):
     for found in re.finditer(r"let (" + WORD + r")(?: : [^=]*)? = c(?:\.before)*\.args in", text):
         text = re.sub(r"(?<![\w'.-])" + re.escape(found.group(1)) + r"\.t(\d+)(?![\w'-])",
                       lambda m: f"{found.group(1)}.{names.own[0][int(m.group(1)) - 1]}" if int(m.group(1)) <= len(names.own[0]) else m.group(0), text)
+
+    # `let put = c.before.step in` names a step: its fields turn too
+    for found in list(re.finditer(r"let (" + WORD + r")(?: : [^=]*)? = c((?:\.[\w'₀-₉-]+)+)\s+in(?=\s)", text)):
+        parts = found.group(2)[1:].split(".")
+        if parts[-1] in ("before", "args") or "args" in parts:
+            continue
+        try:
+            stem, _ = names.path(place, parts)
+        except Left:
+            continue
+
+        def field(inner, stem=stem, parts=parts, name=found.group(1)):
+            try:
+                new, _ = names.path(place, parts + inner.group(1)[1:].split("."))
+            except Left:
+                return inner.group(0)
+            return name + new[len(stem):] if new and new.startswith(stem + ".") else (new or inner.group(0))
+        text = re.sub(r"(?<![\w'.-])" + re.escape(found.group(1)) + r"((?:\.[\w'₀-₉-]+)+)", field, text)
 
     def turned(found):
         new, _ = names.path(place, found.group(1)[1:].split("."))

@@ -12,8 +12,8 @@ use Rattle.explaining.specs.contracts.line.Line as line
 
 -- words have 24 bytes
 pub words_count : (t : Token) (vs : List Val) → Is (row the_type) t vs → length t.bytes ≡ 24
-words_count t vs g = sym (length-map t.bytes _) ∙ g.1.1.1.0.1.0.1
+words_count t vs g = g.1.1.1.0.1.0.1
 
 -- a line has 159
 pub line-count : (l : Line) (vs : List Val) → Is (row line.the_type) l vs → length l.bytes ≡ 159
-line-count l vs g = sym (length-map l.bytes _) ∙ g.1.1.0.1.0.1
+line-count l vs g = g.1.1.0.1.0.1

@@ -1,0 +1,13 @@
+-- `line::capital` meets its contract. Assumes nothing.
+use borrow.Author.Rules.{rules}
+use borrow.Author.Tests.{lt-ltb, le-ltb}
+use Rattle.text.specs.Text.{capital}
+use Rattle.explaining.proofs.line.capital.Goals as goal
+
+pub returns-then-d-lt10 : goal.returns-then-d-lt10
+unfolding capital
+returns-then-d-lt10 c = rw (lt-ltb _ _ c.if-d-lt10.true)
+
+pub returns-else-d-lt10 : goal.returns-else-d-lt10
+unfolding capital
+returns-else-d-lt10 c = rw (le-ltb _ _ c.if-d-lt10.false)

@@ -1,0 +1,9 @@
+-- `meaning::inside_words` meets its contract. Assumes nothing.
+use borrow.Author.Rules.{rules}
+use Rattle.file.specs.Readers.{ascii}
+use Rattle.explaining.specs.Words.{inside_words}
+use Rattle.explaining.proofs.meaning.inside_words.Goals as goal
+
+pub returns : goal.returns
+unfolding inside_words ascii
+returns c = rw (c.two.ensures, c.short.ensures, c.one_less.ensures, c.say.ensures)

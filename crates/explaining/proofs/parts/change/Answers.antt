@@ -1,0 +1,9 @@
+-- `parts::change` meets its contract. Assumes nothing.
+use borrow.Author.Rules.{rules}
+use Rattle.file.specs.Readers.{ascii}
+use Rattle.explaining.specs.Explained.{changed}
+use Rattle.explaining.proofs.parts.change.Goals as goal
+
+pub returns : goal.returns
+unfolding changed ascii
+returns c = rw (c.told-3.ensures, c.told-2.ensures, c.told.ensures, c.choose_phrase-last.ensures, c.alone.ensures, c.none.ensures, c.alone-way.ensures, c.choose.ensures, c.say-2.ensures, c.say.ensures)

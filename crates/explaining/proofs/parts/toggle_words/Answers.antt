@@ -1,0 +1,9 @@
+-- `parts::toggle_words` meets its contract. Assumes nothing.
+use borrow.Author.Rules.{rules}
+use Rattle.file.specs.Readers.{ascii}
+use Rattle.explaining.specs.Explained.{toggle_words}
+use Rattle.explaining.proofs.parts.toggle_words.Goals as goal
+
+pub returns : goal.returns
+unfolding toggle_words ascii
+returns c = rw (c.alone.ensures, c.choose.ensures, c.say-2.ensures, c.say.ensures)

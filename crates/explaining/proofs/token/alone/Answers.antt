@@ -1,0 +1,6 @@
+-- `token::alone` meets its contract. Assumes nothing.
+use borrow.Author.Rules.{rules}
+use Rattle.explaining.proofs.token.alone.Goals as goal
+
+pub returns : goal.returns
+returns c = rw c.none-none.ensures

@@ -1,0 +1,6 @@
+-- `token::two` meets its contract. Assumes nothing.
+use borrow.Author.Rules.{rules}
+use Rattle.explaining.proofs.token.two.Goals as goal
+
+pub returns : goal.returns
+returns c = rw c.none-none.ensures

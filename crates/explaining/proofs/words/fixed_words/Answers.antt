@@ -1,0 +1,9 @@
+-- `words::fixed_words` meets its contract. Assumes nothing.
+use borrow.Author.Rules.{rules}
+use Rattle.file.specs.Readers.{ascii}
+use Rattle.explaining.specs.Words.{fixed_words}
+use Rattle.explaining.proofs.words.fixed_words.Goals as goal
+
+pub returns : goal.returns
+unfolding fixed_words ascii
+returns c = rw (c.alone.ensures, c.choose.ensures, c.say-2.ensures, c.say.ensures)

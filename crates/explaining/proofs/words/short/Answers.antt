@@ -1,0 +1,8 @@
+-- `words::short` meets its contract. Assumes nothing.
+use borrow.Author.Rules.{rules}
+use Rattle.explaining.specs.Words.{short}
+use Rattle.explaining.proofs.words.short.Goals as goal
+
+pub returns : goal.returns
+unfolding short
+returns c = rw (c.hex.ensures, c.wide.ensures, c.pick-2.ensures, c.pick.ensures)

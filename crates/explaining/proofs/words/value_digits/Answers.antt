@@ -1,0 +1,6 @@
+-- `words::value_digits` meets its contract. Assumes nothing.
+use borrow.Author.Rules.{rules}
+use Rattle.explaining.proofs.words.value_digits.Goals as goal
+
+pub returns : goal.returns
+returns c = rw (c.pick-2.ensures, c.pick.ensures, c.both-byte.ensures)
