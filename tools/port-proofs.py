@@ -75,7 +75,7 @@ class Names:
                 place = self.parent[place]
         if not parts:
             return None, place
-        head, rest = parts[0], parts[1:]
+        head, rest = parts[0], ["type_inv" if part == "type-inv" else part for part in parts[1:]]
         if head in ("args", "requires", "ranges", "lifetimes", "well-formed", "well_formed", "type_inv"):
             if head == "args" and rest and re.match(r"t\d+$", rest[0]) and int(rest[0][1:]) <= len(self.own[0]):
                 rest[0] = self.own[0][int(rest[0][1:]) - 1]

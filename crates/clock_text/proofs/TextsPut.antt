@@ -1,31 +1,24 @@
 -- A text copied into a buffer, and a number's digits. Assumes nothing.
 use Prim.Native.Nat.{ℕ, zero, suc, ◌+◌, ◌-◌, ◌≤◌}
 use mathlib.Core.List.{List, ◌++◌, append_assoc, append-nil}
-use mathlib.Core.Path.{◌≡◌, sym, ap, ◌∙◌}
+use mathlib.Core.Path.{◌≡◌, refl, sym, ap, ◌∙◌}
 use native.Mathlib.Omega.{arith}
 use lib.ListN.{length, take, drop, length-drop, drop_of_length-le}
 use lib.Seq.{drop-drop, sets, sets-eq, take_all, take-length}
+use borrow.Rule.Slice.PartMut.{put_mid}
 use Rattle.io.specs.Digits.{last_digits, IsDigitCount}
 use Rattle.text.specs.Lent.{Wrote}
 use Rattle.text.specs.Text.{decimal, decimal_places}
 use Rattle.text.proofs.Places.{one_place, so-many}
 
 module _ (buffer text : List ℕ) (at : ℕ) (room : at + length text ≤ length buffer) where
-  -- the copy's part and what stands before it
-  copied : take at buffer ++ ((take (length text) text ++ drop (length text) (take (length buffer - at) (drop at buffer))) ++ drop (length buffer - at) (drop at buffer))
-      ≡ sets buffer at text
-  copied =
-      let long : length (drop at buffer) ≤ length buffer - at = omega (arith, length-drop at buffer) in
-      rw (take-length text, take_all (length buffer - at) (drop at buffer) long, drop-drop (length text) at buffer, drop_of_length-le (drop at buffer) long, append-nil)
-      (sym (append_assoc (take at buffer) text (drop (at + length text) buffer)) ∙ sym (sets-eq text buffer at room))
-
-  pub copy-wrote : (mid : List ℕ) (n : ℕ) → n ≡ length text
-      → mid ≡ take (length text) text ++ drop (length text) (take (length buffer - at) (drop at buffer))
-      → Wrote buffer at text (take at buffer ++ (mid ++ drop (length buffer - at) (drop at buffer))) (at + n)
+  pub copy-wrote : (mid : List ℕ) (n : ℕ) → n ≡ length text → mid ≡ text → Wrote buffer at text (put_mid at n buffer mid) (at + length text)
   copy-wrote mid n e same =
       record {
-        bytes = ap (λ (m : List ℕ). take at buffer ++ (m ++ drop (length buffer - at) (drop at buffer))) same ∙ copied;
-        place = ap (λ (k : ℕ). at + k) e;
+        bytes =
+            rw (e, same, drop-drop (length text) at buffer)
+            (sym (append_assoc (take at buffer) text (drop (at + length text) buffer)) ∙ sym (sets-eq text buffer at room));
+        place = refl;
       }
 
 -- the fewest digits that hold a number are as many as it has

@@ -13,7 +13,9 @@ fn put(text: &[u8], buffer: &mut [u8], at: usize) -> usize
     requires { at + length text.now ≤ length buffer.old }
     ensures { Wrote buffer.old at text.now buffer.new result }
 {
-    at + bytes::copy(text, &mut buffer[at..])
+    let end = at + text.len();
+    buffer[at..end].copy_from_slice(text);
+    end
 }
 
 // A number in decimal.

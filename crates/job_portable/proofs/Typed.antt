@@ -12,7 +12,7 @@ use Rattle.job_portable.specs.declared.keeping.PortableJob.{PortableJob}
 use Rattle.job_portable.specs.contracts.keeping.PortableJob.{the_type}
 
 bytes_count : (job : PortableJob) (vs : List Val) → Is (row the_type) job vs → length job.bytes ≡ 29
-bytes_count job vs g = sym (length-map job.bytes _) ∙ g.1.1.0.1.0.1
+bytes_count job vs g = g.1.1.0.1.0.1
 
 -- so as many of them as it keeps are there
 module _ (job : PortableJob) (vs : List Val) (g : Is (row the_type) job vs) (count : ℕ) (least : count ≡ min job.count 29) where

@@ -16,7 +16,7 @@ use Rattle.options.specs.Lines.{line_most, text_of}
 use Rattle.options.specs.contracts.line.Line.{the_type}
 
 pub line-count : (l : Line) (vs : List Val) → Is (row the_type) l vs → length l.bytes ≡ line_most
-line-count l vs g = sym (length-map l.bytes _) ∙ g.1.1.0.1.0.1
+line-count l vs g = g.1.1.0.1.0.1
 
 -- the text of a line, cut at its last place
 pub clipped-text : (l : Line) (size : ℕ) → length l.bytes ≡ line_most → size ≡ min l.end line_most → take size l.bytes ≡ text_of l

@@ -10,4 +10,4 @@ use Rattle.refusals.specs.Counted.{code_count}
 use Rattle.refusals.specs.contracts.codes.Refusals.{the_type}
 
 pub counts-count : (r : Refusals) (vs : List Val) → Is (row the_type) r vs → length r.counts ≡ code_count
-counts-count r vs g = sym (length-map r.counts _) ∙ g.1.1.0.1.0.1
+counts-count r vs g = g.1.1.0.1.0.1

@@ -12,13 +12,13 @@ use Rattle.summing.specs.contracts.summary.Summary.{the_type}
 
 module _ (s : Summary) (vs : List Val) (g : Is (row the_type) s vs) where
   pub writes-count : length s.writes ≡ register_count
-  writes-count = sym (length-map s.writes _) ∙ g.1.1.0.1.0.1
+  writes-count = g.1.1.0.1.0.1
 
   pub reaches-count : length s.reaches ≡ register_count
-  reaches-count = sym (length-map s.reaches _) ∙ g.1.1.1.0.1.0.1
+  reaches-count = g.1.1.1.0.1.0.1
 
   pub moved-count : length s.moved ≡ register_count
-  moved-count = sym (length-map s.moved _) ∙ g.1.1.1.1.0.1.0.1
+  moved-count = g.1.1.1.1.0.1.0.1
 
   pub codes-count : length s.codes ≡ code_count
-  codes-count = sym (length-map s.codes _) ∙ g.1.1.1.1.1.0.1.0.1
+  codes-count = g.1.1.1.1.1.0.1.0.1

@@ -1,0 +1,16 @@
+-- `put::put_behind` meets its contract. Assumes nothing.
+use native.Mathlib.Omega.{arith}
+use borrow.Author.Rules.{rules}
+use lib.ListN.{length-append}
+use Rattle.text.specs.Text.{decimal}
+use Rattle.text.proofs.Stores.{then-text}
+use Rattle.clock_text.proofs.put.put_behind.Goals as goal
+
+pub put-at-requires : goal.put-at-requires
+put-at-requires c = omega (arith, length-append c.args.word.now (decimal c.args.n))
+
+pub put_number-requires : goal.put_number-requires
+put_number-requires c = omega (arith, length-append c.args.word.now (decimal c.args.n), c.put-at.ensures.place)
+
+pub returns : goal.returns
+returns c = then-text c.put-at.ensures c.put_number.ensures

@@ -1,0 +1,14 @@
+-- `codes::counting_replies` meets its contract: what is counted, and then the codes of the replies that are left, are the counts of all. Assumes nothing.
+use Prim.Native.Nat.{◌-◌, ◌*◌, ◌/◌, ◌≤◌}
+use mathlib.Core.Path.{◌≡◌}
+use borrow.Author.Rules.{rules}
+use lib.ListN.{length, drop}
+use Rattle.refusals.specs.Counted.{codes_counted}
+use Rattle.refusals.proofs.codes.counting_replies.Given as goal
+
+abbrev pub invariant-loop-n : goal.invariant-loop-n
+invariant-loop-n l =
+    (codes_counted (l.count - l.n) l.counts (drop (8 * l.n) l.replies) ≡ codes_counted l.count l.initial.counts l.replies) × (l.n ≤ l.count) × (l.count ≡ length l.replies / 8)
+
+abbrev pub decreases-loop-n : goal.decreases-loop-n
+decreases-loop-n l = l.count - l.n

@@ -1,0 +1,38 @@
+use Prim.Native.Nat.{ℕ, ◌+◌, ◌-◌, min}
+use mathlib.Core.Path.{ap, ◌∙◌}
+use native.Mathlib.Omega.{arith}
+use borrow.Author.Rules.{rules}
+use lib.ListN.{drop}
+use Rattle.refusals.specs.Counted.{most_count}
+use Rattle.refusals.specs.Said.{refused_sum, total}
+use Rattle.refusals.proofs.Telling.{next-sum, no-sum-left}
+use Rattle.refusals.proofs.line.refused_sum.Goals as goal
+
+pub loop-code-init : goal.loop-code-init
+unfolding refused_sum
+loop-code-init c = (omega arith, omega arith)
+
+pub bounds-counts-code : goal.bounds-counts-code
+bounds-counts-code c = omega arith
+
+pub overflow_add-code : goal.overflow_add-code
+overflow_add-code c = omega arith
+
+pub loop-code-smaller : goal.loop-code-smaller
+loop-code-smaller c = omega arith
+
+pub loop-code-preserved : goal.loop-code-preserved
+loop-code-preserved c =
+    let here = c.loop-code in
+    let counts = c.args.counts.now in (
+      ap (λ (sum : ℕ). min (sum + total (drop (here.code + 1) counts)) most_count) c.summed_up-sum.ensures
+          ∙ next-sum counts here.code here.sum (omega arith)
+          ∙ here.invariant.0,
+      omega arith,
+    )
+
+pub returns : goal.returns
+returns c =
+    let here = c.loop-code in
+    let none = no-sum-left c.args.counts.now here.code (omega arith) in
+    omega (arith, here.invariant.0, here.invariant.1, none)

@@ -1,0 +1,8 @@
+-- `closing::counted` meets its contract. Assumes nothing.
+use borrow.Author.Rules.{rules}
+use Rattle.summing.specs.Closing.{counted}
+use Rattle.summing.proofs.closing.counted.Goals as goal
+
+pub returns : goal.returns
+unfolding counted
+returns c = rw (c.two.ensures, c.choose.ensures, c.decimal.ensures)
