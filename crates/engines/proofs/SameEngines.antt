@@ -4,7 +4,8 @@ use mathlib.Core.Path.{◌≡◌, sym, ◌∙◌}
 use mathlib.Core.List.{List}
 use seplogic.Ra.Ura.{Ura}
 use prog.Model.{Model}
-use prog.Routine.{Routine}
+use prog.Wired.{Code, Wired}
+use mir.Syntax.{Callee}
 use types.Logic.{Logic}
 use contract.Lifetimes.{Lfts}
 use contract.Running.{Running}
@@ -23,14 +24,15 @@ use Rattle.plain.proofs.run.Met as plain-proof
 use Rattle.plain.proofs.run.Reads as plain-reads
 use Rattle.plain.proofs.run.Symbol as plain_code
 
--- code meets the contract of `trace::run`
-abbrev pub RunsAsQuick : Routine → Type 1 → Type 2
-RunsAsQuick code M =
+-- code meets the contract of `trace::run`: what its name stands for does, in every environment that has the code
+abbrev pub RunsAsQuick : Code → Callee → Type 1 → Type 2
+RunsAsQuick code name M =
     (𝓤 : Ura M) (𝓛 : Logic 𝓤) (𝓜 : Model 𝓤 𝓛.H) (𝓡 : Running 𝓤 𝓛.H 𝓜)
-    → Meets 𝓛 quick-run.signature (𝓡.run code) (quick-run.spec 𝓛 𝓜.mem 𝓡.run)
+    → Wired 𝓡.env code
+    → Meets 𝓛 quick-run.signature (𝓡.run (𝓡.env name)) (quick-run.spec 𝓛 𝓜.mem 𝓡.returns)
 
 -- the code of either engine does: that of `trace::run`, and that of `plain::run`
-pub both_meet : {M : Type 1} → RunsAsQuick quick-code.routine M × RunsAsQuick plain_code.routine M
+pub both_meet : {M : Type 1} → RunsAsQuick quick-code.code quick-code.name M × RunsAsQuick plain_code.code plain_code.name M
 both_meet = (quick-proof.met, plain-proof.met)
 
 -- ---- what the contract says fixes every part of a run

@@ -1,6 +1,6 @@
 -- However an input is cut into parts, what is put out of them is what is put out of the whole, and the job is the one after the whole. Assumes nothing.
 use Prim.Native.Nat.{ℕ}
-use mathlib.Core.List.{List, [], ◌++◌, append_assoc}
+use mathlib.Core.List.{List, ◌++◌}
 use mathlib.Core.Path.{◌≡◌, sym, ap, ap₂, ◌∙◌}
 use Rattle.feeding.specs.Feeding.{Additive, Parts, WholeInput}
 use Rattle.feeding.specs.Feeding.Parts.{none, then}

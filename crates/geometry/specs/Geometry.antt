@@ -12,7 +12,6 @@ use Rattle.file.specs.File.{register}
 use Rattle.file.specs.Names.{CC, CE, D0, D2, D4, D5, E0, E2, E4, E6, E8, capture_xstart, capture_xstop, capture_ystart, capture_ystop}
 use Rattle.file.specs.Sound.{sound}
 use Rattle.timing.specs.declared.Scanlines.{Scanlines}
-use Rattle.timing.specs.declared.Timing.{Timing}
 use Rattle.timing.specs.Timing.{timing_in}
 use Rattle.geometry.specs.declared.IncomingScanlines.{IncomingScanlines}
 use Rattle.geometry.specs.declared.PixelClocks.{PixelClocks}

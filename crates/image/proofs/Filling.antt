@@ -7,10 +7,9 @@ use mathlib.Core.List.{List, [], ◌∷◌, ◌++◌, append-nil}
 use native.Mathlib.Nat.{add-zero, add-suc, suc-add, zero-add}
 use native.Mathlib.Numerals.{add-one}
 use native.Mathlib.Omega.{arith}
-use lib.ListN.{length, get_or, set, take, drop, length-set, length-append, drop_of_length-le}
+use lib.ListN.{length, get_or, set, drop, length-set, length-append}
 use lib.Seq.{sets, sets-eq, drop-cons, drop-length}
 use Rattle.file.specs.declared.palette.Colour.{Colour}
-use Rattle.file.specs.File.{black}
 use Rattle.image.specs.Bytes.{word_bytes, words_in, colour_bytes, colours_in, flag_byte, is_set, flag_bytes, flags_in}
 
 -- ---- a loop

@@ -1,13 +1,13 @@
 -- For a host in C: 'Loading what was saved gives the same file'. And a file's words and bytes are that file.
 -- Assumes nothing.
-use Prim.Native.Nat.{ℕ, ◌+◌, ◌*◌, ◌/◌, ◌%◌, ◌<◌, ◌^◌}
-use mathlib.Core.Path.{◌≡◌, refl, sym, ap, ap₂, ◌∙◌, subst}
-use mathlib.Core.Bool.{Bool, true, false, cond, ◌&&◌}
+use Prim.Native.Nat.{ℕ, ◌+◌, ◌*◌, ◌/◌, ◌%◌}
+use mathlib.Core.Path.{◌≡◌, refl, ap, ap₂, ◌∙◌}
+use mathlib.Core.Bool.{Bool, true, false, cond}
 use mathlib.Core.List.{List, [], ◌∷◌, ◌++◌, append_assoc}
 use native.Mathlib.Omega.{arith}
 use borrow.Author.Tests.{eq-eqb}
-use lib.Dec.{T, eqb}
-use lib.ListN.{length, get_or, take, drop, length-append}
+use lib.Dec.{T}
+use lib.ListN.{length, take, drop, length-append}
 use lib.Seq.{take_at, drop_at, take_all}
 use Rattle.bits.proofs.Test.{is_true}
 use Rattle.file.specs.declared.answer.Answer.TheVariants.{Done}
@@ -17,7 +17,6 @@ use Rattle.file.specs.declared.registers.File.{File}
 use Rattle.file.specs.declared.state.State.{State}
 use Rattle.file.specs.File.{palette_count, bank_count}
 use Rattle.file.specs.Registers.{register_count}
-use Rattle.image.specs.declared.saving.Loaded.{Loaded}
 use Rattle.image.specs.Bytes.{word_bytes, words_in, colour_bytes, colours_in, flag_byte, is_set}
 use Rattle.image.specs.Parts.{chip_byte, chip_in, state_bytes, state_in, rest_of, held_in, sound_in, rest_count, set_count}
 use Rattle.image.specs.Image.{image_count, heading, image_of, registers_in, rest_in, set_kept, set_part, headed, loads, loaded_from}

@@ -11,7 +11,7 @@ use lib.Seq.{take_at, drop_at}
 use Rattle.bits.proofs.Test.{second}
 use Rattle.bits.specs.Numbers.{all_in_range}
 use Rattle.bits.proofs.Tables.{written-outside}
-use Rattle.bits.specs.Store.{bit, store, within}
+use Rattle.bits.specs.Store.{store, within}
 use Rattle.file.proofs.Reached.{same-outside}
 use Rattle.file.proofs.Soundness.{apply-sound}
 use Rattle.file.specs.Answers.{among, code_of}

@@ -1,6 +1,6 @@
 -- 02, 4/13: what a modeline says to a file: the fifteen timing numbers, and the flags' bits of MISC.
 -- Assumes nothing.
-use Rattle.std.specs.Prelude.{ℕ, ◌+◌, ◌/◌, ◌%◌, min, Bool, true, false, cond, List, [], ◌∷◌, map, eqb, get_or}
+use Rattle.std.specs.Prelude.{ℕ, ◌+◌, ◌/◌, ◌%◌, min, Bool, false, cond, List, [], ◌∷◌, map, eqb, get_or}
 use Rattle.file.specs.declared.effect.Effect.{Effect}
 use Rattle.file.specs.declared.effect.Effect.TheVariants.{Store}
 use Rattle.file.specs.declared.registers.File.{File}

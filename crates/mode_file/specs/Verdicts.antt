@@ -1,6 +1,6 @@
 -- 02, 4/13, 'Refusals', with 01's table of codes: the number of each answer.
 -- Assumes nothing.
-use Rattle.std.specs.Prelude.{ℕ, cond, eqb}
+use Rattle.std.specs.Prelude.{ℕ}
 use Rattle.mode_file.specs.declared.verdict.Verdict.{Verdict}
 use Rattle.mode_file.specs.declared.verdict.Verdict.TheVariants.{Done, Locked, OutOfRange, NotSound, BadText, NotMultiple, OtherTiming, OutOfForm}
 

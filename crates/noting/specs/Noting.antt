@@ -18,7 +18,6 @@ use Rattle.trace.specs.Run.{run, RunKept}
 use Rattle.timing.specs.declared.Timing.{Timing}
 use Rattle.timing.specs.Table.{table, wide}
 use Rattle.timing.specs.Timing.{timing_answer, write_timing}
-use Rattle.mode_file.specs.declared.verdict.Verdict.{Verdict}
 use Rattle.mode_file.specs.Into.{ReadInto}
 use Rattle.mode_file.specs.Said.{flag_reach}
 use Rattle.mode_file.specs.Verdicts.{number_of}

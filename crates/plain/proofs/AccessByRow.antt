@@ -33,7 +33,7 @@ use Rattle.plain.specs.declared.row.Row.{Row}
 use Rattle.plain.specs.Looked.{looked_over}
 use Rattle.plain.specs.Rows.{Listed, row_count, rows_of, of_chip, index_of, said, bits_right}
 use Rattle.plain.specs.Told.{told, told_of_read, row_reach, write_told, access_told}
-use Rattle.plain.specs.Walk.{is_at, selected, fits, found}
+use Rattle.plain.specs.Walk.{is_at, selected, fits}
 use Rattle.plain.proofs.KindsOfRecord.{or-swapped}
 use Rattle.plain.proofs.LookedInOrder.{settled, row-meant, in_order, is-refused, Passed, passed}
 use Rattle.plain.proofs.RowsSay.{meant_row, found-passes}

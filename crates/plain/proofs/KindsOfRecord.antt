@@ -1,11 +1,11 @@
 -- Kinds of record by space and direction, and the tests that go by them. Assumes nothing.
 use Prim.Native.Nat.{ℕ, ◌+◌, ◌*◌, ◌-◌, ◌/◌, ◌%◌}
-use mathlib.Core.Path.{◌≡◌, refl, sym, ap, ◌∙◌}
+use mathlib.Core.Path.{◌≡◌, refl}
 use mathlib.Core.Bool.{Bool, true, false, cond, not, ◌&&◌, ◌||◌}
 use native.Mathlib.Omega.{arith}
 use borrow.Author.Tests.{eqb-true, eqb-false, ltb-true, ltb-false, eq-eqb, ne_eqb, lt-ltb, le-ltb}
 use lib.Dec.{eqb, ltb}
-use Rattle.bits.proofs.Test.{by-test, and-true, and-false, or-false}
+use Rattle.bits.proofs.Test.{by-test, and-true, and-false}
 use Rattle.places.specs.Lookup.{other_way}
 
 -- two tests of numbers that say the same are one

@@ -1,8 +1,8 @@
 -- The rows from a number on, as the loops over the list go through them. Assumes nothing.
 use Prim.Native.Nat.{ℕ, suc, ◌+◌, ◌*◌, ◌-◌, ◌%◌, ◌<◌}
 use mathlib.Core.Path.{◌≡◌, refl, sym, ap, ap₂, ◌∙◌}
-use mathlib.Core.Bool.{Bool, true, false, cond, not, ◌||◌}
-use mathlib.Core.List.{List, [], ◌∷◌}
+use mathlib.Core.Bool.{Bool, true, false, not}
+use mathlib.Core.List.{List, ◌∷◌}
 use native.Mathlib.Nat.{add-zero}
 use native.Mathlib.Omega.{arith}
 use lib.Dec.{eqb}
@@ -10,7 +10,6 @@ use lib.ListN.{get_or, drop}
 use lib.Seq.{drop-drop, get_or-drop}
 use Rattle.places.specs.declared.place.Place.{Place}
 use Rattle.plain.specs.declared.row.Row.{Row}
-use Rattle.plain.specs.declared.walk.Found.{Found}
 use Rattle.plain.specs.declared.walk.Found.TheVariants.{At}
 use Rattle.plain.specs.Rows.{row_count, columns, digit, two_digits, four_digits, is, place_named, row_of, rows_of}
 use Rattle.plain.specs.Walk.{found, some_of}

@@ -9,7 +9,7 @@ use borrow.Author.Tests.{eqb-true}
 use Rattle.bits.proofs.Test.{left, right, both, by-test, passes, and-true, and-false, or-false}
 use Rattle.file.specs.declared.chip.Chip.{Chip}
 use Rattle.file.specs.declared.registers.File.{File}
-use Rattle.places.specs.Lookup.{selects, matches, first, other_way, some_row, held_in, is_wider, inside_in}
+use Rattle.places.specs.Lookup.{selects, matches, first, some_row, held_in, is_wider, inside_in}
 use Rattle.places.specs.Places.{Row as PlaceRow}
 use Rattle.plain.specs.declared.row.Row.{Row}
 use Rattle.plain.specs.declared.walk.Found.{Found}

@@ -1,6 +1,6 @@
 -- A Rattle `File` is a file in the sense of the plan.
 -- Assumes nothing.
-use mathlib.Core.List.{List, [], ◌∷◌, map}
+use mathlib.Core.List.{List, [], ◌∷◌}
 use mathlib.Core.Bool.{◌&&◌}
 use lib.Dec.{T, ltb, lt→ltb}
 use mir.Val.{Val}
@@ -17,7 +17,7 @@ use Rattle.file.proofs.Typed.{palette-count, bank-count, address-byte}
 use Rattle.roads.specs.Restores.{bytes, IsFile}
 
 -- a colour is three bytes
-colour-bytes : (c : Colour) (vs : List Val) → shadow ((C.the_field).row.own_val ((C.the_field).into c) vs)
+colour-bytes : (c : Colour) (vs : List Val) → shadow (C.the_row.own_val c vs)
     → T (ltb c.red 256 && ltb c.green 256 && ltb c.blue 256)
 colour-bytes c vs g =
     both (ltb c.red 256 && ltb c.green 256) (ltb c.blue 256)
@@ -25,7 +25,7 @@ colour-bytes c vs g =
     (lt→ltb c.blue 256 g.1.1.1.1.0.1)
 
 each-bytes : (cs : List Colour) (us : List Val)
-    → shadow (each (C.the_field).row.Denot (C.the_field).row.own_val (map (C.the_field).into cs) us) → T (bytes cs)
+    → shadow (each C.the_row.Denot C.the_row.own_val cs us) → T (bytes cs)
 unfolding bytes
 each-bytes [] us g = tt
 each-bytes (c ∷ cs) [] g = absurd g

@@ -1,20 +1,20 @@
 -- The roads to the registers that a set names: what holds of every road holds of them, every register ends as wanted if those that are not named were so before, and how
 -- many records they take. Assumes nothing.
 use Prim.Native.Nat.{ℕ, zero, suc, ◌+◌, ◌*◌, ◌≤◌, ◌<◌}
-use mathlib.Core.Path.{◌≡◌, refl, sym, ap, ap₂, ◌∙◌, subst}
-use mathlib.Core.Bool.{Bool, true, false, true≢false, cond, not, ◌&&◌, ◌||◌}
+use mathlib.Core.Path.{◌≡◌, refl, sym, ap₂, ◌∙◌, subst}
+use mathlib.Core.Bool.{Bool, true, false, true≢false, not, ◌&&◌, ◌||◌}
 use mathlib.Core.List.{List, [], ◌∷◌, ◌++◌, map}
 use native.Mathlib.Omega.{arith}
 use borrow.Author.Tests.{eqb-true, eqb-false}
-use lib.Dec.{T, eqb, T_not}
+use lib.Dec.{T, eqb}
 use lib.ListN.{get_or, set, length, length-append}
 use lib.Seq.{ext_get_or, get_or-set_other}
-use Rattle.bits.proofs.Test.{left, right, both, by-test, passes, is_true, second, every_below, below}
+use Rattle.bits.proofs.Test.{left, right, both, by-test, passes, second, every_below, below}
 use Rattle.file.specs.Names.{MISC, PCI04, CR11, CR1A, B0}
 use Rattle.file.specs.Registers.{register_count, sequencer, crtc, graphics, attribute, pipeline, v_port}
 use Rattle.places.specs.Lookup.{is_one_of}
 use Rattle.places.specs.Places.{Index, any, sr, cr, gr, ar, index_due, data_due}
-use Rattle.roads.specs.Roads.{Road, to_arx, each_road, but, register_roads, index_roads, closing_roads}
+use Rattle.roads.specs.Roads.{Road, each_road, but, register_roads, index_roads, closing_roads}
 use Rattle.roads.specs.RoadRecords.{write, selecting, along}
 use Rattle.roads.specs.RegisterStage.{every_road, after_roads, moves, ends_wanted}
 use Rattle.roads.proofs.RegisterStageRuns.{ends-wanted, after-length}

@@ -1,21 +1,20 @@
 -- The stage of colours over the entries that a set names: from a file that holds the others as wanted, it leaves what the full plan's stage does.
 -- Assumes nothing.
-use Prim.Native.Nat.{ℕ, suc, ◌<◌}
+use Prim.Native.Nat.{ℕ, ◌<◌}
 use mathlib.Core.Path.{◌≡◌, refl, sym, ap, ap₂, ◌∙◌, subst}
 use mathlib.Core.Bool.{Bool, true, false, true≢false}
-use mathlib.Core.List.{List, [], ◌∷◌, ◌++◌}
+use mathlib.Core.List.{List, [], ◌∷◌}
 use native.Mathlib.Omega.{arith}
 use borrow.Author.Tests.{eqb-true, eqb-false}
-use lib.Dec.{T, eqb, lit<}
-use lib.ListN.{get_or, set, length, length-set}
+use lib.Dec.{T, eqb}
+use lib.ListN.{get_or, length, length-set}
 use lib.Seq.{get_or-set_same, get_or-set_other}
-use Rattle.bits.proofs.Test.{left, right, by-test}
+use Rattle.bits.proofs.Test.{by-test}
 use Rattle.file.specs.declared.palette.Colour.{Colour}
 use Rattle.file.specs.declared.palette.Pointer.{Pointer}
 use Rattle.file.specs.declared.registers.File.{File}
 use Rattle.file.specs.File.{register, with_registers, with_palette, with_bank, black}
-use Rattle.file.specs.Names.{B0, CR1A}
-use Rattle.file.specs.Palette.{addressed}
+use Rattle.file.specs.Names.{B0}
 use Rattle.file.specs.Sound.{sound}
 use Rattle.file.proofs.Soundness.{state-sound}
 use Rattle.places.specs.Lookup.{is_one_of}
@@ -24,7 +23,7 @@ use Rattle.roads.specs.RoadRecords.{write}
 use Rattle.roads.specs.Plan.{open_bank}
 use Rattle.roads.specs.Restores.{RunsInto, bytes}
 use Rattle.roads.specs.RegisterStage.{with_register, with_flip, index_flips, Ready, loose}
-use Rattle.roads.specs.ColourStage.{PaletteOpen, PaletteReady, Stretch, in_range, every_stretch, with_step, write_blue, after_stretch, after_stretches, entries_after, entries_in, with_entries, stretch_records}
+use Rattle.roads.specs.ColourStage.{PaletteOpen, Stretch, with_step, after_stretch, after_stretches, stretch_records}
 use Rattle.roads.specs.StageEnds.{coloured}
 use Rattle.roads.proofs.RunsCompose.{runs_then}
 use Rattle.roads.proofs.LookupBySelectors.{selectors_of}

@@ -1,7 +1,7 @@
 -- 02, 10/13, as settled: no record of a short plan lets lines pass either. Assumes nothing.
 use Prim.Native.Nat.{ℕ}
 use mathlib.Core.Bool.{Bool, ◌&&◌}
-use mathlib.Core.List.{List, [], ◌∷◌, ◌++◌}
+use mathlib.Core.List.{List, [], ◌∷◌}
 use lib.Dec.{T}
 use lib.ListN.{get_or}
 use Rattle.bits.proofs.Test.{left, right, both, by-test}

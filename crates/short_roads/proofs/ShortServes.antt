@@ -1,28 +1,26 @@
 -- 02, 11/13: from every sound file on the saved file's chip that differs from it inside the set only, each record of the short plan is accepted and the run ends in
 -- the saved file, with the start's line (02, 10/13, as settled). Assumes nothing.
 use Prim.Native.Nat.{ℕ, ◌<◌}
-use mathlib.Core.Path.{◌≡◌, refl, sym, ap, ap₂, ◌∙◌, subst}
-use mathlib.Core.Bool.{Bool, true, false, true≢false, cond}
-use mathlib.Core.List.{List, [], ◌∷◌, ◌++◌}
+use mathlib.Core.Path.{◌≡◌, refl, sym, ap₂, ◌∙◌, subst}
+use mathlib.Core.Bool.{true, false, true≢false}
+use mathlib.Core.List.{List, [], ◌++◌}
 use native.Mathlib.Omega.{arith}
-use lib.Dec.{T, lit<}
-use lib.ListN.{get_or, length}
+use lib.Dec.{T}
+use lib.ListN.{get_or}
 use lib.Seq.{ext_get_or}
 use Rattle.bits.proofs.Test.{by-test, is_true}
 use Rattle.file.specs.declared.chip.Chip.{Chip}
-use Rattle.file.specs.declared.palette.Colour.{Colour}
 use Rattle.file.specs.declared.registers.File.{File}
 use Rattle.file.specs.File.{register, with_registers, with_pointer, with_toggle, with_palette, with_bank, with_line, black}
 use Rattle.file.specs.Names.{MISC, PCI04, CR11, CR1A, B0}
 use Rattle.file.specs.Registers.{register_count, stored_table}
 use Rattle.file.specs.Sound.{all_within, sound}
 use Rattle.file.proofs.Soundness.{registers-sound, marks-sound, pointer-sound, sound-count}
-use Rattle.access.specs.declared.record.Record.{Record}
 use Rattle.roads.specs.Roads.{Road, index_roads, closing_roads, register_roads}
 use Rattle.roads.specs.RoadRecords.{along}
 use Rattle.roads.specs.Plan.{open_spaces, open_lock, open_palette, open_bank, open_sync, opening, marking, indices, closing}
 use Rattle.roads.specs.Restores.{RunsInto, Restores, IsFile}
-use Rattle.roads.specs.RegisterStage.{with_register, Ready, every_road, passable, after_selecting, after_roads, brought, Brings}
+use Rattle.roads.specs.RegisterStage.{with_register, Ready, passable, after_selecting, after_roads, brought, Brings}
 use Rattle.roads.specs.ColourStage.{PaletteOpen, with_step}
 use Rattle.roads.specs.StageEnds.{with_spaces_on, with_lock_off, with_misc, with_palette_chosen, opened, coloured, marked, indexed, closed}
 use Rattle.roads.proofs.RunsCompose.{runs_none, runs_then}
@@ -35,7 +33,7 @@ use Rattle.roads.proofs.PlanServes.{last_roads, same_by}
 use Rattle.roads.proofs.AcceptedFits.{run_fits}
 use Rattle.touched.specs.declared.set.Touched.{Touched}
 use Rattle.touched.specs.Things.{IsSet, is_empty, a_register, in_palette, in_bank, the_pointer, the_marks, the_toggle, names}
-use Rattle.touched.specs.Outside.{agrees_outside, SameElsewhere}
+use Rattle.touched.specs.Outside.{SameElsewhere}
 use Rattle.touched.proofs.Elsewhere.{agrees-elsewhere, itself-agrees}
 use Rattle.touched.proofs.Empty.{empty-names}
 use Rattle.short_roads.specs.ShortPlan.{short_colours, named_roads, stage_records, short_records}

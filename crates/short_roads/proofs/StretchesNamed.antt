@@ -1,26 +1,23 @@
 -- The stretches of the entries that a set names: they lie within the palette or the bank, leave what is named as wanted and all else as before, and
 -- take at most 4 records for each entry and no more than one stretch of all entries does. Assumes nothing.
 use Prim.Native.Nat.{ℕ, zero, suc, ◌+◌, ◌*◌, ◌%◌, ◌≤◌, ◌<◌}
-use mathlib.Core.Path.{◌≡◌, refl, sym, ap, ap₂, ◌∙◌, subst}
+use mathlib.Core.Path.{◌≡◌, refl, sym, ap, ◌∙◌, subst}
 use mathlib.Core.Bool.{Bool, true, false, true≢false, cond, ◌&&◌}
-use mathlib.Core.List.{List, [], ◌∷◌, ◌++◌}
+use mathlib.Core.List.{List, [], ◌∷◌}
 use native.Mathlib.Omega.{arith}
 use borrow.Author.Tests.{eqb-true}
 use lib.Dec.{T, eqb, leb, ltb, leb→le, le→leb, lt→ltb, eqb_refl}
 use lib.ListN.{get_or, set, length, length-set, length-append}
-use lib.Seq.{sets, ext_get_or, get_or-set_same, get_or-set_other}
+use lib.Seq.{ext_get_or, get_or-set_same, get_or-set_other}
 use Rattle.bits.proofs.Test.{left, right, both, by-test, is_true}
 use Rattle.file.specs.declared.palette.Colour.{Colour}
-use Rattle.file.specs.declared.palette.Pointer.{Pointer}
 use Rattle.file.specs.declared.registers.File.{File}
 use Rattle.file.specs.File.{with_palette, with_bank, with_state, black}
 use Rattle.file.specs.Palette.{addressed}
 use Rattle.file.specs.State.{stepping}
-use Rattle.access.specs.declared.record.Record.{Record}
-use Rattle.roads.specs.Plan.{pixel, pixels, entries}
+use Rattle.roads.specs.Plan.{entries}
 use Rattle.roads.specs.Restores.{bytes}
-use Rattle.roads.specs.ColourStage.{Stretch, entry_count, in_range, every_stretch, entries_in, with_entries, painted, with_step, write_blue, marks_after, after_stretch, after_stretches, entries_after, stretch_records}
-use Rattle.roads.proofs.ColourStageRuns.{stretches-leave}
+use Rattle.roads.specs.ColourStage.{Stretch, entry_count, in_range, every_stretch, painted, with_step, write_blue, marks_after, after_stretch, after_stretches, entries_after, stretch_records}
 use Rattle.roads.proofs.PlanCount.{pixels-count}
 use Rattle.touched.specs.Things.{one, many}
 use Rattle.short_roads.specs.ShortPlan.{before, stretches_from}

@@ -34,6 +34,7 @@ some_pair test (p ∷ ps) = test p || some_pair test ps
 
 pub at_pair : (test : Pair → Bool) (ps : List Pair) (p : Pair) → T (every_pair test ps) → Memᴰ p ps → T (test p)
 unfolding every_pair
+at_pair test [] p t x = elim x [ ]
 at_pair test (q ∷ ps) p t (Memᴰ.head e) = subst (λ (x : Pair). T (test x)) (sym e) (left (test q) (every_pair test ps) t)
 at_pair test (q ∷ ps) p t (Memᴰ.tail m) = at_pair test ps p (right (test q) (every_pair test ps) t) m
 

@@ -1,6 +1,5 @@
 -- `edge::less_preset` meets its contract. Assumes nothing.
 use native.Mathlib.Omega.{arith}
-use borrow.Author.Rules.{rules}
 use mir.Syntax.{w16}
 use mir.ValLaws.{to_z-of_z}
 use Rattle.geometry.proofs.Signed.{difference, difference-fits}

@@ -1,6 +1,5 @@
 -- `magnitude` meets its contract. Assumes nothing.
 use mathlib.Core.Path.{◌≡◌}
-use borrow.Author.Rules.{rules}
 use mir.Syntax.{w16, w32}
 use mir.Val.{of_z, to_z}
 use mir.ValLaws.{to_z-of_z}

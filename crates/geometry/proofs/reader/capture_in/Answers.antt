@@ -1,5 +1,4 @@
 -- `reader::capture_in` meets its contract. Assumes nothing.
-use borrow.Author.Rules.{rules}
 use Rattle.file.specs.File.{register}
 use Rattle.geometry.specs.Geometry.{capture_in}
 use Rattle.geometry.proofs.reader.capture_in.Goals as goal

@@ -1,7 +1,6 @@
 -- `reader::cursor_in` meets its contract: E0 and E2 hold 12 bits in a sound file. Assumes nothing.
 use native.Mathlib.Nat.{div-one}
 use native.Mathlib.Omega.{arith}
-use borrow.Author.Rules.{rules}
 use mir.Syntax.{w16}
 use mir.ValLaws.{to_z-of_z}
 use Rattle.bits.specs.Store.{bit, bits}
@@ -26,5 +25,5 @@ unfolding cursor_in register mark bit bits
 returns c =
     let left = c.less_preset in
     let top = c.less_preset-2 in
-    rw (to_z-of_z w16 left.result (record { sfits = left.type-inv }), to_z-of_z w16 top.result (record { sfits = top.type-inv }), left.ensures, top.ensures, c.shown.ensures, c.shown-2.ensures)
+    rw (to_z-of_z w16 left.result (record { sfits = left.type_inv }), to_z-of_z w16 top.result (record { sfits = top.type_inv }), left.ensures, top.ensures, c.shown.ensures, c.shown-2.ensures)
     (simp div-one)

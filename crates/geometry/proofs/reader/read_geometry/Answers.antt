@@ -1,7 +1,6 @@
 -- `reader::read_geometry` meets its contract. Assumes nothing.
 use mathlib.Core.Bool.{true}
 use mathlib.Core.Path.{◌≡◌, refl, ap, sym, ◌∙◌}
-use borrow.Author.Rules.{rules}
 use Rattle.bits.proofs.Test.{passes}
 use Rattle.file.specs.Sound.{sound}
 use Rattle.timing.specs.declared.Read.{Read}

@@ -1,5 +1,4 @@
 -- `reader::vertical_start` meets its contract. Assumes nothing.
-use borrow.Author.Rules.{rules}
 use Rattle.geometry.specs.Geometry.{vertical_start}
 use Rattle.geometry.proofs.reader.vertical_start.Goals as goal
 

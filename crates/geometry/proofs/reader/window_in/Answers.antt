@@ -1,6 +1,5 @@
 -- `reader::window_in` meets its contract. Assumes nothing.
 use native.Mathlib.Nat.{div-one}
-use borrow.Author.Rules.{rules}
 use Rattle.bits.specs.Store.{bit, bits}
 use Rattle.file.specs.File.{register}
 use Rattle.geometry.specs.Geometry.{bottom, mark, window_in}

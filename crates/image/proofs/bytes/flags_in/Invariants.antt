@@ -1,6 +1,5 @@
 -- `flags_in` meets its contract. Assumes nothing.
 use Prim.Native.Nat.{◌-◌, ◌≤◌}
-use borrow.Author.Rules.{rules}
 use lib.ListN.{length, drop}
 use Rattle.image.specs.Bytes.{flags_in}
 use Rattle.image.proofs.Filling.{Filling}

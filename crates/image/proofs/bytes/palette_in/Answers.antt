@@ -1,8 +1,6 @@
-use Prim.Native.Nat.{◌-◌}
 use mathlib.Core.Path.{ap, ◌∙◌}
 use native.Mathlib.Omega.{arith}
-use borrow.Author.Rules.{rules}
-use lib.ListN.{length, drop, drop_of_length-le}
+use lib.ListN.{drop_of_length-le}
 use Rattle.image.specs.Bytes.{colours_in}
 use Rattle.image.proofs.Filling.{begun, one, done, colours-read, colours-in-count, all-stored}
 use Rattle.image.proofs.bytes.palette_in.Goals as goal

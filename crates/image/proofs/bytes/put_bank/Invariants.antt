@@ -1,7 +1,6 @@
 -- `put_bank` meets its contract. Assumes nothing.
 use Prim.Native.Nat.{◌+◌, ◌*◌, ◌-◌, ◌≤◌}
 use mathlib.Core.Path.{◌≡◌}
-use borrow.Author.Rules.{rules}
 use lib.ListN.{drop}
 use Rattle.image.specs.Bytes.{colour_bytes}
 use Rattle.image.proofs.Filling.{Filling}

@@ -1,7 +1,6 @@
 -- `put_bytes` meets its contract. Assumes nothing.
 use Prim.Native.Nat.{◌+◌, ◌-◌, ◌≤◌}
 use mathlib.Core.Path.{◌≡◌}
-use borrow.Author.Rules.{rules}
 use lib.ListN.{length, drop}
 use Rattle.image.proofs.Filling.{Filling}
 use Rattle.image.proofs.bytes.put_bytes.Given as goal

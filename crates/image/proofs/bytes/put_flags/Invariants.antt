@@ -1,7 +1,6 @@
 -- `put_flags` meets its contract. Assumes nothing.
 use Prim.Native.Nat.{◌+◌, ◌-◌, ◌≤◌}
 use mathlib.Core.Path.{◌≡◌}
-use borrow.Author.Rules.{rules}
 use lib.ListN.{length, drop}
 use Rattle.image.specs.Bytes.{flag_bytes}
 use Rattle.image.proofs.Filling.{Filling}

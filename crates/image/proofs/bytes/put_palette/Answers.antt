@@ -1,8 +1,6 @@
-use Prim.Native.Nat.{◌-◌}
 use mathlib.Core.Path.{ap}
 use native.Mathlib.Omega.{arith}
-use borrow.Author.Rules.{rules}
-use lib.ListN.{length, drop, length-set, drop_of_length-le}
+use lib.ListN.{length-set, drop_of_length-le}
 use Rattle.image.specs.Bytes.{colour_bytes}
 use Rattle.image.proofs.Filling.{begun, three, done, colours-left}
 use Rattle.image.proofs.bytes.put_palette.Goals as goal

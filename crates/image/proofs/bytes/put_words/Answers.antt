@@ -1,8 +1,6 @@
-use Prim.Native.Nat.{◌-◌}
 use mathlib.Core.Path.{ap}
 use native.Mathlib.Omega.{arith}
-use borrow.Author.Rules.{rules}
-use lib.ListN.{length, drop, length-set, drop_of_length-le}
+use lib.ListN.{length-set, drop_of_length-le}
 use Rattle.image.specs.Bytes.{word_bytes}
 use Rattle.image.proofs.Filling.{begun, two, done, words_left}
 use Rattle.image.proofs.bytes.put_words.Goals as goal

@@ -1,5 +1,4 @@
 -- `chip_in` meets its contract. Assumes nothing.
-use borrow.Author.Rules.{rules}
 use borrow.Author.Tests.{eq-eqb, ne_eqb}
 use Rattle.image.specs.Parts.{chip_in}
 use Rattle.image.proofs.parts.chip_in.Goals as goal

@@ -8,7 +8,6 @@ use lib.Seq.{sets}
 use Rattle.file.proofs.Typed.{palette-count, bank-count}
 use Rattle.image.specs.Bytes.{colour_bytes}
 use Rattle.image.proofs.Filling.{filled-by, colours-count}
-use borrow.Author.Rules.{rules}
 use Rattle.image.specs.Parts.{state_bytes, rest_of}
 use Rattle.image.proofs.parts.rest_of.Goals as goal
 

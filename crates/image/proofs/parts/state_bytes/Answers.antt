@@ -1,5 +1,4 @@
 -- `state_bytes` meets its contract. Assumes nothing.
-use borrow.Author.Rules.{rules}
 use Rattle.image.specs.Parts.{state_bytes}
 use Rattle.image.proofs.parts.state_bytes.Goals as goal
 

@@ -1,7 +1,6 @@
 -- `state_in` meets its contract. Assumes nothing.
 use Prim.Native.Nat.{◌+◌, ◌*◌}
 use mathlib.Core.Path.{ap, ◌∙◌}
-use borrow.Author.Rules.{rules}
 use Rattle.image.specs.Bytes.{is_set}
 use Rattle.image.specs.Parts.{chip_in, state_in}
 use Rattle.image.proofs.parts.state_in.Goals as goal

@@ -1,5 +1,4 @@
 -- `heading` meets its contract. Assumes nothing.
-use borrow.Author.Rules.{rules}
 use Rattle.image.specs.Image.{heading}
 use Rattle.image.proofs.saving.heading.Goals as goal
 

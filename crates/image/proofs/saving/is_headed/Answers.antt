@@ -1,5 +1,4 @@
 -- `is_headed` meets its contract: each return by the tests that led there. Assumes nothing.
-use borrow.Author.Rules.{rules}
 use borrow.Author.Tests.{le-leb, lt-leb, eq-eqb, ne_eqb}
 use Rattle.image.specs.Image.{headed}
 use Rattle.image.proofs.saving.is_headed.Goals as goal

@@ -3,7 +3,6 @@ use mathlib.Core.Path.{sym, ap₂, ◌∙◌}
 use borrow.Author.Tests.{eq-eqb, ne_eqb, not-true, not-false}
 use Rattle.file.specs.declared.answer.Answer.TheVariants.{Done}
 use Rattle.image.specs.Parts.{sound_in}
-use borrow.Author.Rules.{rules}
 use Rattle.image.specs.Image.{image_count, loads, loaded_from}
 use Rattle.image.proofs.saving.load.Goals as goal
 

@@ -5,7 +5,6 @@ use lib.ListN.{length, take, drop, replicate, length-drop}
 use lib.Seq.{length-take-le}
 use Rattle.image.specs.Bytes.{words_in}
 use Rattle.image.proofs.Filling.{all-stored, words-in-count}
-use borrow.Author.Rules.{rules}
 use Rattle.image.specs.Image.{registers_in}
 use Rattle.image.proofs.saving.registers_in.Goals as goal
 

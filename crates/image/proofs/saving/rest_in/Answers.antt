@@ -4,7 +4,6 @@ use native.Mathlib.Omega.{arith}
 use lib.ListN.{take, drop, replicate, length-drop}
 use lib.Seq.{length-take-le}
 use Rattle.image.proofs.Filling.{all-stored}
-use borrow.Author.Rules.{rules}
 use Rattle.image.specs.Image.{rest_in}
 use Rattle.image.proofs.saving.rest_in.Goals as goal
 

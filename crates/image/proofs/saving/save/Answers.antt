@@ -1,7 +1,6 @@
 -- `save` meets its contract. Assumes nothing.
 use mathlib.Core.Path.{sym, ◌∙◌}
 use borrow.Author.Tests.{lt-ltb, le-ltb, not-true, not-false}
-use borrow.Author.Rules.{rules}
 use Rattle.image.specs.Image.{image_count, save_answer, saved_in}
 use Rattle.image.proofs.saving.save.Goals as goal
 

@@ -5,7 +5,6 @@ use lib.ListN.{take, drop, replicate, length-drop}
 use lib.Seq.{length-take-le}
 use borrow.Author.Tests.{not-true, not-false}
 use Rattle.image.proofs.Filling.{all-stored}
-use borrow.Author.Rules.{rules}
 use Rattle.image.specs.Image.{set_kept, set_part}
 use Rattle.image.proofs.saving.set_after.Goals as goal
 

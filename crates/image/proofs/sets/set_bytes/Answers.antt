@@ -7,7 +7,6 @@ use lib.ListN.{length, replicate}
 use lib.Seq.{sets, length-sets}
 use Rattle.image.specs.Bytes.{flag_bytes}
 use Rattle.image.proofs.Filling.{filled-by-four, flags-count}
-use borrow.Author.Rules.{rules}
 use Rattle.touched.proofs.SetIsSet.{is-set}
 use Rattle.image.specs.Parts.{set_bytes}
 use Rattle.image.proofs.sets.set_bytes.Goals as goal

@@ -7,7 +7,6 @@ use Rattle.touched.specs.declared.set.Touched.{Touched}
 use Rattle.image.specs.Bytes.{flags_in}
 use Rattle.image.proofs.Filling.{all-stored, flags-in-count}
 use native.Mathlib.Omega.{arith}
-use borrow.Author.Rules.{rules}
 use lib.Seq.{length-take-le}
 use Rattle.image.specs.Parts.{set_in}
 use Rattle.image.proofs.sets.set_in.Goals as goal

@@ -1,7 +1,6 @@
 -- `access` meets its contract. Assumes nothing.
 use mathlib.Core.Path.{sym, ◌∙◌}
 use Rattle.plain.proofs.AccessByRow.{refused-told, names-file, fits_word, fits_byte, write-told, read_told}
-use borrow.Author.Rules.{rules}
 use Rattle.plain.proofs.accessing.access.Goals as goal
 
 pub word-requires : goal.word-requires

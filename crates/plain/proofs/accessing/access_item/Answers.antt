@@ -2,7 +2,6 @@
 use mathlib.Core.Path.{sym, ◌∙◌}
 use Rattle.access.specs.Access.{access, access_item}
 use Rattle.plain.specs.Told.{access_told, item_told}
-use borrow.Author.Rules.{rules}
 use Rattle.plain.proofs.accessing.access_item.Goals as goal
 
 pub returns-in-Whole : goal.returns-in-Whole

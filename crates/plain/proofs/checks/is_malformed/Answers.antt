@@ -1,7 +1,6 @@
 -- `is_malformed` meets its contract. Assumes nothing.
 use borrow.Author.Tests.{lt-ltb, le-ltb, eq-eqb, ne_eqb}
 use Rattle.access.specs.Checks.{is_passing, malformed}
-use borrow.Author.Rules.{rules}
 use Rattle.plain.proofs.checks.is_malformed.Goals as goal
 
 pub returns-then-asked-gt6 : goal.returns-then-asked-gt6

@@ -9,7 +9,6 @@ use Rattle.bits.proofs.Test.{or-false}
 use Rattle.file.specs.File.{register}
 use Rattle.places.specs.Lookup.{is_one_of}
 use Rattle.access.specs.Checks.{of_other_half, is_port}
-use borrow.Author.Rules.{rules}
 use Rattle.plain.proofs.checks.is_other_half.Goals as goal
 
 -- a number that is not another

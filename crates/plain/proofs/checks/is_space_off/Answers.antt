@@ -5,7 +5,6 @@ use Rattle.bits.proofs.Test.{or-false}
 use Rattle.bits.specs.Store.{bit}
 use Rattle.file.specs.File.{register}
 use Rattle.access.specs.Checks.{space_off, is_port, is_mmio}
-use borrow.Author.Rules.{rules}
 use Rattle.plain.proofs.checks.is_space_off.Goals as goal
 
 pub returns-in-1 : goal.returns-in-1

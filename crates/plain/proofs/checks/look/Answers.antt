@@ -3,7 +3,6 @@ use mathlib.Core.Path.{sym, ◌∙◌}
 use borrow.Author.Tests.{not-true, not-false}
 use Rattle.access.specs.Checks.{malformed}
 use Rattle.plain.specs.Looked.{looked_over}
-use borrow.Author.Rules.{rules}
 use Rattle.plain.proofs.checks.look.Goals as goal
 
 pub returns-then-not-is_sound : goal.returns-then-not-is_sound

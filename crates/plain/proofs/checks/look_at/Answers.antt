@@ -4,7 +4,6 @@ use borrow.Author.Tests.{eq-eqb, ne_eqb}
 use Rattle.file.specs.declared.answer.Answer.{Answer}
 use Rattle.plain.specs.declared.checks.Looked.TheVariants.{Refused}
 use Rattle.plain.specs.Looked.{looked_at}
-use borrow.Author.Rules.{rules}
 use Rattle.plain.proofs.checks.look_at.Goals as goal
 
 pub returns-in_default : goal.returns-in_default

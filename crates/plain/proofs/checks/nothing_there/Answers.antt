@@ -1,7 +1,6 @@
 -- `nothing_there` meets its contract. Assumes nothing.
 use mathlib.Core.Path.{sym, ◌∙◌}
 use Rattle.plain.specs.Looked.{nothing_there}
-use borrow.Author.Rules.{rules}
 use Rattle.plain.proofs.checks.nothing_there.Goals as goal
 
 pub returns-then-is_held_other_way : goal.returns-then-is_held_other_way

@@ -1,6 +1,5 @@
 -- `is_in_sync` meets its contract. Assumes nothing.
 use Rattle.plain.proofs.VerticalNumbers.{before-start, before-end}
-use borrow.Author.Rules.{rules}
 use Rattle.plain.proofs.lines.is_in_sync.Goals as goal
 
 pub returns-then-line-v_sync_start : goal.returns-then-line-v_sync_start

@@ -1,6 +1,5 @@
 -- `is_past_display` meets its contract. Assumes nothing.
 use Rattle.plain.proofs.VerticalNumbers.{past-there}
-use borrow.Author.Rules.{rules}
 use Rattle.plain.proofs.lines.is_past_display.Goals as goal
 
 pub returns : goal.returns

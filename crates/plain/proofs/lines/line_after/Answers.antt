@@ -3,7 +3,6 @@ use Prim.Native.Nat.{◌+◌, ◌<◌}
 use native.Mathlib.Nat.{mod-lt}
 use native.Mathlib.Omega.{arith}
 use Rattle.access.specs.Access.{line_after}
-use borrow.Author.Rules.{rules}
 use Rattle.plain.proofs.lines.line_after.Goals as goal
 
 pub overflow_cast-result : goal.overflow_cast-result

@@ -1,6 +1,5 @@
 -- `line_shown` meets its contract. Assumes nothing.
 use Rattle.access.specs.Access.{line_shown}
-use borrow.Author.Rules.{rules}
 use Rattle.plain.proofs.lines.line_shown.Goals as goal
 
 pub returns : goal.returns

@@ -1,6 +1,5 @@
 -- `total` meets its contract. Assumes nothing.
 use Rattle.plain.proofs.VerticalNumbers.{total-there}
-use borrow.Author.Rules.{rules}
 use Rattle.plain.proofs.lines.total.Goals as goal
 
 pub returns : goal.returns

@@ -6,7 +6,6 @@ use Rattle.file.specs.Palette.{component}
 use Rattle.file.proofs.Typed.{palette-count, bank-count, address-byte}
 use Rattle.access.specs.Access.{shown_in}
 use Rattle.access.proofs.EntriesNamed.{entry-in-bank, entry-in-palette}
-use borrow.Author.Rules.{rules}
 use Rattle.plain.proofs.reading.component.Goals as goal
 
 pub returns-then-is_in_bank : goal.returns-then-is_in_bank

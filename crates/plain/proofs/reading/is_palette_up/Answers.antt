@@ -4,7 +4,6 @@ use Rattle.bits.specs.Store.{bit}
 use Rattle.bits.proofs.Test.{and-false}
 use Rattle.file.specs.File.{register}
 use Rattle.access.specs.Access.{palette_up}
-use borrow.Author.Rules.{rules}
 use Rattle.plain.proofs.reading.is_palette_up.Goals as goal
 
 pub returns-then-whole-ne0 : goal.returns-then-whole-ne0

@@ -1,11 +1,10 @@
 -- `read_pixel` meets its contract. Assumes nothing.
-use mathlib.Core.Path.{sym, ap, ◌∙◌}
+use mathlib.Core.Path.{sym, ◌∙◌}
 use borrow.Author.Tests.{not-true, not-false}
 use Rattle.file.specs.Answers.{code_of, refused}
 use Rattle.file.specs.Effects.{apply}
 use Rattle.access.specs.Access.{answer_of_read, read_effect}
 use Rattle.plain.specs.Told.{told, told_of_read}
-use borrow.Author.Rules.{rules}
 use Rattle.plain.proofs.reading.read_pixel.Goals as goal
 
 pub returns-then-not-is_palette_up : goal.returns-then-not-is_palette_up

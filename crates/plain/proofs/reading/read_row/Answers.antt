@@ -1,7 +1,7 @@
 -- `read_row` meets its contract. Assumes nothing.
 use Prim.Native.Nat.{ℕ}
-use mathlib.Core.Path.{refl, sym, ap, ◌∙◌}
-use mathlib.Core.Logic.{⊎_elim}
+use mathlib.Core.Path.{◌≡◌, refl, sym, ap, ◌∙◌}
+use mathlib.Core.Bool.{cond}
 use native.Mathlib.Omega.{arith}
 use Rattle.file.specs.declared.answer.Answer.TheVariants.{Done}
 use Rattle.file.specs.Answers.{code_of, refused}
@@ -11,8 +11,8 @@ use Rattle.places.specs.Profile.{profile}
 use Rattle.access.specs.Access.{answer_of_read, read_effect, shown_state}
 use Rattle.access.proofs.PassedChecks.{register-below, attribute-below}
 use Rattle.plain.specs.Told.{told, told_of_read}
-use borrow.Author.Rules.{rules}
 use Rattle.plain.proofs.reading.read_row.Goals as goal
+use Rattle.plain.proofs.reading.read_row.Goals.{then-state, else-state}
 
 pub offset_bounds-whole-number : goal.offset_bounds-whole-number
 offset_bounds-whole-number c = record { fits = omega (arith, register-below _ _ c.in-Register.is c.requires) }
@@ -53,10 +53,9 @@ returns-in-DeviceId c = rw (c.in-DeviceId.is, ← c.device_id.ensures) c.leaving
 pub returns-after-state : goal.returns-after-state
 unfolding profile told_of_read told answer_of_read read_effect refused code_of apply register shown_state
 returns-after-state c =
-    rw c.in-ToggleState.is
-    (c.leaving-in-ToggleState.ensures
-    ∙ ap (λ (n : ℕ). record { answer = Done n; file = c.args.whole })
-    (⊎_elim (λ w. w.1 ∙ sym (rw w.0.taken refl)) (λ w. w.1 ∙ sym (rw w.0.left refl)) c.if-state.branch))
+    let shown : c.if-state.leaving ≡ cond c.args.whole.state.toggle 0x80 0x00 =
+    elim c.if-state.branch [ then-state w ↦ w.leaving-is ∙ sym (rw w.if-state.true refl) | else-state w ↦ w.leaving-is ∙ sym (rw w.if-state.false refl) ] in
+    rw c.in-ToggleState.is (c.leaving-in-ToggleState.ensures ∙ ap (λ (n : ℕ). record { answer = Done n; file = c.args.whole }) shown)
 
 pub returns-in-AttributeIndex : goal.returns-in-AttributeIndex
 unfolding profile told_of_read told answer_of_read read_effect refused code_of apply register shown_state

@@ -1,7 +1,6 @@
 -- `v_port_control` meets its contract. Assumes nothing.
 use Rattle.file.specs.File.{register}
 use Rattle.access.specs.Access.{v_port_state}
-use borrow.Author.Rules.{rules}
 use Rattle.plain.proofs.reading.v_port_control.Goals as goal
 
 pub returns : goal.returns

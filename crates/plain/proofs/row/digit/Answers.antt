@@ -4,7 +4,6 @@ use mathlib.Core.Path.{ap}
 use native.Mathlib.Omega.{arith}
 use borrow.Author.Tests.{lt-ltb, le-ltb}
 use Rattle.plain.specs.Rows.{digit}
-use borrow.Author.Rules.{rules}
 use Rattle.plain.proofs.row.digit.Goals as goal
 
 pub returns-then-byte-lt65 : goal.returns-then-byte-lt65

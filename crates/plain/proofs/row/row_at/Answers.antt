@@ -2,7 +2,6 @@
 use Prim.Native.Nat.{◌*◌}
 use Rattle.plain.specs.Rows.{columns}
 use Rattle.plain.proofs.RowsFrom.{row-there}
-use borrow.Author.Rules.{rules}
 use Rattle.plain.proofs.row.row_at.Goals as goal
 
 pub returns : goal.returns

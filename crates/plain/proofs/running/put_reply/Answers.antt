@@ -1,12 +1,10 @@
 -- `put_reply` meets its contract: eight stores, one after the other. Assumes nothing.
-use mathlib.Core.Path.{ap}
 use native.Mathlib.Numerals.{towards_suc}
 use native.Mathlib.Omega.{arith}
 use lib.ListN.{length-set}
 use lib.Seq.{sets-eq}
 use Rattle.access.specs.Access.{reply_to}
 use Rattle.trace.specs.Records.{reply_bytes}
-use borrow.Author.Rules.{rules}
 use Rattle.plain.proofs.running.put_reply.Goals as goal
 
 pub bounds-replies-at-2 : goal.bounds-replies-at-2

@@ -1,4 +1,4 @@
-use Prim.Native.Nat.{ℕ, ◌*◌, ◌-◌}
+use Prim.Native.Nat.{ℕ, ◌*◌}
 use mathlib.Core.Path.{◌≡◌, refl, sym, ap, ◌∙◌}
 use mathlib.Core.List.{◌++◌}
 use native.Mathlib.Omega.{arith}
@@ -7,7 +7,6 @@ use lib.ListN.{length, drop}
 use Rattle.trace.specs.Records.{item_count, items}
 use Rattle.trace.specs.Run.{run, ran, run_count, file_after, replies}
 use Rattle.plain.proofs.RunByItems.{buffer-long, held-step, has-record, has-place}
-use borrow.Author.Rules.{rules}
 use Rattle.plain.proofs.running.run.Goals as goal
 
 pub is_sound-requires : goal.is_sound-requires
@@ -15,10 +14,7 @@ is_sound-requires c = tt
 
 pub returns-then-not-is_sound : goal.returns-then-not-is_sound
 unfolding run
-returns-then-not-is_sound c = record {
-  answer_value = (rw (sym c.is_sound.ensures ∙ not-true _ c.if-not-is_sound.true-raw) ((refl, refl, refl), refl)).0;
-  replies_after = (rw (sym c.is_sound.ensures ∙ not-true _ c.if-not-is_sound.true-raw) ((refl, refl, refl), refl)).1;
-}
+returns-then-not-is_sound c = rw (sym c.is_sound.ensures ∙ not-true _ c.if-not-is_sound.true-raw) (record { answer_value = (refl, refl, refl); replies_after = refl })
 
 pub loop-n-init : goal.loop-n-init
 unfolding file_after items replies
@@ -52,21 +48,13 @@ shape_of-replies c = buffer-long _ _ _ c.loop-n.invariant (omega (arith, c.loop-
 
 pub returns : goal.returns
 unfolding run ran run_count item_count
-returns c = record {
-  answer_value = (let inv = c.loop-n.invariant in
-      let all : c.loop-n.n ≡ c.reply_count-count.result = omega (arith, c.loop-n-test.false, inv.reached) in
-      let count = c.reply_count-count.ensures in
-      rw (sym c.is_sound.ensures ∙ not-false _ c.if-not-is_sound.false-raw) (
-        (refl, inv.file ∙ ap (λ (k : ℕ). file_after c.args.whole (items k c.args.trace.now)) (all ∙ count), count),
-        inv.said
-            ∙ ap (λ (k : ℕ). replies c.args.whole (items k c.args.trace.now) ++ drop (8 * k) c.args.replies.now) (all ∙ count),
-      )).0;
-  replies_after = (let inv = c.loop-n.invariant in
-      let all : c.loop-n.n ≡ c.reply_count-count.result = omega (arith, c.loop-n-test.false, inv.reached) in
-      let count = c.reply_count-count.ensures in
-      rw (sym c.is_sound.ensures ∙ not-false _ c.if-not-is_sound.false-raw) (
-        (refl, inv.file ∙ ap (λ (k : ℕ). file_after c.args.whole (items k c.args.trace.now)) (all ∙ count), count),
-        inv.said
-            ∙ ap (λ (k : ℕ). replies c.args.whole (items k c.args.trace.now) ++ drop (8 * k) c.args.replies.now) (all ∙ count),
-      )).1;
-}
+returns c =
+    let inv = c.loop-n.invariant in
+    let all : c.loop-n.n ≡ c.reply_count-count.result = omega (arith, c.loop-n-test.false, inv.reached) in
+    let count = c.reply_count-count.ensures in
+    rw (sym c.is_sound.ensures ∙ not-false _ c.if-not-is_sound.false-raw) (record {
+      answer_value = (refl, inv.file ∙ ap (λ (k : ℕ). file_after c.args.whole (items k c.args.trace.now)) (all ∙ count), count);
+      replies_after =
+          inv.said
+          ∙ ap (λ (k : ℕ). replies c.args.whole (items k c.args.trace.now) ++ drop (8 * k) c.args.replies.now) (all ∙ count);
+    })

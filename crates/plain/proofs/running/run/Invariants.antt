@@ -1,8 +1,6 @@
 -- `run` meets its contract: the loop keeps `Held`. Assumes nothing.
 use Prim.Native.Nat.{◌-◌}
-use Rattle.trace.specs.Run.{replies}
 use Rattle.plain.proofs.RunByItems.{Held}
-use borrow.Author.Rules.{rules}
 use Rattle.plain.proofs.running.run.Given as goal
 
 abbrev pub invariant-loop-n : goal.invariant-loop-n

@@ -5,13 +5,12 @@ use mathlib.Core.List.{List, ◌++◌}
 use lib.ListN.{take, drop}
 use Rattle.access.specs.declared.record.Record.{Record}
 use Rattle.file.specs.declared.answer.Answer.{Answer}
-use Rattle.access.specs.Access.{access_item, reply_to}
+use Rattle.access.specs.Access.{reply_to}
 use Rattle.trace.specs.Records.{record_of, item_of, reply_bytes}
 use Rattle.trace.proofs.RecordBytes.{part_left}
 use Rattle.plain.specs.declared.told.Told.{Told}
 use Rattle.plain.specs.Told.{item_told}
 use Rattle.plain.proofs.RunByItems.{record-in}
-use borrow.Author.Rules.{rules}
 use Rattle.plain.proofs.running.run_one.Goals as goal
 
 pub returns : goal.returns

@@ -1,13 +1,13 @@
-use Prim.Native.Nat.{ℕ, ◌-◌}
+use Prim.Native.Nat.{ℕ}
+use mathlib.Core.Bool.{false}
 use mathlib.Core.Path.{◌≡◌, refl, sym, ap, ◌∙◌}
 use native.Mathlib.Omega.{arith}
 use Rattle.bits.proofs.Test.{and-false}
-use Rattle.trace.proofs.RunLoop.{came-by}
 use Rattle.plain.specs.Rows.{row_count, rows_of}
 use Rattle.plain.specs.Walk.{fits, found}
 use Rattle.plain.proofs.RowsFrom.{RowsFrom, found_here, found-on}
-use borrow.Author.Rules.{rules}
 use Rattle.plain.proofs.walk.find.Goals as goal
+use Rattle.plain.proofs.walk.find.Goals.{then-is_at+else-is_selected, else-is_at}
 
 pub loop-n-init : goal.loop-n-init
 unfolding rows_of
@@ -35,14 +35,15 @@ loop-n-smaller c = omega (arith, c.loop-n-test.true)
 pub loop-n-preserved : goal.loop-n-preserved
 unfolding fits
 loop-n-preserved c =
-    let inv = c.loop-n.invariant in (
+    let inv = c.loop-n.invariant in
+    let unfit : fits c.args.whole c.args.asked.kind c.args.asked.address c.row_at-row.result ≡ false = elim c.if-is_at.branch [
+      | then-is_at+else-is_selected w ↦ rw (sym w.is_selected.ensures ∙ w.if-is_selected.false, and-false) refl
+      | else-is_at w ↦ rw (sym c.is_at.ensures ∙ w.if-is_at.false) refl
+    ] in (
       omega (arith, c.loop-n-test.true),
       inv.1
           ∙ found-on c.args.list.now (fits c.args.whole c.args.asked.kind c.args.asked.address) c.loop-n.n
-          c.row_at-row.result c.row_at-row.ensures (omega (arith, c.loop-n-test.true))
-          (came-by c.if-is_at.branch
-          (λ x. rw (sym x.1.ensures ∙ x.2.left, and-false) refl)
-          (λ x. rw (sym c.is_at.ensures ∙ x.left) refl)),
+          c.row_at-row.result c.row_at-row.ensures (omega (arith, c.loop-n-test.true)) unfit,
     )
 
 pub returns : goal.returns

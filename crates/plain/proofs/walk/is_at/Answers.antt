@@ -3,7 +3,6 @@ use mathlib.Core.Path.{◌∙◌}
 use borrow.Author.Tests.{eq-eqb, ne_eqb}
 use Rattle.bits.proofs.Test.{and-false}
 use Rattle.plain.specs.Walk.{is_at}
-use borrow.Author.Rules.{rules}
 use Rattle.plain.proofs.walk.is_at.Goals as goal
 
 pub returns-then-address-row : goal.returns-then-address-row

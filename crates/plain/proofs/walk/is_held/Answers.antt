@@ -1,7 +1,6 @@
 -- `is_held` meets its contract. Assumes nothing.
 use mathlib.Core.Path.{sym, ◌∙◌}
 use Rattle.plain.specs.Walk.{holds}
-use borrow.Author.Rules.{rules}
 use Rattle.plain.proofs.walk.is_held.Goals as goal
 
 pub returns-then-is_at : goal.returns-then-is_at

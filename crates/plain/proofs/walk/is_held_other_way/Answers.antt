@@ -1,11 +1,10 @@
-use Prim.Native.Nat.{ℕ, ◌-◌}
+use Prim.Native.Nat.{ℕ}
 use mathlib.Core.Path.{◌≡◌, refl, sym, ap, ◌∙◌}
 use native.Mathlib.Omega.{arith}
 use Rattle.places.specs.Lookup.{other_way}
 use Rattle.plain.specs.Rows.{row_count, rows_of}
 use Rattle.plain.specs.Walk.{holds, some_of}
 use Rattle.plain.proofs.RowsFrom.{RowsFrom, some-here, some-on}
-use borrow.Author.Rules.{rules}
 use Rattle.plain.proofs.walk.is_held_other_way.Goals as goal
 
 pub loop-n-init : goal.loop-n-init

@@ -5,7 +5,6 @@ use Rattle.places.specs.Lookup.{other_way}
 use Rattle.plain.specs.Rows.{row_count, rows_of}
 use Rattle.plain.specs.Walk.{holds, some_of}
 use Rattle.plain.proofs.RowsFrom.{RowsFrom}
-use borrow.Author.Rules.{rules}
 use Rattle.plain.proofs.walk.is_held_other_way.Given as goal
 
 abbrev pub invariant-loop-n : goal.invariant-loop-n

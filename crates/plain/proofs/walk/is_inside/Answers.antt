@@ -3,7 +3,6 @@ use mathlib.Core.Path.{sym, ◌∙◌}
 use borrow.Author.Tests.{lt-ltb, le-ltb, ne_eqb}
 use Rattle.bits.proofs.Test.{and-false}
 use Rattle.plain.specs.Walk.{inside}
-use borrow.Author.Rules.{rules}
 use Rattle.plain.proofs.walk.is_inside.Goals as goal
 
 pub returns-then-row-lt2 : goal.returns-then-row-lt2

@@ -1,10 +1,9 @@
-use Prim.Native.Nat.{ℕ, ◌-◌}
+use Prim.Native.Nat.{ℕ}
 use mathlib.Core.Path.{◌≡◌, refl, sym, ap, ◌∙◌}
 use native.Mathlib.Omega.{arith}
 use Rattle.plain.specs.Rows.{row_count, rows_of}
 use Rattle.plain.specs.Walk.{inside, some_of}
 use Rattle.plain.proofs.RowsFrom.{RowsFrom, some-here, some-on}
-use borrow.Author.Rules.{rules}
 use Rattle.plain.proofs.walk.is_inside_wider.Goals as goal
 
 pub loop-n-init : goal.loop-n-init

@@ -4,7 +4,6 @@ use mathlib.Core.Path.{◌≡◌}
 use Rattle.plain.specs.Rows.{row_count, rows_of}
 use Rattle.plain.specs.Walk.{inside, some_of}
 use Rattle.plain.proofs.RowsFrom.{RowsFrom}
-use borrow.Author.Rules.{rules}
 use Rattle.plain.proofs.walk.is_inside_wider.Given as goal
 
 abbrev pub invariant-loop-n : goal.invariant-loop-n

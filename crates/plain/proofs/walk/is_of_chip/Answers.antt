@@ -4,7 +4,6 @@ use lib.Dec.{eqb}
 use borrow.Author.Tests.{ne_eqb}
 use Rattle.bits.proofs.Test.{by-test}
 use Rattle.plain.specs.Rows.{of_chip}
-use borrow.Author.Rules.{rules}
 use Rattle.plain.proofs.walk.is_of_chip.Goals as goal
 
 pub returns-then-row-ne53 : goal.returns-then-row-ne53

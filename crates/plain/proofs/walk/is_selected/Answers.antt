@@ -9,7 +9,6 @@ use Rattle.file.specs.File.{register}
 use Rattle.places.specs.Lookup.{attribute_index, selects}
 use Rattle.plain.specs.Rows.{of_chip, index_of}
 use Rattle.plain.specs.Walk.{selected}
-use borrow.Author.Rules.{rules}
 use Rattle.plain.proofs.walk.is_selected.Goals as goal
 
 -- 'ARX[4:0]'

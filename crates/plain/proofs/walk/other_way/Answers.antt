@@ -1,7 +1,6 @@
 -- `other_way` meets its contract. Assumes nothing.
 use borrow.Author.Tests.{ne_eqb}
 use Rattle.places.specs.Lookup.{other_way}
-use borrow.Author.Rules.{rules}
 use Rattle.plain.proofs.walk.other_way.Goals as goal
 
 pub returns-then-kind-eq0 : goal.returns-then-kind-eq0

@@ -3,7 +3,6 @@ use Rattle.file.specs.Answers.{code_of, refused}
 use Rattle.file.specs.Effects.{apply}
 use Rattle.access.specs.Access.{write_answer, write_effect}
 use Rattle.plain.specs.Told.{told, write_told}
-use borrow.Author.Rules.{rules}
 use Rattle.plain.proofs.writing.pass_lines.Goals as goal
 
 pub returns : goal.returns

@@ -4,7 +4,6 @@ use borrow.Author.Tests.{eq-eqb, ne_eqb}
 use Rattle.access.specs.Access.{locked_reach}
 use Rattle.bits.proofs.Test.{and-false}
 use Rattle.plain.specs.Told.{row_reach}
-use borrow.Author.Rules.{rules}
 use Rattle.plain.proofs.writing.reach.Goals as goal
 
 pub returns-then-is_locked : goal.returns-then-is_locked

@@ -3,7 +3,6 @@ use mathlib.Core.Path.{refl, sym, ◌∙◌}
 use Rattle.file.specs.Effects.{paint_in}
 use Rattle.file.specs.File.{with_palette, with_bank}
 use Rattle.access.specs.Access.{entry_number}
-use borrow.Author.Rules.{rules}
 use Rattle.plain.proofs.writing.store_entry.Goals as goal
 
 pub returns-then-is_in_bank : goal.returns-then-is_in_bank

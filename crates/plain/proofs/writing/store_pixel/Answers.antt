@@ -3,7 +3,6 @@ use mathlib.Core.Path.{sym, ◌∙◌}
 use Rattle.file.specs.Effects.{apply}
 use Rattle.access.specs.Access.{pixel_write}
 use Rattle.plain.specs.Told.{pixel_written}
-use borrow.Author.Rules.{rules}
 use Rattle.plain.proofs.writing.store_pixel.Goals as goal
 
 pub returns-then-stores : goal.returns-then-stores

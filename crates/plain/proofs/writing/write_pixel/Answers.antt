@@ -5,7 +5,6 @@ use Rattle.file.specs.Answers.{code_of, refused}
 use Rattle.file.specs.Effects.{apply}
 use Rattle.access.specs.Access.{write_answer, write_effect}
 use Rattle.plain.specs.Told.{told, write_told, pixel_written}
-use borrow.Author.Rules.{rules}
 use Rattle.plain.proofs.writing.write_pixel.Goals as goal
 
 pub returns-then-not-is_palette_up : goal.returns-then-not-is_palette_up

@@ -5,7 +5,6 @@ use Rattle.file.specs.Effects.{apply, store_in}
 use Rattle.file.specs.File.{register, with_registers}
 use Rattle.access.specs.Access.{write_answer, write_effect}
 use Rattle.plain.specs.Told.{told, write_told}
-use borrow.Author.Rules.{rules}
 use Rattle.plain.proofs.writing.write_register.Goals as goal
 
 pub returns-then-is_locked_out : goal.returns-then-is_locked_out

@@ -9,7 +9,6 @@ use Rattle.places.specs.Profile.{profile}
 use Rattle.access.specs.Access.{write_answer, write_effect}
 use Rattle.access.proofs.PassedChecks.{register-below, attribute-below}
 use Rattle.plain.specs.Told.{told, write_told}
-use borrow.Author.Rules.{rules}
 use Rattle.plain.proofs.writing.write_row.Goals as goal
 
 pub write_register-requires : goal.write_register-requires

@@ -1,0 +1,12 @@
+-- `put_pixel` meets its contract. Assumes nothing.
+use Rattle.roads.specs.Plan.{pixel}
+use Rattle.plan.proofs.Appending.{append-then}
+use Rattle.plan.proofs.stages.put_pixel.Goals as goal
+
+pub returns : goal.returns
+unfolding pixel
+returns c =
+    append-then
+    (append-then (rw c.wide_byte.ensures at c.mmio_write-at.ensures)
+    (rw c.wide_byte-2.ensures at c.mmio_write-at-2.ensures))
+    (rw c.wide_byte-3.ensures at c.mmio_write.ensures)
