@@ -79,6 +79,8 @@ class Names:
         if head in ("args", "requires", "ranges", "lifetimes", "well-formed", "well_formed", "type_inv"):
             if head == "args" and rest and re.match(r"t\d+$", rest[0]) and int(rest[0][1:]) <= len(self.own[0]):
                 rest[0] = self.own[0][int(rest[0][1:]) - 1]
+            if head in ("args", "ranges") and rest:
+                rest[0] = rest[0].replace("-", "_")
             if head == "requires":
                 rest = clause(self.own[1], rest)
             return ".".join(["c", head.replace("-", "_"), *rest]), place
@@ -289,6 +291,9 @@ def turn_paths(text, names, place):
     for found in re.finditer(r"let (" + WORD + r")(?: : [^=]*)? = c(?:\.before)*\.args in", text):
         text = re.sub(r"(?<![\w'.-])" + re.escape(found.group(1)) + r"\.t(\d+)(?![\w'-])",
                       lambda m: f"{found.group(1)}.{names.own[0][int(m.group(1)) - 1]}" if int(m.group(1)) <= len(names.own[0]) else m.group(0), text)
+
+    for found in re.finditer(r"let (" + WORD + r")(?: : [^=]*)? = c(?:\.before)*\.args in", text):
+        text = re.sub(r"(?<![\w'.-])" + re.escape(found.group(1)) + r"\.([\w-]+)", lambda m: f"{found.group(1)}.{m.group(1).replace('-', '_')}", text)
 
     # `let put = c.before.step in` names a step: its fields turn too
     for found in list(re.finditer(r"let (" + WORD + r")(?: : [^=]*)? = c((?:\.[\w'₀-₉-]+)+)\s+in(?=\s)", text)):
