@@ -266,7 +266,7 @@ def as_record(body, names):
     if parts is None:
         # what is no tuple is cut into its parts
         whole = body.strip()
-        parts = [f"({whole}).{at}" for at in range(len(names))]
+        parts = [f"({whole})" + ".1" * at + (".0" if at < len(names) - 1 else "") for at in range(len(names))]
         head = ""
     while len(parts) < len(names) and parts_of(parts[-1]):
         parts = parts[:-1] + parts_of(parts[-1])
