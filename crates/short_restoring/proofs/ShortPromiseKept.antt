@@ -1,9 +1,8 @@
 -- What the restores with the set promise, from what the code did. Assumes nothing.
 use Prim.Native.Nat.{ℕ, ◌≤◌, ◌<◌}
 use mathlib.Core.Path.{◌≡◌, refl, sym, ap, ◌∙◌, subst}
-use mathlib.Core.Bool.{true, false, true≢false, cond}
+use mathlib.Core.Bool.{true, false, true≢false}
 use mathlib.Core.List.{List}
-use native.Mathlib.Omega.{arith}
 use borrow.Author.Tests.{le-leb, lt-leb}
 use lib.Dec.{leb}
 use lib.ListN.{length}
@@ -28,8 +27,6 @@ use Rattle.plan.specs.declared.short_planning.ShortPlanned.{ShortPlanned}
 use Rattle.plan.specs.ShortAnswers.{number_of, without_room, is_refused, short_answer}
 use Rattle.plan.specs.ShortPromises.{ShortKept}
 use Rattle.plan.proofs.ShortPromisesKept.{refused-by, Planable, planable}
-use Rattle.short_restoring.specs.declared.kept.RestoreNoted.{RestoreNoted}
-use Rattle.short_restoring.specs.declared.kept.ShortRestored.{ShortRestored}
 use Rattle.short_restoring.specs.Promises.{ShortRestoreKept, RestoreNotedKept}
 use Rattle.short_restoring.proofs.ShortRunEnds.{short-ends, short-line}
 

@@ -1,7 +1,6 @@
 -- `after_at` meets its contract. Assumes nothing.
 use native.Mathlib.Omega.{arith}
 use Rattle.reader.proofs.Positions.{after_is}
-use borrow.Author.Rules.{rules}
 use Rattle.reader.proofs.reader.after_at.Goals as goal
 
 pub returns-then-n-at : goal.returns-then-n-at

@@ -3,7 +3,6 @@ use mathlib.Core.Path.{ap}
 use native.Mathlib.Omega.{arith}
 use lib.ListN.{length, length-drop}
 use Rattle.reader.proofs.Positions.{many-after}
-use borrow.Author.Rules.{rules}
 use Rattle.reader.proofs.reader.after_many.Goals as goal
 
 pub overflow_add-result : goal.overflow_add-result

@@ -1,7 +1,6 @@
 -- `left_at` meets its contract. Assumes nothing.
 use Rattle.trace.proofs.RecordBytes.{part_left}
 use Rattle.reader.proofs.Positions.{nothing_left}
-use borrow.Author.Rules.{rules}
 use Rattle.reader.proofs.reader.left_at.Goals as goal
 
 pub returns-then-at-n : goal.returns-then-at-n

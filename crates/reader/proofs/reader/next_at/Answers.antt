@@ -1,6 +1,5 @@
 -- `next_at` meets its contract. Assumes nothing.
 use Rattle.reader.proofs.Positions.{next-read, end_read}
-use borrow.Author.Rules.{rules}
 use Rattle.reader.proofs.reader.next_at.Goals as goal
 
 pub returns-then-at-trace : goal.returns-then-at-trace
