@@ -1,19 +1,15 @@
 -- The engine's way through the checks, by 01's table of cells, is 01's order, for a sound file. Assumes nothing.
 use Prim.Native.Nat.{ℕ, ◌<◌}
 use mathlib.Core.Path.{◌≡◌, refl, sym, ap, ◌∙◌}
-use mathlib.Core.Bool.{Bool, true, false, cond, true≢false, not, ◌&&◌, ◌||◌}
-use mathlib.Core.List.{List, [], ◌∷◌}
+use mathlib.Core.Bool.{Bool, true, false, cond, true≢false, not, ◌&&◌}
 use mathlib.Core.Option.{Option, none, some}
 use lib.Dec.{T, eqb}
-use Rattle.bits.specs.Store.{bit}
 use Rattle.bits.proofs.Test.{by-test, is_true, and-false}
 use Rattle.file.specs.declared.answer.Answer.{Answer}
 use Rattle.file.specs.declared.answer.Answer.TheVariants.{NotHeld, OtherDirection, InsideWider}
 use Rattle.file.specs.declared.registers.File.{File}
-use Rattle.file.specs.File.{register}
-use Rattle.file.specs.Names.{MISC}
 use Rattle.file.specs.Sound.{sound}
-use Rattle.places.specs.EngineCells.{nothing_held, held_cell, nothing_at, cell_at, is_nothing, cell_width, cell_in, cell_table}
+use Rattle.places.specs.EngineCells.{held_cell, nothing_at, cell_at, is_nothing, cell_width, cell_table}
 use Rattle.places.specs.declared.place.Place.TheVariants.{Passing as PassingPlace}
 use Rattle.places.specs.Lookup.{selects, matches, first, row_at, place_of_row, place_at, other_way, held_in, inside_in}
 use Rattle.places.specs.Places.{any, Row, places}
@@ -25,7 +21,7 @@ use Rattle.access.specs.declared.engine.Looked.{Looked}
 use Rattle.access.specs.declared.engine.Looked.TheVariants.{Refused, At, Lines}
 use Rattle.access.specs.declared.record.Record.{Record}
 use Rattle.access.specs.Access.{place_of}
-use Rattle.access.specs.Checks.{checks, first_refusal, not_sound, malformed, space_off, not_held, no_row, other_direction, inside_wider, is_port, is_mmio, of_other_half, other_width, wrong_width}
+use Rattle.access.specs.Checks.{checks, first_refusal, not_sound, space_off, not_held, no_row, other_direction, inside_wider, is_port, is_mmio, of_other_half, other_width, wrong_width}
 use Rattle.access.specs.Engine.{no_access, lines_pass, other_row, nothing_told, looked_by}
 use Rattle.access.specs.Promises.{turned}
 use Rattle.access.proofs.PassedChecks.{kind-below, Passing, is-passing, malformed-told}

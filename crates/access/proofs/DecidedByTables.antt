@@ -1,9 +1,8 @@
 -- By 01's tables the engine decides as 01 says, for a sound file. Assumes nothing.
-use Prim.Native.Nat.{ℕ, zero, suc, ◌%◌, ◌<◌, ◌^◌}
+use Prim.Native.Nat.{ℕ, zero, suc, ◌<◌, ◌^◌}
 use mathlib.Core.Path.{◌≡◌, refl, sym, ap, ap₂, ◌∙◌, subst}
 use mathlib.Core.Bool.{Bool, true, false, cond, true≢false, not, ◌&&◌}
 use mathlib.Core.List.{List}
-use mathlib.Core.Option.{some}
 use native.Mathlib.Nat.{mod-eq_of_lt}
 use native.Mathlib.Omega.{arith}
 use borrow.Author.Tests.{eqb-true, not-true}
@@ -12,7 +11,6 @@ use Rattle.bits.specs.Store.{bits}
 use Rattle.bits.proofs.Test.{left, either, by-test, is_true, chosen, and-false}
 use Rattle.file.specs.declared.answer.Answer.{Answer}
 use Rattle.file.specs.declared.answer.Answer.TheVariants.{Done, Malformed, SpaceOff, NotHeld, OtherHalf, WrongWidth, OtherDirection, InsideWider}
-use Rattle.file.specs.declared.effect.Effect.{Effect}
 use Rattle.file.specs.declared.effect.Effect.TheVariants.{Nothing}
 use Rattle.file.specs.declared.registers.File.{File}
 use Rattle.file.specs.Answers.{code_of, refused}
@@ -31,7 +29,6 @@ use Rattle.places.proofs.NotHeld.{something-held, cell-held}
 use Rattle.places.proofs.Rows.{Passes, row-passes}
 use Rattle.places.proofs.RulesOfPlaces.{narrow, all-narrow}
 use Rattle.places.proofs.TableOfCells.{cell-true}
-use Rattle.access.specs.declared.engine.Decision.{Decision}
 use Rattle.access.specs.declared.engine.Looked.{Looked}
 use Rattle.access.specs.declared.engine.Looked.TheVariants.{Refused, At, Lines}
 use Rattle.access.specs.declared.record.Record.{Record}

@@ -2,7 +2,7 @@
 -- Assumes nothing.
 use Prim.Native.Nat.{ℕ, ◌≤◌, ◌/◌}
 use mathlib.Core.Path.{◌≡◌, refl, sym, ap, subst, ◌∙◌}
-use mathlib.Core.Bool.{Bool, true, false, not, ◌&&◌, ◌||◌}
+use mathlib.Core.Bool.{false, not, ◌&&◌, ◌||◌}
 use lib.Dec.{T, eqb, leb, le→leb, T_not}
 use borrow.Author.Tests.{not-true}
 use Rattle.bits.proofs.Test.{both, either, is_true, or_left, or_right}
@@ -12,10 +12,10 @@ use Rattle.file.specs.Effects.{reach_of}
 use Rattle.file.specs.File.{register}
 use Rattle.file.specs.Names.{SRX, ARX}
 use Rattle.places.specs.Lookup.{of_toggle}
-use Rattle.places.specs.Profile.{Reading, Writing, stores_to, profile, stores_into, flips, resets}
+use Rattle.places.specs.Profile.{profile, stores_into, flips, resets}
 use Rattle.places.proofs.RulesOfPlaces.{mmio_rule, mmio-rule, toggle_rule, toggle-rule}
 use Rattle.access.specs.declared.record.Record.{Record}
-use Rattle.access.specs.Access.{place_of, reach_in, access, reach}
+use Rattle.access.specs.Access.{place_of, access, reach}
 use Rattle.access.specs.Checks.{is_mmio}
 use Rattle.access.proofs.Reach.{Spares, outside-reach, nothing-spares, read-spares, write-spares, spared, write-leaves-toggle, read-leaves-toggle}
 use Rattle.access.proofs.Refusals.{by-effect}

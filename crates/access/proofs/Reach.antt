@@ -1,7 +1,7 @@
 -- No bit outside the reach of an access differs after it, and a register bit inside it is the value's. Assumes nothing.
 use Prim.Native.Nat.{ℕ, ◌<◌}
 use mathlib.Core.Path.{◌≡◌, refl, sym, ap, ◌∙◌, subst}
-use mathlib.Core.Bool.{Bool, true, false, ◌&&◌}
+use mathlib.Core.Bool.{Bool, false}
 use native.Mathlib.Omega.{arith}
 use lib.Dec.{T, ltb→lt}
 use lib.ListN.{length}
@@ -19,7 +19,7 @@ use Rattle.file.specs.Sound.{sound}
 use Rattle.file.proofs.Reached.{same-outside, stored-inside}
 use Rattle.file.proofs.Soundness.{sound-count}
 use Rattle.places.specs.EngineCells.{reads_file, writes_file, in_file}
-use Rattle.places.specs.Profile.{Reading, resets_toggle, Writing, stores_to, stores_nothing, profile, stores_into, flips, resets}
+use Rattle.places.specs.Profile.{Reading, Writing, stores_to, profile, flips, resets}
 use Rattle.places.proofs.RulesOfPlaces.{place-in-file}
 use Rattle.access.specs.declared.record.Record.{Record}
 use Rattle.access.specs.Access.{place_of, reach_in, write_effect, read_effect, effect, reach, access}

@@ -1,7 +1,7 @@
 -- A refused access leaves the file; an unsound file refuses every access. What an access does, by cases. Assumes nothing.
 use Prim.Native.Nat.{ℕ}
 use mathlib.Core.Path.{◌≡◌, refl, ap}
-use mathlib.Core.Bool.{Bool, true, false, cond, not}
+use mathlib.Core.Bool.{Bool, true, false, not}
 use lib.Dec.{T}
 use Rattle.bits.proofs.Test.{by-test, is_true}
 use Rattle.file.specs.declared.answer.Answer.TheVariants.{NotSound}

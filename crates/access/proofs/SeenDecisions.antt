@@ -15,7 +15,7 @@ use Rattle.file.specs.Answers.{code_of, refused}
 use Rattle.file.specs.File.{register, seen, crtc_locked}
 use Rattle.file.specs.Sound.{sound}
 use Rattle.places.specs.declared.place.Place.{Place}
-use Rattle.places.specs.Lookup.{row_at, place_of_row, place_at, other_way, held_in, inside_in}
+use Rattle.places.specs.Lookup.{place_of_row, place_at, other_way, held_in, inside_in}
 use Rattle.places.specs.Places.{Row, places}
 use Rattle.places.specs.Profile.{Reading, gives_held, gives_fixed, gives_device_id, gives_toggle, gives_palette_state, gives_vport_state, gives_dac_state, gives_address, gives_pixel, resets_toggle, gives_line, names_nothing, Writing, stores_to, read_only, sets_address, writes_pixel, stores_nothing, passes_lines, profile, reads_pixel}
 use Rattle.places.proofs.SeenRows.{row_seen}

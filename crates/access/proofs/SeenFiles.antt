@@ -9,7 +9,7 @@ use Rattle.file.specs.declared.effect.Effect.TheVariants.{Nothing}
 use Rattle.file.specs.declared.registers.File.{File}
 use Rattle.file.specs.declared.state.State.{State}
 use Rattle.file.specs.File.{register, seen, black}
-use Rattle.file.specs.Palette.{by_colour, component}
+use Rattle.file.specs.Palette.{component}
 use Rattle.file.specs.State.{unasked}
 use Rattle.places.specs.EngineCells.{cell_place}
 use Rattle.places.specs.Profile.{passes_lines, profile}

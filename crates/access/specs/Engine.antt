@@ -1,7 +1,7 @@
 -- What the engine goes by, and nobody beside 01 needs: answer and effect of a record in a file of which only registers and state are looked at, by
 -- whatever tables of cells and stored bits are lent. That this is 01's answer by 01's tables is a law (`decided-by-tables`).
 -- Assumes nothing.
-use Rattle.std.specs.Prelude.{ℕ, ◌/◌, Bool, true, false, cond, not, ◌&&◌, ◌||◌, List, eqb, ltb, get_or}
+use Rattle.std.specs.Prelude.{ℕ, ◌/◌, Bool, false, cond, not, ◌&&◌, ◌||◌, List, eqb, ltb, get_or}
 use Rattle.bits.specs.Store.{bit}
 use Rattle.file.specs.declared.answer.Answer.{Answer}
 use Rattle.file.specs.declared.answer.Answer.TheVariants.{Malformed, SpaceOff, NotHeld, OtherHalf, WrongWidth, OtherDirection, InsideWider}

@@ -1,6 +1,6 @@
 -- 01, 'Timing': a number whose bits lie in pieces of several registers, high bits first. The registers are any list of numbers.
 -- Assumes nothing.
-use Rattle.std.specs.Prelude.{ℕ, ◌+◌, ◌-◌, ◌*◌, ◌/◌, ◌%◌, ◌^◌, List, [], ◌∷◌, set, slice_index, slice_set}
+use Rattle.std.specs.Prelude.{ℕ, ◌+◌, ◌-◌, ◌*◌, ◌/◌, ◌%◌, ◌^◌, List, [], ◌∷◌, slice_index, slice_set}
 use Rattle.bits.specs.Store.{store}
 
 -- so many bits of a register, from a lowest one on

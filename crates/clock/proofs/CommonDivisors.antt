@@ -1,11 +1,11 @@
 -- The greatest common divisor, as it is defined and as Euclid finds it. Assumes nothing.
 use Prim.Native.Nat.{ℕ, zero, suc, ◌+◌, ◌%◌, ◌≤◌, ◌<◌, ◌∣◌}
-use mathlib.Core.Path.{◌≡◌, refl, sym, ap, ◌∙◌}
-use mathlib.Core.Bool.{Bool, true, false, ◌&&◌, true≢false}
+use mathlib.Core.Path.{◌≡◌, sym, ◌∙◌}
+use mathlib.Core.Bool.{true, true≢false}
 use native.Mathlib.Nat.{le_antisymm, le_of_dvd, one-dvd, dvd_refl, dvd-zero, dvd-mod_iff, dvd_of_mod-eq-zero, mod-eq-zero_of_dvd}
 use native.Mathlib.Omega.{arith}
 use borrow.Author.Tests.{eqb-true, eqb-false}
-use lib.Dec.{T, eqb, lit<}
+use lib.Dec.{eqb, lit<}
 use Rattle.bits.proofs.Test.{by-test, left, right, passes, is_true}
 use Rattle.clock.specs.Lowest.{divides_both, largest_divisor, common_divisor}
 

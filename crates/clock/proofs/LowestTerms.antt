@@ -8,7 +8,6 @@ use lib.Dec.{eqb, lit<}
 use lib.Ieee.Nearest.{div_same}
 use lib.Ieee.Positive.{first_pos}
 use Rattle.bits.proofs.Test.{by-test}
-use Rattle.clock.specs.declared.terms.Terms.{Terms}
 use Rattle.clock.specs.Lowest.{common_divisor, lowest}
 use Rattle.clock.proofs.CommonDivisors.{common-positive, common-divides, common-most}
 

@@ -3,14 +3,14 @@
 use Prim.Native.Nat.{ℕ, ◌*◌, ◌/◌, ◌%◌, ◌^◌, ◌≤◌, ◌<◌}
 use mathlib.Core.Path.{◌≡◌, refl, sym, ap, ◌∙◌, subst}
 use mathlib.Core.Bool.{true, false, true≢false}
-use native.Mathlib.Nat.{mul-one, mul_comm, mul_assoc, mul_left_comm, mul_right_comm, mul-pos, mod-lt, div-le_self, div-mul_cancel, dvd_of_mod-eq-zero}
+use native.Mathlib.Nat.{mul-one, mul_comm, mul_assoc, mul-pos, mod-lt, div-le_self, div-mul_cancel, dvd_of_mod-eq-zero}
 use native.Mathlib.Omega.{arith}
 use borrow.Author.Tests.{ne_eqb}
 use lib.Dec.{T, lit<}
-use lib.Ieee.{Float, nan, inf, fin, Format, binary64, prec, up, down, round, div, le, of_int}
+use lib.Ieee.{Float, nan, inf, fin, Format, binary64, up, down, round, div, le, of_int}
 use lib.Ieee.Back.{round_whole}
 use lib.Ieee.Exact.{HasValue}
-use lib.Ieee.Fits.{up_pos, down_pos}
+use lib.Ieee.Fits.{down_pos}
 use lib.Ieee.Order.{round_mono}
 use lib.Ieee.Positive.{first_pos}
 use lib.Ieee.Scale.{round_same}

@@ -1,23 +1,16 @@
 -- A cell says what the list of places says: one computed test over all rows. Assumes nothing.
-use Prim.Native.Nat.{ℕ, zero, suc, ◌+◌, ◌-◌, ◌%◌, ◌≤◌, ◌<◌}
-use mathlib.Core.Path.{◌≡◌, refl, sym, ap, ap₂, ◌∙◌, subst, subst₂, subst₃}
+use Prim.Native.Nat.{ℕ, ◌%◌, ◌<◌}
+use mathlib.Core.Path.{◌≡◌, refl, sym, ap, ◌∙◌, subst}
 use mathlib.Core.Bool.{Bool, true, false, cond, true≢false, not, ◌&&◌, ◌||◌}
 use mathlib.Core.List.{List, [], ◌∷◌, cons≢nil}
 use mathlib.Core.Logic.{◌⊎◌, inl, inr, ⊎_elim}
 use mathlib.Core.Option.{Option, none, some, none-ne-some}
-use lib.Dec.{T, eqb, leb, ltb, eqb→eq, leb→le, ltb→lt}
-use lib.ListN.{get_or}
-use native.Mathlib.Omega.{arith}
+use lib.Dec.{T, eqb, ltb, eqb→eq}
 use borrow.Author.Tests.{not-true}
-use Rattle.bits.specs.Store.{bits}
 use Rattle.bits.proofs.Test.{left, right, both, either, second, and-false, by-test, passes, is_true, every_below, below}
 use Rattle.file.specs.declared.chip.Chip.{Chip}
 use Rattle.file.specs.declared.chip.Chip.TheVariants.{Gd5462, Gd5464}
 use Rattle.file.specs.declared.registers.File.{File}
-use Rattle.file.specs.File.{register, seen}
-use Rattle.file.specs.Names.{SRX, CRX, GRX, ARX}
-use Rattle.places.specs.declared.place.Place.{Place}
-use Rattle.places.specs.declared.place.Place.TheVariants.{Unnamed, UnnamedAttribute}
 use Rattle.places.specs.EngineCells.{first_indexed, nothing_held, wider, plain_place, plain_cell, indexed_cell, of_kind, of_address, rows_in, rows_at, cell_of, held_cell, is_nothing, cell_width, chosen}
 use Rattle.places.specs.Lookup.{selects, matches, first, row_at, place_of_row, place_at, some_row, held_in}
 use Rattle.places.specs.Places.{Index, any, sr, cr, gr, ar, index_due, data_due, Row, places}

@@ -1,28 +1,27 @@
 -- The place that a file selects behind an indexed port is what its cell names. Assumes nothing.
 use Prim.Native.Nat.{ℕ, zero, suc, ◌+◌, ◌-◌, ◌/◌, ◌%◌, ◌≤◌, ◌<◌}
 use mathlib.Core.Path.{◌≡◌, refl, sym, ap, ap₂, ◌∙◌, subst, subst₂, subst₃}
-use mathlib.Core.Bool.{Bool, true, false, cond, true≢false, not, ◌&&◌, ◌||◌}
+use mathlib.Core.Bool.{Bool, true, false, cond, true≢false, not, ◌&&◌}
 use mathlib.Core.List.{List, [], ◌∷◌, ◌++◌}
-use mathlib.Core.Logic.{◌⊎◌, inl, inr, ⊎_elim}
-use mathlib.Core.Option.{Option, none, some, none-ne-some}
+use mathlib.Core.Option.{Option, some}
 use lib.Dec.{T, eqb, leb, ltb, eqb→eq, leb→le, ltb→lt, lit≤}
 use lib.ListN.{get_or}
 use native.Mathlib.Omega.{arith}
 use borrow.Author.Tests.{le-ltb, ne_eqb, eqb-true}
 use native.Mathlib.Nat.{mod-eq_of_lt}
 use Rattle.bits.specs.Store.{bits}
-use Rattle.bits.proofs.Test.{left, right, both, either, by-test, passes, is_true, every_below, below}
+use Rattle.bits.proofs.Test.{left, right, either, by-test, passes, is_true, every_below, below}
 use Rattle.file.specs.declared.chip.Chip.{Chip}
 use Rattle.file.specs.declared.chip.Chip.TheVariants.{Gd5462, Gd5464}
 use Rattle.file.specs.declared.registers.File.{File}
 use Rattle.file.specs.declared.state.State.{State}
 use Rattle.file.specs.File.{register, seen}
 use Rattle.file.specs.State.{initial, unasked, toggling}
-use Rattle.file.specs.Names.{SRX, CRX, GRX, ARX}
+use Rattle.file.specs.Names.{SRX, CRX, GRX}
 use Rattle.places.specs.declared.place.Place.{Place}
-use Rattle.places.specs.declared.place.Place.TheVariants.{Unnamed, UnnamedAttribute}
+use Rattle.places.specs.declared.place.Place.TheVariants.{Unnamed}
 use Rattle.places.specs.EngineCells.{first_indexed, nothing_held, wider, plain_place, plain_cell, of_kind, of_address, rows_in, rows_at, held_cell, chosen, indices_at, cells_from, behind_port, behind_srx, count_srx, behind_crx, count_crx, behind_grx, count_grx, behind_arx, count_arx, cell_count, table_cell, cell_table, attribute_place, indexed_places, cell_place}
-use Rattle.places.specs.Lookup.{attribute_index, selects, matches, first, row_at, place_of_row, place_at}
+use Rattle.places.specs.Lookup.{attribute_index, selects, first, row_at, place_of_row, place_at}
 use Rattle.places.specs.Places.{Index, any, sr, cr, gr, ar, index_due, data_due, Row, shared_places, own_places, places}
 use Rattle.places.proofs.CellsOfRows.{Door, door, doors, same_door, is_door, Outcome, nothing, held, outcome, spoken, place-chosen}
 use Rattle.places.proofs.Rows.{every}

@@ -3,14 +3,13 @@ use Prim.Native.Nat.{ℕ, ◌/◌, ◌<◌}
 use mathlib.Core.Path.{◌≡◌, refl, sym, ap, ◌∙◌, subst}
 use mathlib.Core.Bool.{Bool, true, false, not, true≢false, ◌&&◌, ◌||◌}
 use mathlib.Core.List.{[], ◌∷◌}
-use mathlib.Core.Option.{some}
 use lib.Dec.{T, eqb, leb}
 use Rattle.bits.proofs.Test.{left, right, either, second, is_true}
 use Rattle.file.specs.declared.registers.File.{File}
 use Rattle.file.specs.Names.{SRX, ARX}
 use Rattle.places.specs.declared.place.Place.{Place}
 use Rattle.places.specs.EngineCells.{nothing_held, held_cell, in_file, takes_bytes}
-use Rattle.places.specs.Lookup.{is_one_of, of_toggle, matches, row_at, place_at}
+use Rattle.places.specs.Lookup.{is_one_of, of_toggle, matches, place_at}
 use Rattle.places.specs.Places.{Row, shared_places, own_places}
 use Rattle.places.specs.Profile.{profile, stores_into, flips, lets_pass, resets}
 use Rattle.places.proofs.CellsOfRows.{Outcome, nothing, held, outcome}

@@ -4,7 +4,6 @@
 use Rattle.std.specs.Prelude.{ℕ, zero, suc, ◌+◌, ◌-◌, ◌*◌, ◌/◌, ◌%◌, Bool, true, false, cond, ◌&&◌, List, [], ◌∷◌, eqb, leb, ltb, get_or}
 use Rattle.file.specs.declared.chip.Chip.{Chip}
 use Rattle.file.specs.declared.registers.File.{File}
-use Rattle.file.specs.declared.state.State.{State}
 use Rattle.file.specs.File.{register, seen}
 use Rattle.file.specs.Names.{SRX, CRX, GRX, ARX}
 use Rattle.file.specs.Registers.{register_count}

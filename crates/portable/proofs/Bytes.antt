@@ -1,21 +1,20 @@
 -- Bytes are registers that store eight bits, and a write keeps them so. Assumes nothing.
-use Prim.Native.Nat.{ℕ, zero, suc, ◌^◌, ◌≤◌, ◌<◌}
-use mathlib.Core.Path.{◌≡◌, refl, sym, subst}
+use Prim.Native.Nat.{ℕ, suc, ◌≤◌, ◌<◌}
+use mathlib.Core.Path.{◌≡◌, subst}
 use mathlib.Core.List.{List, [], ◌∷◌}
-use native.Mathlib.Nat.{le_trans}
 use native.Mathlib.Omega.{arith}
 use borrow.Author.Tests.{ltb-true, ltb-false}
 use lib.Dec.{T, ltb}
 use lib.ListN.{length, get_or, replicate, length-replicate, get_or-replicate, get_or-eq_default}
 use Rattle.bits.specs.Numbers.{write_numbers}
-use Rattle.bits.specs.Store.{bit, within}
+use Rattle.bits.specs.Store.{within}
 use Rattle.bits.proofs.Shift.{bit-above, bit-ones}
 use Rattle.bits.proofs.Stored.{within-by-bits, within-le}
 use Rattle.bits.proofs.Test.{by-test, both}
 use Rattle.file.specs.Sound.{all_within}
 use Rattle.file.proofs.Soundness.{at}
 use Rattle.timing.proofs.Layouts.{written-within}
-use Rattle.portable.specs.Table.{table, stored, layout}
+use Rattle.portable.specs.Table.{table, stored}
 use Rattle.portable.proofs.Computed.{layout-lawful}
 
 byte-within : (value : ℕ) → value < 256 → T (within 0xFF value)

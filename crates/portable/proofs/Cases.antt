@@ -1,18 +1,17 @@
 -- The reader's and the writer's definitions, by what the code's tests found. Assumes nothing.
 use Prim.Native.Nat.{ℕ, ◌%◌}
-use mathlib.Core.Path.{◌≡◌, refl, sym, ap, ◌∙◌, fun_ext}
-use mathlib.Core.Bool.{Bool, true, false}
+use mathlib.Core.Path.{◌≡◌, ap, ◌∙◌, fun_ext}
+use mathlib.Core.Bool.{true, false}
 use mathlib.Core.List.{List, []}
 use native.Mathlib.Nat.{mod-eq_of_lt}
 use borrow.Author.Tests.{eq-eqb, ne_eqb}
-use lib.Dec.{eqb}
 use lib.ListN.{length, get_or}
 use Rattle.bits.specs.Numbers.{read_numbers, all_in_range, write_numbers}
 use Rattle.file.specs.declared.answer.Answer.TheVariants.{Done, Locked, OutOfRange, NotSound}
 use Rattle.file.specs.Answers.{refused, code_of}
 use Rattle.timing.specs.Layout.{answer_by, registers_after}
 use Rattle.portable.specs.declared.Timing.{Timing}
-use Rattle.portable.specs.Table.{table, layout}
+use Rattle.portable.specs.Table.{table}
 use Rattle.portable.specs.Timing.{timing_by, timing_of, numbers_of, readable, locked, read_timing, timing_answer, bytes_after, Written}
 use Rattle.portable.proofs.Computed.{numbers-below}
 

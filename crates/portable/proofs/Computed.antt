@@ -1,14 +1,14 @@
 -- Table 9-1: each rule of it that the proofs use is one computed test. Assumes nothing.
 use Prim.Native.Nat.{ℕ, ◌^◌, ◌<◌}
-use mathlib.Core.Path.{◌≡◌, refl, ◌∙◌}
-use mathlib.Core.List.{List, map}
+use mathlib.Core.Path.{◌≡◌, refl}
+use mathlib.Core.List.{List}
 use native.Mathlib.Omega.{arith}
 use borrow.Author.Tests.{ltb-true, ltb-false}
 use lib.Dec.{T, ltb}
 use lib.ListN.{length, get_or, get_or-eq_default}
 use Rattle.bits.specs.Numbers.{read_from, read_numbers}
 use Rattle.bits.specs.Pieces.{width, piece_reach}
-use Rattle.bits.specs.Reach.{pieces_reach, disjoint, present, pieces_of, table_reach, fitting}
+use Rattle.bits.specs.Reach.{pieces_reach, disjoint, present, pieces_of, fitting}
 use Rattle.bits.specs.Store.{store, within}
 use Rattle.bits.specs.Words.{most, bounded, read_words}
 use Rattle.bits.proofs.Bounded.{words-numbers, read_below}

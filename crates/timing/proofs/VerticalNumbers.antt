@@ -1,5 +1,5 @@
 -- The vertical numbers that a line is held to: what bounds them, and the end of vertical sync by its start. Assumes nothing.
-use Prim.Native.Nat.{ℕ, ◌%◌, ◌<◌, ◌≤◌}
+use Prim.Native.Nat.{◌%◌, ◌<◌, ◌≤◌}
 use mathlib.Core.Path.{◌≡◌, ap}
 use native.Mathlib.Omega.{arith}
 use Rattle.bits.specs.Numbers.{read_numbers, read_from, meant, end_after}

@@ -5,7 +5,7 @@ use mathlib.Core.Bool.{Bool, true, false}
 use mathlib.Core.List.{List, [], ◌∷◌}
 use native.Mathlib.Omega.{arith}
 use borrow.Author.Tests.{eqb-true}
-use lib.ListN.{get_or, replicate}
+use lib.ListN.{get_or}
 use Rattle.touched.specs.declared.set.Touched.{Touched}
 use Rattle.touched.specs.Things.{Thing, a_register, in_palette, in_bank, the_pointer, the_marks, the_toggle, names, nothing, one, many, size, is_empty}
 

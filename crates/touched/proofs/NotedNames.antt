@@ -3,12 +3,11 @@ use Prim.Native.Nat.{ℕ, ◌<◌}
 use mathlib.Core.Path.{◌≡◌, refl, sym, ap, ◌∙◌}
 use mathlib.Core.Bool.{Bool, true, false, not, ◌&&◌, ◌||◌}
 use mathlib.Core.List.{List, [], ◌∷◌, ◌++◌}
-use native.Mathlib.Omega.{arith}
 use borrow.Author.Tests.{eqb-true, eqb-false}
 use lib.Dec.{T, eqb, ltb→lt}
 use lib.ListN.{get_or, length, set, length-set}
 use lib.Seq.{get_or-set_same, get_or-set_other}
-use Rattle.bits.proofs.Test.{by-test, and-false, or-false}
+use Rattle.bits.proofs.Test.{by-test, or-false}
 use Rattle.file.specs.declared.effect.Effect.TheVariants.{Nothing}
 use Rattle.file.specs.declared.effect.Reach.{Reach}
 use Rattle.file.specs.Effects.{reach_of}

@@ -1,5 +1,4 @@
 -- `bits::stray` meets its contract. Assumes nothing.
-use Rattle.std.proofs.Common.{rules}
 use Rattle.bits.proofs.stray.Goals as goal
 
 pub returns : goal.returns

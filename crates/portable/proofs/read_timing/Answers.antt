@@ -1,7 +1,6 @@
 -- `portable::read_timing` meets its contract, by what its test and calls found. Assumes nothing.
 use Rattle.portable.specs.Timing.{timing_of}
 use Rattle.portable.proofs.Cases.{read_short, read_done}
-use borrow.Author.Rules.{rules}
 use Rattle.portable.proofs.read_timing.Goals as goal
 
 pub returns-then-bytes-ne-COUNT : goal.returns-then-bytes-ne-COUNT

@@ -5,7 +5,6 @@ use Rattle.bits.specs.Numbers.{all_in_range, write_numbers}
 use Rattle.portable.specs.Table.{table}
 use Rattle.portable.specs.Timing.{locked}
 use Rattle.portable.proofs.Cases.{write-short, write-locked, write-outside, write_done}
-use borrow.Author.Rules.{rules}
 use Rattle.portable.proofs.write_timing.Goals as goal
 
 pub returns-then-bytes-ne-COUNT : goal.returns-then-bytes-ne-COUNT

@@ -1,7 +1,6 @@
 -- `timing::is_set` meets its contract. Assumes nothing.
 use mathlib.Core.Path.{refl}
 use Rattle.bits.specs.Store.{bit}
-use borrow.Author.Rules.{rules}
 use Rattle.timing.proofs.is_set.Goals as goal
 
 pub returns : goal.returns

@@ -1,5 +1,4 @@
 -- `timing::is_wide` meets its contract: either bit is enough. Assumes nothing.
-use borrow.Author.Rules.{rules}
 use Rattle.timing.proofs.is_wide.Goals as goal
 
 pub returns-then-is_set : goal.returns-then-is_set

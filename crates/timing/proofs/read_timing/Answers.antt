@@ -8,7 +8,6 @@ use Rattle.file.specs.File.{register}
 use Rattle.timing.specs.Table.{wide}
 use Rattle.timing.proofs.Cases.{read-unsound, read_done}
 use Rattle.timing.proofs.Computed.{numbers-below}
-use borrow.Author.Rules.{rules}
 use Rattle.timing.proofs.read_timing.Goals as goal
 
 pub returns-then-not-is_sound : goal.returns-then-not-is_sound

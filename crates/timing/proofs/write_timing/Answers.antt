@@ -4,7 +4,6 @@ use borrow.Author.Tests.{not-true, not-false}
 use Rattle.file.specs.File.{register, with_registers, crtc_locked}
 use Rattle.timing.specs.Table.{wide}
 use Rattle.timing.proofs.Cases.{write-unsound, write-locked, write-outside, write_done}
-use borrow.Author.Rules.{rules}
 use Rattle.timing.proofs.write_timing.Goals as goal
 
 pub returns-then-not-is_sound : goal.returns-then-not-is_sound

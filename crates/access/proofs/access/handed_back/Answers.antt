@@ -1,5 +1,4 @@
 -- `handed_back` meets its contract. Assumes nothing.
-use borrow.Author.Rules.{rules}
 use Rattle.access.specs.Access.{handed, reply_to}
 use Rattle.access.proofs.access.handed_back.Goals as goal
 

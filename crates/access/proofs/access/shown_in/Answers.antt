@@ -7,7 +7,6 @@ use Rattle.file.specs.Palette.{component}
 use Rattle.file.proofs.Typed.{palette-count, bank-count, address-byte}
 use Rattle.access.specs.Access.{in_bank, shown_in}
 use Rattle.access.proofs.EntriesNamed.{entry-in-bank, entry-in-palette}
-use borrow.Author.Rules.{rules}
 use Rattle.access.proofs.access.shown_in.Goals as goal
 
 pub offset_bounds-whole-number : goal.offset_bounds-whole-number

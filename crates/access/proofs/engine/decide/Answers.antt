@@ -14,7 +14,6 @@ use Rattle.places.specs.EngineCells.{in_file}
 use Rattle.places.proofs.CellsInFile.{cell-in-file}
 use Rattle.access.proofs.PassedChecks.{word_fits, is-passing, passed, lines-told}
 use borrow.Author.Tests.{eq-eqb, ne_eqb}
-use borrow.Author.Rules.{rules}
 use Rattle.access.proofs.engine.decide.Goals as goal
 
 pub word-requires : goal.word-requires

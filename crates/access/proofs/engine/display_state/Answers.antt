@@ -2,7 +2,6 @@
 use native.Mathlib.Omega.{arith}
 use lib.Dec.{leb}
 use Rattle.access.proofs.LineRead.{display-by, bits_fit}
-use borrow.Author.Rules.{rules}
 use Rattle.access.proofs.engine.display_state.Goals as goal
 
 pub overflow_add-result : goal.overflow_add-result

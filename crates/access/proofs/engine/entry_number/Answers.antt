@@ -1,5 +1,4 @@
 -- `entry_number` meets its contract. Assumes nothing.
-use borrow.Author.Rules.{rules}
 use Rattle.access.proofs.engine.entry_number.Goals as goal
 
 pub returns-then-bank : goal.returns-then-bank

@@ -1,6 +1,5 @@
 -- `is_in_sync` meets its contract. Assumes nothing.
 use Rattle.access.proofs.LineRead.{before-sync, until_end}
-use borrow.Author.Rules.{rules}
 use Rattle.access.proofs.engine.is_in_sync.Goals as goal
 
 pub returns-then-line-v_sync_start : goal.returns-then-line-v_sync_start

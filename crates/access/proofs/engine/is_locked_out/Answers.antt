@@ -2,7 +2,6 @@
 use mathlib.Core.Path.{sym, ◌∙◌}
 use borrow.Author.Tests.{le-leb, lt-leb}
 use Rattle.access.specs.Access.{locked_out}
-use borrow.Author.Rules.{rules}
 use Rattle.access.proofs.engine.is_locked_out.Goals as goal
 
 pub returns-then-number-ge-CR0 : goal.returns-then-number-ge-CR0

@@ -5,7 +5,6 @@ use Rattle.bits.proofs.Test.{or-false}
 use Rattle.access.specs.Checks.{is_port}
 use Rattle.access.specs.Engine.{other_row}
 use Rattle.file.specs.File.{seen, register}
-use borrow.Author.Rules.{rules}
 use Rattle.access.proofs.engine.is_other_row.Goals as goal
 
 pub returns-then-space-ne1 : goal.returns-then-space-ne1

@@ -1,5 +1,4 @@
 -- `is_palette_up` meets its contract. Assumes nothing.
-use borrow.Author.Rules.{rules}
 use borrow.Author.Tests.{ne_eqb}
 use Rattle.access.specs.Access.{palette_up}
 use Rattle.file.specs.File.{seen, register}

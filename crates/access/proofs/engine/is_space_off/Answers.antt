@@ -5,7 +5,6 @@ use Rattle.bits.proofs.Test.{or-false}
 use Rattle.access.specs.Checks.{space_off, is_port, is_mmio}
 use Rattle.file.specs.File.{seen, register}
 use Rattle.bits.specs.Store.{bit}
-use borrow.Author.Rules.{rules}
 use Rattle.access.proofs.engine.is_space_off.Goals as goal
 
 pub returns-then-space-eq1 : goal.returns-then-space-eq1

@@ -3,7 +3,6 @@ use Prim.Native.Nat.{◌<◌, ◌+◌}
 use native.Mathlib.Nat.{mod-lt}
 use native.Mathlib.Omega.{arith}
 use Rattle.access.proofs.LineRead.{total-some, total-fits, after-by}
-use borrow.Author.Rules.{rules}
 use Rattle.access.proofs.engine.line_after.Goals as goal
 
 pub nonzero_rem-state : goal.nonzero_rem-state

@@ -1,6 +1,5 @@
 -- `line_shown` meets its contract. Assumes nothing.
 use Rattle.access.proofs.LineRead.{total-some, shown_by}
-use borrow.Author.Rules.{rules}
 use Rattle.access.proofs.engine.line_shown.Goals as goal
 
 pub nonzero_rem-result : goal.nonzero_rem-result

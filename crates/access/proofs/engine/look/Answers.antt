@@ -3,7 +3,6 @@ use mathlib.Core.Path.{sym, ap, ◌∙◌}
 use borrow.Author.Tests.{eq-eqb, ne_eqb}
 use Rattle.access.specs.declared.engine.Looked.TheVariants.{Refused}
 use Rattle.access.specs.Engine.{looked_by}
-use borrow.Author.Rules.{rules}
 use Rattle.access.proofs.engine.look.Goals as goal
 
 pub returns-then-is_passing : goal.returns-then-is_passing

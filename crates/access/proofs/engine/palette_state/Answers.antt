@@ -1,6 +1,5 @@
 -- `palette_state` meets its contract. Assumes nothing.
 use Rattle.access.specs.Access.{shown_state}
-use borrow.Author.Rules.{rules}
 use Rattle.access.proofs.engine.palette_state.Goals as goal
 
 pub returns : goal.returns

@@ -3,7 +3,6 @@ use Rattle.file.specs.Answers.{code_of, refused}
 use Rattle.places.specs.EngineCells.{taken}
 use Rattle.access.specs.Access.{write_answer, write_effect}
 use Rattle.access.specs.Engine.{decided_write}
-use borrow.Author.Rules.{rules}
 use Rattle.access.proofs.engine.pass_lines.Goals as goal
 
 pub returns : goal.returns

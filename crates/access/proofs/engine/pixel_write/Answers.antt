@@ -3,7 +3,6 @@ use mathlib.Core.Path.{sym, ◌∙◌}
 use borrow.Author.Tests.{not-true, not-false}
 use Rattle.access.specs.Access.{in_bank, entry_number, pixel_write}
 use Rattle.file.specs.File.{seen, register}
-use borrow.Author.Rules.{rules}
 use Rattle.access.proofs.engine.pixel_write.Goals as goal
 
 pub returns-then-not-stores : goal.returns-then-not-stores

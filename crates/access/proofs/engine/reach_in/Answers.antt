@@ -4,7 +4,6 @@ use borrow.Author.Tests.{eq-eqb, ne_eqb}
 use Rattle.bits.proofs.Test.{and-false}
 use Rattle.access.specs.Access.{locked_reach}
 use Rattle.access.specs.Engine.{reach_by}
-use borrow.Author.Rules.{rules}
 use Rattle.access.proofs.engine.reach_in.Goals as goal
 
 pub returns-then-number-ne-CR7 : goal.returns-then-number-ne-CR7

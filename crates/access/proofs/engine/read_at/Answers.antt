@@ -11,7 +11,6 @@ use Prim.Native.Nat.{ℕ}
 use mathlib.Core.Bool.{cond, false}
 use Rattle.file.specs.declared.answer.Answer.TheVariants.{Done}
 use Rattle.file.specs.declared.effect.Effect.TheVariants.{Nothing}
-use borrow.Author.Rules.{rules}
 use Rattle.access.proofs.engine.read_at.Goals as goal
 use Rattle.access.proofs.engine.read_at.Goals.{then-state, else-state}
 

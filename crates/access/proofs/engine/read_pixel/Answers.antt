@@ -6,7 +6,6 @@ use Rattle.access.specs.Engine.{decided_read}
 use Rattle.file.specs.Answers.{code_of, refused}
 use Rattle.file.specs.File.{seen, register}
 use Rattle.places.specs.Profile.{reads_pixel}
-use borrow.Author.Rules.{rules}
 use Rattle.access.proofs.engine.read_pixel.Goals as goal
 
 pub returns-then-is_palette_up : goal.returns-then-is_palette_up

@@ -1,7 +1,6 @@
 -- `v_port_state` meets its contract. Assumes nothing.
 use Rattle.access.specs.Access.{v_port_state}
 use Rattle.file.specs.File.{seen, register}
-use borrow.Author.Rules.{rules}
 use Rattle.access.proofs.engine.v_port_state.Goals as goal
 
 pub returns : goal.returns

@@ -6,7 +6,6 @@ use Rattle.file.specs.File.{seen, register, crtc_locked}
 use Rattle.places.specs.EngineCells.{taken}
 use Rattle.places.specs.Profile.{profile}
 use Rattle.access.proofs.PassedChecks.{register-below, attribute-below}
-use borrow.Author.Rules.{rules}
 use Rattle.access.proofs.engine.write_at.Goals as goal
 
 pub write_register-requires : goal.write_register-requires

@@ -5,7 +5,6 @@ use Rattle.access.specs.Engine.{decided_write}
 use Rattle.file.specs.Answers.{code_of, refused}
 use Rattle.file.specs.File.{seen, register}
 use Rattle.places.specs.EngineCells.{taken}
-use borrow.Author.Rules.{rules}
 use Rattle.access.proofs.engine.write_pixel.Goals as goal
 
 pub returns-then-is_palette_up : goal.returns-then-is_palette_up

@@ -4,7 +4,6 @@ use Rattle.access.specs.Access.{write_answer, write_effect}
 use Rattle.access.specs.Engine.{decided_write}
 use Rattle.file.specs.Answers.{code_of, refused}
 use Rattle.places.specs.EngineCells.{taken}
-use borrow.Author.Rules.{rules}
 use Rattle.access.proofs.engine.write_register.Goals as goal
 
 pub returns-then-is_locked_out : goal.returns-then-is_locked_out

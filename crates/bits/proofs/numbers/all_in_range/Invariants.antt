@@ -1,5 +1,5 @@
 -- `bits::numbers::all_in_range` meets its contract. Invariant: the rows from k on decide. Assumes nothing.
-use Rattle.std.proofs.Common.{◌≡◌, ◌-◌, length, drop, rules}
+use Rattle.std.proofs.Common.{◌≡◌, ◌-◌, length, drop}
 use Rattle.bits.specs.Numbers.{ranges_from, all_in_range}
 use Rattle.bits.specs.Encoded.{table_of}
 use Rattle.bits.proofs.numbers.all_in_range.Given as goal

@@ -1,5 +1,5 @@
 -- `bits::numbers::end_after` meets its contract: the definition's own sum, below 2^34. Assumes nothing.
-use Rattle.std.proofs.Common.{◌^◌, ◌<◌, mod-lt, arith, pow_pos, pow_mono, rules}
+use Rattle.std.proofs.Common.{◌^◌, ◌<◌, mod-lt, arith, pow_pos, pow_mono}
 use Rattle.bits.specs.Numbers.{end_after}
 use Rattle.bits.proofs.numbers.end_after.Goals as goal
 

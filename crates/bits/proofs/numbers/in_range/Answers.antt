@@ -1,5 +1,5 @@
 -- `bits::numbers::in_range` meets its contract, by the two meanings and the tests that led to each return. Assumes nothing.
-use Rattle.std.proofs.Common.{arith, pow_mono, rules, le-ltb, lt-ltb, le-leb}
+use Rattle.std.proofs.Common.{arith, pow_mono, le-ltb, lt-ltb, le-leb}
 use borrow.Author.Tests.{lt-leb}
 use Rattle.bits.specs.Numbers.{in_range}
 use Rattle.bits.proofs.Encoded.{meaning-end, meaning-plus}

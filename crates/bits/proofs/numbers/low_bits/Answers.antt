@@ -1,6 +1,6 @@
 -- `bits::numbers::low_bits` meets its contract: a mask of ones is a remainder. Assumes nothing.
 use lib.Bits.{and_mask}
-use Rattle.std.proofs.Common.{pow_pos, rules}
+use Rattle.std.proofs.Common.{pow_pos}
 use Rattle.bits.proofs.numbers.low_bits.Goals as goal
 
 pub overflow_sub-result : goal.overflow_sub-result

@@ -1,7 +1,6 @@
 -- `bits::numbers::meant` meets its contract, by the two meanings. Assumes nothing.
 use Rattle.bits.specs.Numbers.{meant}
 use Rattle.bits.proofs.Encoded.{meaning-end, meaning-plus}
-use Rattle.std.proofs.Common.{rules}
 use Rattle.bits.proofs.numbers.meant.Goals as goal
 
 pub returns-then-meaning-eq15 : goal.returns-then-meaning-eq15

@@ -1,5 +1,5 @@
 -- `bits::numbers::number_in_range` meets its contract: 32 bits of a width are enough. Assumes nothing.
-use Rattle.std.proofs.Common.{ℕ, map, ap, ◌∙◌, arith, rules}
+use Rattle.std.proofs.Common.{ℕ, map, ap, ◌∙◌, arith}
 use Rattle.bits.specs.Encoded.{piece_of, meaning_of}
 use Rattle.bits.specs.Numbers.{in_range}
 use Rattle.bits.specs.Pieces.{width}

@@ -1,5 +1,5 @@
 -- `bits::numbers::power` meets its contract. Assumes nothing.
-use Rattle.std.proofs.Common.{◌^◌, ◌∙◌, one-mul, arith, lit<, shl_exact, rules}
+use Rattle.std.proofs.Common.{◌^◌, ◌∙◌, one-mul, arith, lit<, shl_exact}
 use Rattle.bits.proofs.numbers.power.Goals as goal
 
 pub returns : goal.returns

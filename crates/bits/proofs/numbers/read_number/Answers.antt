@@ -1,5 +1,5 @@
 -- `bits::numbers::read_number` meets its contract. Assumes nothing.
-use Rattle.std.proofs.Common.{arith, rules}
+use Rattle.std.proofs.Common.{arith}
 use Rattle.bits.proofs.Rows.{number_word}
 use Rattle.bits.proofs.numbers.read_number.Goals as goal
 

@@ -1,4 +1,4 @@
-use Rattle.std.proofs.Common.{◌-◌, length, sym, refl, ◌∙◌, arith, length-set, rules}
+use Rattle.std.proofs.Common.{sym, refl, ◌∙◌, arith, length-set}
 use Rattle.bits.proofs.Rows.{Turn, read_next, read-last}
 use Rattle.bits.proofs.numbers.read_numbers.Goals as goal
 

@@ -1,5 +1,5 @@
 -- `bits::numbers::read_numbers` meets its contract. Invariant: what is read so far, with what the rows from k on read, is the whole. Assumes nothing.
-use Rattle.std.proofs.Common.{◌≡◌, ◌-◌, ◌++◌, length, take, drop, rules}
+use Rattle.std.proofs.Common.{◌≡◌, ◌-◌, ◌++◌, length, take, drop}
 use Rattle.bits.specs.Encoded.{table_of}
 use Rattle.bits.specs.Words.{read_words}
 use Rattle.bits.proofs.numbers.read_numbers.Given as goal

@@ -1,5 +1,5 @@
 -- `bits::numbers::row_pieces` meets its contract. Assumes nothing.
-use Rattle.std.proofs.Common.{◌/◌, ◌%◌, rules}
+use Rattle.std.proofs.Common.{◌/◌, ◌%◌}
 use Rattle.bits.proofs.Part.{part-clipped}
 use Rattle.bits.proofs.numbers.row_pieces.Goals as goal
 

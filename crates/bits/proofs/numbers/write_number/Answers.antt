@@ -1,5 +1,5 @@
 -- `bits::numbers::write_number` meets its contract. Assumes nothing.
-use Rattle.std.proofs.Common.{ℕ, map, ap, ◌∙◌, rules}
+use Rattle.std.proofs.Common.{ℕ, map, ap, ◌∙◌}
 use Rattle.bits.specs.Encoded.{piece_of}
 use Rattle.bits.specs.Pieces.{scatter}
 use Rattle.bits.proofs.numbers.write_number.Goals as goal

@@ -1,4 +1,4 @@
-use Rattle.std.proofs.Common.{◌-◌, sym, refl, ◌∙◌, arith, rules}
+use Rattle.std.proofs.Common.{sym, refl, ◌∙◌, arith}
 use Rattle.bits.proofs.Rows.{Turn, write-next, write-last}
 use Rattle.bits.proofs.numbers.write_numbers.Goals as goal
 

@@ -1,5 +1,5 @@
 -- `bits::numbers::write_numbers` meets its contract. Invariant: the rows from k on are still to be written. Assumes nothing.
-use Rattle.std.proofs.Common.{◌≡◌, ◌-◌, length, drop, rules}
+use Rattle.std.proofs.Common.{◌≡◌, ◌-◌, length, drop}
 use Rattle.bits.specs.Encoded.{table_of}
 use Rattle.bits.specs.Numbers.{write_numbers}
 use Rattle.bits.proofs.numbers.write_numbers.Given as goal

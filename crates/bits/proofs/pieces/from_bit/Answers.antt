@@ -1,5 +1,5 @@
 -- `bits::pieces::from_bit` meets its contract: from bit 32 on there is nothing. Assumes nothing.
-use Rattle.std.proofs.Common.{sym, rules}
+use Rattle.std.proofs.Common.{sym}
 use Rattle.bits.proofs.Enough.{shifted-out}
 use Rattle.bits.proofs.pieces.from_bit.Goals as goal
 

@@ -1,5 +1,5 @@
-use Rattle.std.proofs.Common.{ℕ, ◌-◌, ◌^◌, ◌<◌, get_or, sym, ◌∙◌, subst, mod-lt, arith, lit<, pow_pos, rules}
-use Rattle.bits.proofs.Encoded.{in-register, followed, followed-first, followed-next, followed-last}
+use Rattle.std.proofs.Common.{ℕ, ◌^◌, ◌<◌, get_or, sym, ◌∙◌, subst, mod-lt, arith, lit<, pow_pos}
+use Rattle.bits.proofs.Encoded.{in-register, followed-first, followed-next, followed-last}
 use Rattle.bits.proofs.pieces.gather.Goals as goal
 
 pub loop-k-init : goal.loop-k-init

@@ -1,5 +1,5 @@
 -- `bits::pieces::gather` meets its contract. Invariant: the pieces so far, with those from k on behind them, are the whole number. Assumes nothing.
-use Rattle.std.proofs.Common.{◌≡◌, ◌-◌, ◌%◌, ◌^◌, ◌<◌, ◌≤◌, map, length, rules}
+use Rattle.std.proofs.Common.{◌≡◌, ◌-◌, ◌%◌, ◌^◌, ◌<◌, ◌≤◌, map, length}
 use Rattle.bits.specs.Encoded.{piece_of}
 use Rattle.bits.specs.Pieces.{gather}
 use Rattle.bits.proofs.Encoded.{followed}

@@ -1,5 +1,5 @@
 -- `bits::pieces::held` meets its contract: a shift and a mask are a quotient and a remainder. Assumes nothing.
-use Rattle.std.proofs.Common.{sym, arith, rules}
+use Rattle.std.proofs.Common.{sym, arith}
 use lib.Bits.{and_mask}
 use Rattle.bits.specs.Encoded.{piece_of}
 use Rattle.bits.specs.Pieces.{held}

@@ -1,6 +1,5 @@
 -- `bits::pieces::piece_low` meets its contract. Assumes nothing.
 use Rattle.bits.specs.Encoded.{piece_of}
-use Rattle.std.proofs.Common.{rules}
 use Rattle.bits.proofs.pieces.piece_low.Goals as goal
 
 pub returns : goal.returns

@@ -1,5 +1,5 @@
 -- `bits::pieces::piece_mask` meets its contract: the shift stays below 32. Assumes nothing.
-use Rattle.std.proofs.Common.{arith, pow_pos, rules}
+use Rattle.std.proofs.Common.{arith, pow_pos}
 use Rattle.bits.specs.Encoded.{piece_of}
 use Rattle.bits.proofs.Encoded.{in-register, ones-whole}
 use Rattle.bits.proofs.pieces.piece_mask.Goals as goal

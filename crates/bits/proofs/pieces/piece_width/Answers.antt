@@ -1,5 +1,5 @@
 -- `bits::pieces::piece_width` meets its contract. Assumes nothing.
-use Rattle.std.proofs.Common.{arith, rules}
+use Rattle.std.proofs.Common.{arith}
 use Rattle.bits.specs.Encoded.{piece_of}
 use Rattle.bits.proofs.pieces.piece_width.Goals as goal
 

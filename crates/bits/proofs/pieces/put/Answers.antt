@@ -1,5 +1,5 @@
 -- `bits::pieces::put` meets its contract: reach and value are the rule's own, within 16 bits. Assumes nothing.
-use Rattle.std.proofs.Common.{sym, arith, rules}
+use Rattle.std.proofs.Common.{sym, arith}
 use Rattle.bits.proofs.Encoded.{low_below, put-absent, put-shifted, reach-below, reach-whole, value-below, value-whole}
 use Rattle.bits.proofs.pieces.put.Goals as goal
 

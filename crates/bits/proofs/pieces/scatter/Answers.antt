@@ -1,5 +1,4 @@
-use Rattle.std.proofs.Common.{◌-◌, sym, refl, ◌∙◌, rules}
-use Rattle.bits.specs.Pieces.{scatter}
+use Rattle.std.proofs.Common.{sym, refl, ◌∙◌}
 use Rattle.bits.proofs.Encoded.{scatter-next, scatter-last}
 use Rattle.bits.proofs.pieces.scatter.Goals as goal
 

@@ -1,5 +1,5 @@
 -- `bits::pieces::scatter` meets its contract. Invariant: the pieces from k on are still to be set. Assumes nothing.
-use Rattle.std.proofs.Common.{◌≡◌, ◌-◌, map, length, drop, rules}
+use Rattle.std.proofs.Common.{◌≡◌, ◌-◌, map, length, drop}
 use Rattle.bits.specs.Encoded.{piece_of}
 use Rattle.bits.specs.Pieces.{scatter}
 use Rattle.bits.proofs.pieces.scatter.Given as goal

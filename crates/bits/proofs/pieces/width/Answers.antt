@@ -1,5 +1,4 @@
-use Rattle.std.proofs.Common.{◌-◌, ◌<◌, get_or, arith, lit<, rules}
-use Rattle.bits.specs.Pieces.{width}
+use Rattle.std.proofs.Common.{get_or, arith, lit<}
 use Rattle.bits.proofs.Encoded.{in-register, width-next, width-last}
 use Rattle.bits.proofs.pieces.width.Goals as goal
 

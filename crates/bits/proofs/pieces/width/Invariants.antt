@@ -1,5 +1,5 @@
 -- `bits::pieces::width` meets its contract. Invariant: the bits so far, with the pieces from k on, are the whole width. Assumes nothing.
-use Rattle.std.proofs.Common.{◌≡◌, ◌+◌, ◌-◌, ◌<◌, map, length, drop, rules}
+use Rattle.std.proofs.Common.{◌≡◌, ◌+◌, ◌-◌, ◌<◌, map, length, drop}
 use Rattle.bits.specs.Encoded.{piece_of}
 use Rattle.bits.specs.Pieces.{width}
 use Rattle.bits.proofs.pieces.width.Given as goal

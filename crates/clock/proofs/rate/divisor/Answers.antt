@@ -1,7 +1,6 @@
 -- `rate::divisor` meets its contract. Assumes nothing.
 use native.Mathlib.Nat.{div-one}
 use native.Mathlib.Omega.{arith}
-use borrow.Author.Rules.{rules}
 use borrow.Author.Tests.{eq-eqb, ne_eqb}
 use Rattle.bits.specs.Store.{bit, bits}
 use Rattle.clock.specs.Clock.{denominator, divisor, post_scaled}

@@ -1,6 +1,5 @@
 -- `rate::dot_clock` meets its contract. Assumes nothing.
 use mathlib.Core.Path.{sym, ◌∙◌}
-use borrow.Author.Rules.{rules}
 use borrow.Author.Tests.{eq-eqb, ne_eqb}
 use Rattle.clock.specs.Clock.{dot_clock, rate}
 use Rattle.clock.proofs.rate.dot_clock.Goals as goal

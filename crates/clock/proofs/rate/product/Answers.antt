@@ -1,6 +1,5 @@
 -- `rate::product` meets its contract. Assumes nothing.
 use native.Mathlib.Nat.{div-one}
-use borrow.Author.Rules.{rules}
 use Rattle.bits.specs.Store.{bits}
 use Rattle.clock.specs.Clock.{numerator, product}
 use Rattle.clock.proofs.rate.product.Goals as goal

@@ -1,6 +1,5 @@
 -- `reader::clock` meets its contract. Assumes nothing.
 use mathlib.Core.Path.{sym, ◌∙◌}
-use borrow.Author.Rules.{rules}
 use borrow.Author.Tests.{not-true, not-false}
 use Rattle.bits.specs.Store.{bits}
 use Rattle.file.specs.File.{register}

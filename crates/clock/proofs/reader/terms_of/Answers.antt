@@ -1,6 +1,5 @@
 -- `reader::terms_of` meets its contract. Assumes nothing.
 use mathlib.Core.Path.{sym, ◌∙◌}
-use borrow.Author.Rules.{rules}
 use borrow.Author.Tests.{eq-eqb, ne_eqb}
 use Rattle.clock.specs.Clock.{terms_of}
 use Rattle.clock.specs.Lowest.{no_terms}

@@ -1,6 +1,5 @@
 -- `terms::lowest_terms` meets its contract. Assumes nothing.
 use native.Mathlib.Omega.{arith}
-use borrow.Author.Rules.{rules}
 use borrow.Author.Tests.{eq-eqb, ne_eqb}
 use Rattle.clock.specs.Lowest.{lowest, no_terms}
 use Rattle.clock.proofs.CommonDivisors.{common-positive}

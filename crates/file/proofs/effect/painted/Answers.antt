@@ -6,7 +6,6 @@ use lib.Seq.{set_out}
 use Rattle.file.specs.File.{with_palette, with_bank}
 use Rattle.file.specs.Effects.{paint_in}
 use Rattle.file.proofs.Typed.{palette-count, bank-count}
-use borrow.Author.Rules.{rules}
 use Rattle.file.proofs.effect.painted.Goals as goal
 
 pub returns-then-entry-lt-BANK : goal.returns-then-entry-lt-BANK

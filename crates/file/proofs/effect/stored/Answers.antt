@@ -6,7 +6,6 @@ use lib.Seq.{set_out}
 use Rattle.file.specs.File.{register, with_registers}
 use Rattle.file.specs.Effects.{store_in}
 use Rattle.file.proofs.Typed.{registers-count}
-use borrow.Author.Rules.{rules}
 use Rattle.file.proofs.effect.stored.Goals as goal
 
 pub returns-then-number-lt-REGISTERS : goal.returns-then-number-lt-REGISTERS

@@ -1,6 +1,5 @@
 -- `ends_at` meets its contract. Assumes nothing.
 use mathlib.Core.Path.{sym}
-use borrow.Author.Rules.{rules}
 use Rattle.file.specs.Readers.{ascii, name_table}
 use Rattle.file.specs.Registers.{registers}
 use Rattle.file.proofs.Named.{flat, block, too_long, at-dot, before-dot}

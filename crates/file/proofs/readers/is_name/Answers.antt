@@ -1,10 +1,7 @@
-use Prim.Native.Nat.{◌-◌}
 use mathlib.Core.Path.{refl, sym, ◌∙◌}
 use native.Mathlib.Omega.{arith}
-use borrow.Author.Rules.{rules}
 use borrow.Author.Tests.{eqb-true, eqb-false, not-true, not-false}
-use lib.ListN.{length}
-use Rattle.file.specs.Readers.{ascii, name_table, same}
+use Rattle.file.specs.Readers.{ascii, name_table}
 use Rattle.file.specs.Registers.{registers}
 use Rattle.file.proofs.Named.{same_end, other_length, flat, block, row-short, differs, agrees}
 use Rattle.file.proofs.readers.is_name.Goals as goal

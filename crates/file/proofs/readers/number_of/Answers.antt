@@ -1,7 +1,5 @@
-use Prim.Native.Nat.{◌-◌}
 use mathlib.Core.Path.{sym, ◌∙◌}
 use native.Mathlib.Omega.{arith}
-use borrow.Author.Rules.{rules}
 use Rattle.file.specs.Readers.{name_table, number_of}
 use Rattle.file.proofs.Named.{found, passed, ended, rows-count}
 use Rattle.file.proofs.readers.number_of.Goals as goal

@@ -1,7 +1,6 @@
 -- `number_of` meets its contract. Invariant: the rows from the number on decide. Assumes nothing.
 use Prim.Native.Nat.{◌+◌, ◌-◌, ◌≤◌}
 use mathlib.Core.Path.{◌≡◌}
-use borrow.Author.Rules.{rules}
 use lib.ListN.{drop}
 use Rattle.file.specs.Registers.{register_count}
 use Rattle.file.specs.Readers.{name_table, number_of, position}

@@ -1,5 +1,4 @@
 -- `is_sound` meets its contract: the colours play no part in soundness. Assumes nothing.
-use borrow.Author.Rules.{rules}
 use Rattle.file.specs.File.{seen}
 use Rattle.file.specs.Sound.{sound}
 use Rattle.file.proofs.sound.is_sound.Goals as goal

@@ -2,7 +2,6 @@
 use mathlib.Core.Path.{sym, ◌∙◌}
 use borrow.Author.Tests.{not-true, not-false}
 use Rattle.file.specs.State.{last_line, state_sound}
-use borrow.Author.Rules.{rules}
 use Rattle.file.proofs.sound.state_sound.Goals as goal
 
 pub returns-then-not-marks_sound : goal.returns-then-not-marks_sound

@@ -2,7 +2,6 @@
 use mathlib.Core.Bool.{true, false}
 use mathlib.Core.Path.{sym, ap, ◌∙◌}
 use native.Mathlib.Omega.{arith}
-use borrow.Author.Rules.{rules}
 use borrow.Author.Tests.{not-true, not-false}
 use Rattle.modes.specs.Scan.{parsed_of, read_axis, read_flags}
 use Rattle.modes.proofs.StagesRead.{signed-end, signed-none, signed-plus, signed-minus, signed-bad}

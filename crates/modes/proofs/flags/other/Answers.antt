@@ -3,7 +3,6 @@ use mathlib.Core.Bool.{true, false}
 use mathlib.Core.List.{◌∷◌}
 use mathlib.Core.Path.{sym, ap, ◌∙◌}
 use native.Mathlib.Omega.{arith}
-use borrow.Author.Rules.{rules}
 use borrow.Author.Tests.{not-true, not-false}
 use Rattle.modes.specs.Form.{letter}
 use Rattle.modes.specs.Scan.{at_end, axis_of, flagged, lit, parsed_of, read_other, sync}

@@ -1,7 +1,6 @@
 -- `modes::flags::second` meets its contract. Assumes nothing.
 use mathlib.Core.Path.{sym, ap, ◌∙◌}
 use native.Mathlib.Omega.{arith}
-use borrow.Author.Rules.{rules}
 use Rattle.modes.specs.Scan.{axis_of, parsed_of, read_other, sync}
 use Rattle.modes.proofs.StagesRead.{word-short, word-full}
 use Rattle.modes.proofs.flags.second.Goals as goal

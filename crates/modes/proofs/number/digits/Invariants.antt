@@ -1,6 +1,5 @@
 -- `modes::number::digits` meets its contract. Assumes nothing.
 use Prim.Native.Nat.{◌-◌}
-use borrow.Author.Rules.{rules}
 use lib.ListN.{length}
 use Rattle.modes.specs.Scan.{digit_runner}
 use Rattle.modes.proofs.Loops.{Spelling}

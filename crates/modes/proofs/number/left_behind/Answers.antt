@@ -1,5 +1,4 @@
 -- `modes::number::left_behind` meets its contract. Assumes nothing.
-use borrow.Author.Rules.{rules}
 use borrow.Author.Tests.{eq-eqb, ne_eqb}
 use Rattle.modes.proofs.number.left_behind.Goals as goal
 

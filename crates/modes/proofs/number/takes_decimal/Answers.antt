@@ -1,6 +1,5 @@
 -- `modes::number::takes_decimal` meets its contract. Assumes nothing.
 use mathlib.Core.Path.{sym, ◌∙◌}
-use borrow.Author.Rules.{rules}
 use borrow.Author.Tests.{not-true, not-false}
 use Rattle.modes.proofs.Loops.{digit-there, decimal-none, decimal-some, decimal-last}
 use Rattle.modes.proofs.number.takes_decimal.Goals as goal

@@ -1,5 +1,4 @@
 -- `modes::number::takes_digit` meets its contract. Assumes nothing.
-use borrow.Author.Rules.{rules}
 use borrow.Author.Tests.{le-ltb, lt-ltb, lt-leb, le-leb}
 use Rattle.modes.specs.Form.{digit}
 use Rattle.modes.proofs.number.takes_digit.Goals as goal

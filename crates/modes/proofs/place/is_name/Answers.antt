@@ -1,7 +1,6 @@
 -- `modes::place::is_name` meets its contract. Assumes nothing.
 use mathlib.Core.Bool.{true≢false}
 use mathlib.Core.Path.{sym, ◌∙◌}
-use borrow.Author.Rules.{rules}
 use borrow.Author.Tests.{lt-ltb, le-ltb}
 use Rattle.modes.proofs.place.is_name.Goals as goal
 

@@ -1,6 +1,5 @@
 -- `modes::place::matched` meets its contract. Assumes nothing.
 use Prim.Native.Nat.{◌-◌}
-use borrow.Author.Rules.{rules}
 use lib.ListN.{length}
 use Rattle.modes.proofs.Loops.{Matching}
 use Rattle.modes.proofs.place.matched.Given as goal

@@ -1,6 +1,5 @@
 -- `modes::place::name_length` meets its contract. Assumes nothing.
 use Prim.Native.Nat.{◌+◌, ◌-◌}
-use borrow.Author.Rules.{rules}
 use lib.ListN.{length}
 use Rattle.modes.proofs.Loops.{Naming}
 use Rattle.modes.proofs.place.name_length.Given as goal

@@ -1,7 +1,6 @@
 -- `modes::stages::behind_whole` meets its contract. Assumes nothing.
 use mathlib.Core.Path.{sym, ap, ◌∙◌}
 use native.Mathlib.Omega.{arith}
-use borrow.Author.Rules.{rules}
 use Rattle.modes.specs.Scan.{parsed_of}
 use Rattle.modes.proofs.StagesRead.{behind-point, behind-zero, behind-space}
 use Rattle.modes.proofs.stages.behind_whole.Goals as goal

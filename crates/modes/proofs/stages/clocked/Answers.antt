@@ -1,6 +1,5 @@
 -- `modes::stages::clocked` meets its contract. Assumes nothing.
 use mathlib.Core.Path.{sym, ap, ◌∙◌}
-use borrow.Author.Rules.{rules}
 use Rattle.modes.specs.Scan.{parsed_of, read_behind, read_clock}
 use Rattle.modes.proofs.StagesRead.{token-none, token-some}
 use Rattle.modes.proofs.stages.clocked.Goals as goal

@@ -1,7 +1,6 @@
 -- `modes::stages::named` meets its contract. Assumes nothing.
 use mathlib.Core.Path.{◌≡◌, sym, ap, ◌∙◌}
 use native.Mathlib.Omega.{arith}
-use borrow.Author.Rules.{rules}
 use borrow.Author.Tests.{not-true, not-false}
 use Rattle.modes.specs.Scan.{parsed_of}
 use Rattle.modes.proofs.StagesRead.{name-none, name-open, name-close, name_done}

@@ -1,7 +1,5 @@
-use Prim.Native.Nat.{◌-◌}
 use mathlib.Core.Path.{refl, sym, ap, ◌∙◌}
 use native.Mathlib.Omega.{arith}
-use borrow.Author.Rules.{rules}
 use borrow.Author.Tests.{not-true, not-false}
 use Rattle.modes.specs.Scan.{parsed_of, unflagged}
 use Rattle.modes.proofs.StagesRead.{numbering, numbers-none, numbers-bad, numbers-next, numbers-done}

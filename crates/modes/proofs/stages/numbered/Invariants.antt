@@ -1,6 +1,5 @@
 -- `modes::stages::numbered` meets its contract. Assumes nothing.
 use Prim.Native.Nat.{◌-◌}
-use borrow.Author.Rules.{rules}
 use Rattle.modes.proofs.StagesRead.{Numbering}
 use Rattle.modes.proofs.stages.numbered.Given as goal
 

@@ -1,6 +1,5 @@
 -- `modes::stages::parse` meets its contract. Assumes nothing.
 use mathlib.Core.Path.{subst, sym, ap, ◌∙◌}
-use borrow.Author.Rules.{rules}
 use Rattle.modes.specs.Form.{header}
 use Rattle.modes.specs.Promises.{Told}
 use Rattle.modes.specs.Scan.{parsed_of}

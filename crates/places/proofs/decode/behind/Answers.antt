@@ -4,7 +4,6 @@ use mathlib.Core.Path.{ap}
 use lib.ListN.{get_or}
 use borrow.Author.Tests.{lt-ltb, le-ltb, eq-eqb, ne_eqb}
 use Rattle.places.specs.EngineCells.{behind_srx, behind_crx, behind_grx, behind_arx, behind_cell}
-use borrow.Author.Rules.{rules}
 use Rattle.places.proofs.decode.behind.Goals as goal
 
 pub returns-then-cell-lt-FIRST_INDEXED : goal.returns-then-cell-lt-FIRST_INDEXED

@@ -2,7 +2,6 @@
 use borrow.Author.Tests.{eq-eqb, ne_eqb}
 use Rattle.places.specs.EngineCells.{cell_in, port_cell, mmio_cell, config_cell}
 use mathlib.Core.Path.{ap, ◌∙◌}
-use borrow.Author.Rules.{rules}
 use Rattle.places.proofs.decode.cell_at.Goals as goal
 
 pub returns-then-space-eq0 : goal.returns-then-space-eq0

@@ -1,5 +1,4 @@
 -- `cells` meets its contract: a case for each chip. Assumes nothing.
-use borrow.Author.Rules.{rules}
 use Rattle.places.proofs.decode.cells.Goals as goal
 
 pub returns-in-Gd5462 : goal.returns-in-Gd5462

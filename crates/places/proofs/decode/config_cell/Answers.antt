@@ -1,7 +1,6 @@
 -- `config_cell` meets its contract. Assumes nothing.
 use borrow.Author.Tests.{le-ltb, lt-ltb}
 use Rattle.places.specs.EngineCells.{config_cell}
-use borrow.Author.Rules.{rules}
 use Rattle.places.proofs.decode.config_cell.Goals as goal
 
 pub returns-then-at-lt-CONFIG : goal.returns-then-at-lt-CONFIG

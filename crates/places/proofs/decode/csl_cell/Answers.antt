@@ -1,7 +1,6 @@
 -- `csl_cell` meets its contract. Assumes nothing.
 use borrow.Author.Tests.{le-leb, lt-leb, le-ltb, lt-ltb}
 use Rattle.places.specs.EngineCells.{csl_cell}
-use borrow.Author.Rules.{rules}
 use Rattle.places.proofs.decode.csl_cell.Goals as goal
 
 pub returns-then-at-lt-CSL_ADDRESS : goal.returns-then-at-lt-CSL_ADDRESS

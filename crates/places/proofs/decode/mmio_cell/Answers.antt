@@ -1,7 +1,6 @@
 -- `mmio_cell` meets its contract. Assumes nothing.
 use borrow.Author.Tests.{le-leb, lt-leb, le-ltb, lt-ltb}
 use Rattle.places.specs.EngineCells.{mmio_cell}
-use borrow.Author.Rules.{rules}
 use Rattle.places.proofs.decode.mmio_cell.Goals as goal
 
 pub returns-then-at-lt-MMIO : goal.returns-then-at-lt-MMIO

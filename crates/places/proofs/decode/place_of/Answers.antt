@@ -8,7 +8,6 @@ use Rattle.places.specs.declared.place.Place.TheVariants.{Unnamed}
 use borrow.Author.Tests.{le-ltb, lt-ltb}
 use Rattle.places.specs.EngineCells.{first_indexed, wider, behind_srx, behind_crx, behind_grx, behind_arx, plain_place, attribute_place, indexed_places, cell_place}
 use Rattle.file.specs.File.{seen}
-use borrow.Author.Rules.{rules}
 use Rattle.places.proofs.decode.place_of.Goals as goal
 
 -- 'ARX[4:0]'

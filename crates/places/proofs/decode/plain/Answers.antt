@@ -6,7 +6,6 @@ use lib.ListN.{get_or}
 use Rattle.places.specs.declared.place.Place.TheVariants.{Unnamed}
 use borrow.Author.Tests.{le-ltb, lt-ltb}
 use Rattle.places.specs.EngineCells.{first_alone, alone, plain_place}
-use borrow.Author.Rules.{rules}
 use Rattle.places.proofs.decode.plain.Goals as goal
 
 -- at least a number and not that number

@@ -4,7 +4,6 @@ use Rattle.places.specs.EngineCells.{port_cell}
 use mathlib.Core.Path.{ap}
 use native.Mathlib.Omega.{arith}
 use lib.ListN.{get_or}
-use borrow.Author.Rules.{rules}
 use Rattle.places.proofs.decode.port_cell.Goals as goal
 
 pub returns-then-at-lt-FIRST_PORT : goal.returns-then-at-lt-FIRST_PORT

@@ -5,7 +5,6 @@ use Rattle.places.specs.Lookup.{selects, first, place_of_row, other_way, some_ro
 use Rattle.places.specs.Places.{places}
 use mathlib.Core.Path.{refl}
 use Rattle.places.specs.EngineCells.{plain_cell, indexed_cell, of_kind, of_address, rows_in, rows_at, cell_of, held_cell, nothing_at, cell_at, chosen, cells_from, behind_port, tabled, table_cell, cell_table}
-use borrow.Author.Rules.{rules}
 use Rattle.places.proofs.decode.with_line.Goals as goal
 
 pub returns : goal.returns

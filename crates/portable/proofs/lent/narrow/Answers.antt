@@ -1,4 +1,3 @@
-use Prim.Native.Nat.{◌-◌}
 use native.Mathlib.Omega.{arith}
 use Rattle.portable.proofs.Copied.{copying-first, copying-next, copying-last}
 use Rattle.portable.proofs.lent.narrow.Goals as goal

@@ -1,7 +1,6 @@
 -- `portable::table::in_range` meets its contract: the constants are Table 9-1. Assumes nothing.
 use Rattle.bits.specs.Encoded.{piece_of, meaning_of, row_of, table_of}
 use Rattle.portable.specs.Table.{table}
-use borrow.Author.Rules.{rules}
 use Rattle.portable.proofs.table.in_range.Goals as goal
 
 pub returns : goal.returns

@@ -4,7 +4,6 @@ use Rattle.bits.specs.Encoded.{piece_of, meaning_of, row_of, table_of}
 use Rattle.bits.specs.Numbers.{read_numbers}
 use Rattle.portable.specs.Table.{table}
 use Rattle.portable.proofs.Computed.{words-read}
-use borrow.Author.Rules.{rules}
 use Rattle.portable.proofs.table.read.Goals as goal
 
 pub returns : goal.returns

@@ -7,7 +7,6 @@ use Rattle.bits.specs.Numbers.{write_numbers}
 use Rattle.bits.proofs.Tables.{written-length}
 use Rattle.portable.specs.Table.{table}
 use Rattle.portable.proofs.Bytes.{written-bytes}
-use borrow.Author.Rules.{rules}
 use Rattle.portable.proofs.table.write.Goals as goal
 
 pub narrow-requires : goal.narrow-requires

@@ -2,7 +2,6 @@
 use mathlib.Core.Path.{refl}
 use native.Mathlib.Omega.{arith}
 use Rattle.timing.specs.Timing.{numbers_of}
-use borrow.Author.Rules.{rules}
 use Rattle.timing.proofs.Timing.numbers.Goals as goal
 
 pub overflow_cast-result-7 : goal.overflow_cast-result-7

@@ -2,7 +2,6 @@
 use mathlib.Core.Path.{refl}
 use lib.Dec.{lit<}
 use Rattle.timing.specs.Timing.{timing_of}
-use borrow.Author.Rules.{rules}
 use Rattle.timing.proofs.Timing.of.Goals as goal
 
 pub overflow_cast-result : goal.overflow_cast-result

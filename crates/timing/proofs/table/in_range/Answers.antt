@@ -6,7 +6,6 @@ use Rattle.bits.specs.Encoded.{piece_of, meaning_of}
 use Rattle.bits.specs.Numbers.{all_in_range}
 use Rattle.bits.proofs.Steps.{first, Ranged, ranged-from}
 use Rattle.timing.specs.Table.{table}
-use borrow.Author.Rules.{rules}
 use Rattle.timing.proofs.table.in_range.Goals as goal
 
 pub returns : goal.returns

@@ -7,7 +7,6 @@ use Rattle.bits.specs.Pieces.{width}
 use Rattle.bits.proofs.Steps.{Reads, reads-words}
 use Rattle.timing.specs.Table.{table}
 use Rattle.timing.proofs.Computed.{words-read}
-use borrow.Author.Rules.{rules}
 use Rattle.timing.proofs.table.read.Goals as goal
 
 pub returns : goal.returns

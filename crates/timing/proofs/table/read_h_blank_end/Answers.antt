@@ -2,7 +2,6 @@
 use mathlib.Core.Path.{refl}
 use Rattle.bits.specs.Encoded.{piece_of, meaning_of}
 use Rattle.bits.specs.Pieces.{width}
-use borrow.Author.Rules.{rules}
 use Rattle.timing.proofs.table.read_h_blank_end.Goals as goal
 
 pub returns-then-wide : goal.returns-then-wide

@@ -1,6 +1,5 @@
 -- `timing::table::v_blank_end_with_rest` meets its contract, in a wide file and in a narrow one. Assumes nothing.
 use Rattle.bits.specs.Encoded.{piece_of, meaning_of}
-use borrow.Author.Rules.{rules}
 use Rattle.timing.proofs.table.v_blank_end_with_rest.Goals as goal
 
 pub returns-then-wide : goal.returns-then-wide

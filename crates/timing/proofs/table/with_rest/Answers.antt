@@ -1,5 +1,4 @@
 -- `timing::table::with_rest` meets its contract. Assumes nothing.
-use borrow.Author.Rules.{rules}
 use Rattle.timing.proofs.table.with_rest.Goals as goal
 
 pub returns-then-number_in_range : goal.returns-then-number_in_range

@@ -8,7 +8,6 @@ use Rattle.bits.specs.Numbers.{stored_for}
 use Rattle.bits.proofs.Steps.{last_of, Writes, writes-numbers}
 use Rattle.bits.proofs.Tables.{written-length}
 use Rattle.timing.specs.Table.{table}
-use borrow.Author.Rules.{rules}
 use Rattle.timing.proofs.table.write.Goals as goal
 
 pub returns : goal.returns

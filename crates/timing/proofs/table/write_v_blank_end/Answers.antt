@@ -1,7 +1,6 @@
 -- `timing::table::write_v_blank_end` meets its contract, in a wide file and in a narrow one. Assumes nothing.
 use Rattle.bits.specs.Encoded.{piece_of, meaning_of}
 use Rattle.bits.specs.Numbers.{stored_for}
-use borrow.Author.Rules.{rules}
 use Rattle.timing.proofs.table.write_v_blank_end.Goals as goal
 
 pub returns-then-wide : goal.returns-then-wide

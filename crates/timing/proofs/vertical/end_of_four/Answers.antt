@@ -1,7 +1,6 @@
 -- `end_of_four` meets its contract. Assumes nothing.
 use mathlib.Core.Path.{refl}
 use Rattle.bits.specs.Numbers.{end_after}
-use borrow.Author.Rules.{rules}
 use Rattle.timing.proofs.vertical.end_of_four.Goals as goal
 
 pub returns : goal.returns

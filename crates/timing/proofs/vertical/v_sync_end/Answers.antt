@@ -7,7 +7,6 @@ use Rattle.file.specs.Names.{CR11}
 use Rattle.file.specs.State.{unasked}
 use Rattle.timing.specs.declared.Scanlines.{Scanlines}
 use Rattle.timing.proofs.VerticalNumbers.{sync-start-below, sync-end-by}
-use borrow.Author.Rules.{rules}
 use Rattle.timing.proofs.vertical.v_sync_end.Goals as goal
 
 pub end_of_four-requires : goal.end_of_four-requires

@@ -7,7 +7,6 @@ use Rattle.bits.specs.Pieces.{width, held, gather}
 use Rattle.file.specs.File.{seen}
 use Rattle.timing.specs.Table.{table}
 use Rattle.timing.specs.Timing.{timing_in, timing_of}
-use borrow.Author.Rules.{rules}
 use Rattle.timing.proofs.vertical.v_sync_start.Goals as goal
 
 pub returns : goal.returns

@@ -1,6 +1,5 @@
 -- `agrees_outside` meets its contract. Assumes nothing.
 use Rattle.touched.specs.Outside.{agrees_outside}
-use borrow.Author.Rules.{rules}
 use Rattle.touched.proofs.outside.agrees_outside.Goals as goal
 
 pub returns : goal.returns

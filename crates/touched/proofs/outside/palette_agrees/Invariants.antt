@@ -1,7 +1,6 @@
 -- `palette_agrees` meets its contract. Assumes nothing.
 use Prim.Native.Nat.{◌-◌, ◌≤◌}
 use mathlib.Core.Path.{◌≡◌}
-use borrow.Author.Rules.{rules}
 use Rattle.bits.specs.Every.{every_below}
 use Rattle.touched.proofs.Turns.{entry_agrees}
 use Rattle.touched.proofs.outside.palette_agrees.Given as goal

@@ -1,7 +1,6 @@
-use Prim.Native.Nat.{ℕ, ◌-◌}
+use Prim.Native.Nat.{ℕ}
 use mathlib.Core.Path.{◌≡◌, refl, subst}
 use native.Mathlib.Omega.{arith}
-use borrow.Author.Rules.{rules}
 use Rattle.bits.specs.Every.{every_below}
 use Rattle.file.specs.File.{register, black}
 use Rattle.touched.specs.Outside.{register_agrees}

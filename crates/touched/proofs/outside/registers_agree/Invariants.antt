@@ -1,7 +1,6 @@
 -- `registers_agree` meets its contract. Assumes nothing.
 use Prim.Native.Nat.{◌-◌, ◌≤◌}
 use mathlib.Core.Path.{◌≡◌}
-use borrow.Author.Rules.{rules}
 use Rattle.bits.specs.Every.{every_below}
 use Rattle.touched.proofs.Turns.{word_agrees}
 use Rattle.touched.proofs.outside.registers_agree.Given as goal

@@ -1,6 +1,5 @@
 -- `same_pointer` meets its contract. Assumes nothing.
 use Rattle.touched.specs.Outside.{same_pointer}
-use borrow.Author.Rules.{rules}
 use Rattle.touched.proofs.outside.same_pointer.Goals as goal
 
 pub returns : goal.returns

@@ -1,6 +1,5 @@
 -- `state_agrees` meets its contract. Assumes nothing.
 use Rattle.touched.specs.Outside.{state_agrees}
-use borrow.Author.Rules.{rules}
 use Rattle.touched.proofs.outside.state_agrees.Goals as goal
 
 pub returns : goal.returns

@@ -1,5 +1,4 @@
 -- `either` meets its contract. Assumes nothing.
-use borrow.Author.Rules.{rules}
 use Rattle.touched.proofs.reached.either.Goals as goal
 
 pub returns-then-named : goal.returns-then-named

@@ -1,9 +1,6 @@
-use Prim.Native.Nat.{◌-◌}
 use native.Mathlib.Omega.{arith}
 use mathlib.Core.Bool.{false}
-use borrow.Author.Rules.{rules}
 use lib.ListN.{get_or}
-use Rattle.touched.specs.Things.{many}
 use Rattle.touched.proofs.Turns.{one-few, many-turn, many-done}
 use Rattle.touched.proofs.sizing.many.Goals as goal
 

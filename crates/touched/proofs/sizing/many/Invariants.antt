@@ -1,7 +1,6 @@
 -- `many` meets its contract. Assumes nothing.
 use Prim.Native.Nat.{◌+◌, ◌-◌, ◌≤◌}
 use mathlib.Core.Path.{◌≡◌}
-use borrow.Author.Rules.{rules}
 use lib.ListN.{drop, length}
 use Rattle.touched.specs.Things.{many}
 use Rattle.touched.proofs.sizing.many.Given as goal

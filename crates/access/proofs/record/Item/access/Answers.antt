@@ -1,6 +1,5 @@
 -- `Item::access` meets its contract. Assumes nothing.
 use mathlib.Core.Path.{sym, ◌∙◌}
-use borrow.Author.Rules.{rules}
 use Rattle.access.specs.Access.{access_item}
 use Rattle.access.proofs.record.Item.access.Goals as goal
 

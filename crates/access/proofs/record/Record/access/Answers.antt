@@ -7,7 +7,6 @@ use Rattle.access.specs.Access.{access, handed}
 use Rattle.access.specs.declared.engine.Decision.{Decision}
 use Rattle.access.specs.Engine.{decision}
 use Rattle.access.proofs.Refusals.{unsound-answer, unsound-effect}
-use borrow.Author.Rules.{rules}
 use Rattle.access.proofs.record.Record.access.Goals as goal
 
 pub returns-then-not-is_sound : goal.returns-then-not-is_sound

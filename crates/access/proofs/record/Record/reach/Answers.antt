@@ -7,7 +7,6 @@ use Rattle.file.specs.Effects.{reach_of}
 use Rattle.access.specs.Access.{reach, read_reach}
 use Rattle.access.specs.declared.engine.Decision.{Decision}
 use Rattle.access.specs.Engine.{decision}
-use borrow.Author.Rules.{rules}
 use Rattle.access.proofs.record.Record.reach.Goals as goal
 
 pub returns-then-not-is_sound : goal.returns-then-not-is_sound

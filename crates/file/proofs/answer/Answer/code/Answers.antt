@@ -1,5 +1,4 @@
 -- `Answer::code` meets its contract: each arm gives 01's number of its case. Assumes nothing.
-use borrow.Author.Rules.{rules}
 use Rattle.file.specs.Answers.{code_of}
 use Rattle.file.proofs.answer.Answer.code.Goals as goal
 

@@ -2,7 +2,6 @@
 use mathlib.Core.Path.{◌≡◌, refl}
 use mathlib.Core.List.{List, [], ◌∷◌}
 use Prim.Native.Nat.{ℕ}
-use borrow.Author.Rules.{rules}
 use denote.Enum.Declared.{tag_of}
 use borrow.Enum.Refused.{opened}
 use types.Run.{OneOf, miss}

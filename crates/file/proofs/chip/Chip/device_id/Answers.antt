@@ -1,5 +1,4 @@
 -- `Chip::device_id` meets its contract: a case for each chip. Assumes nothing.
-use borrow.Author.Rules.{rules}
 use Rattle.file.specs.Chips.{pci02}
 use Rattle.file.proofs.chip.Chip.device_id.Goals as goal
 

@@ -1,5 +1,4 @@
 -- `Chip::v_port_at_power_on` meets its contract: a case for each chip. Assumes nothing.
-use borrow.Author.Rules.{rules}
 use Rattle.file.specs.Chips.{v_port_at_power_on}
 use Rattle.file.proofs.chip.Chip.v_port_at_power_on.Goals as goal
 

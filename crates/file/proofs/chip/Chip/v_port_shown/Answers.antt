@@ -1,5 +1,4 @@
 -- `Chip::v_port_shown` meets its contract: a case for each chip. Assumes nothing.
-use borrow.Author.Rules.{rules}
 use Rattle.file.specs.Chips.{v_port_shown}
 use Rattle.file.proofs.chip.Chip.v_port_shown.Goals as goal
 

@@ -1,5 +1,4 @@
 -- `Chip::v_port_stored` meets its contract: a case for each chip. Assumes nothing.
-use borrow.Author.Rules.{rules}
 use Rattle.file.specs.Registers.{stored_bits}
 use Rattle.file.proofs.chip.Chip.v_port_stored.Goals as goal
 

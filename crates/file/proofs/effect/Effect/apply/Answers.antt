@@ -3,7 +3,6 @@ use mathlib.Core.Path.{sym, ap, ap₂, ◌∙◌}
 use Rattle.file.specs.declared.effect.Effect.{Effect}
 use Rattle.file.specs.Effects.{apply}
 use Rattle.file.specs.File.{with_state}
-use borrow.Author.Rules.{rules}
 use Rattle.file.proofs.effect.Effect.apply.Goals as goal
 
 pub returns-in-Nothing : goal.returns-in-Nothing

@@ -1,6 +1,5 @@
 -- `reach` meets its contract. Assumes nothing.
 use Rattle.file.specs.Effects.{reach_of}
-use borrow.Author.Rules.{rules}
 use Rattle.file.proofs.effect.Effect.reach.Goals as goal
 
 pub returns-in-Nothing : goal.returns-in-Nothing

@@ -1,6 +1,5 @@
 -- `Reach::none` meets its contract. Assumes nothing.
 use Rattle.file.specs.Effects.{reach_of}
-use borrow.Author.Rules.{rules}
 use Rattle.file.proofs.effect.Reach.none.Goals as goal
 
 pub returns : goal.returns

@@ -2,7 +2,6 @@
 use mathlib.Core.Path.{sym, ap, ◌∙◌}
 use Rattle.file.specs.Palette.{addressed, moved, after_write}
 use Rattle.file.proofs.Colours.{blue-left}
-use borrow.Author.Rules.{rules}
 use Rattle.file.proofs.palette.Pointer.after_write.Goals as goal
 
 pub returns-in-0 : goal.returns-in-0

@@ -2,7 +2,6 @@
 use mathlib.Core.Path.{sym}
 use native.Mathlib.Nat.{zero-add}
 use Rattle.file.specs.Palette.{marks_from}
-use borrow.Author.Rules.{rules}
 use Rattle.file.proofs.palette.Pointer.marks.Goals as goal
 
 pub returns-then-reading : goal.returns-then-reading

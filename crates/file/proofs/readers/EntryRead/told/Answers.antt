@@ -1,6 +1,5 @@
 -- `EntryRead::told` meets its contract. Assumes nothing.
 use Rattle.file.specs.Readers.{entry_told}
-use borrow.Author.Rules.{rules}
 use Rattle.file.proofs.readers.EntryRead.told.Goals as goal
 
 pub returns-then-there : goal.returns-then-there

@@ -1,7 +1,6 @@
 -- `File::marks_now` meets its contract. Assumes nothing.
 use mathlib.Core.Path.{sym, ◌∙◌}
 use Rattle.file.specs.Readers.{read_marks}
-use borrow.Author.Rules.{rules}
 use Rattle.file.proofs.registers.File.marks_now.Goals as goal
 
 pub returns-then-is_sound : goal.returns-then-is_sound

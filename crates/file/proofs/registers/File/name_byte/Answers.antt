@@ -1,5 +1,4 @@
 -- `File::name_byte` meets its contract. Assumes nothing.
-use borrow.Author.Rules.{rules}
 use Rattle.file.specs.Readers.{ascii, name_table}
 use Rattle.file.specs.Registers.{registers}
 use Rattle.file.proofs.Named.{block, flat}

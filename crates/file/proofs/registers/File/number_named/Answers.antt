@@ -1,5 +1,4 @@
 -- `File::number_named` meets its contract. Assumes nothing.
-use borrow.Author.Rules.{rules}
 use borrow.Author.Tests.{lt-ltb, le-ltb}
 use Rattle.file.specs.Readers.{read_number}
 use Rattle.file.proofs.registers.File.number_named.Goals as goal

@@ -2,7 +2,6 @@
 use Rattle.file.specs.File.{black}
 use Rattle.file.specs.Readers.{read_palette}
 use Rattle.file.proofs.Colours.{told_at}
-use borrow.Author.Rules.{rules}
 use Rattle.file.proofs.registers.File.palette_entry.Goals as goal
 
 pub returns : goal.returns

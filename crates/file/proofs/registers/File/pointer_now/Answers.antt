@@ -2,7 +2,6 @@
 use mathlib.Core.Path.{sym, ◌∙◌}
 use Rattle.file.specs.Readers.{read_pointer}
 use Rattle.file.specs.State.{initial}
-use borrow.Author.Rules.{rules}
 use Rattle.file.proofs.registers.File.pointer_now.Goals as goal
 
 pub returns-then-is_sound : goal.returns-then-is_sound

@@ -1,5 +1,4 @@
 -- `File::power_on` meets its contract. Assumes nothing.
-use borrow.Author.Rules.{rules}
 use Rattle.file.specs.File.{power_on}
 use Rattle.file.proofs.registers.File.power_on.Goals as goal
 

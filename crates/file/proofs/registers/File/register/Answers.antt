@@ -3,7 +3,6 @@ use mathlib.Core.Path.{sym, ◌∙◌}
 use borrow.Author.Tests.{lt-ltb, le-ltb, not-true, not-false}
 use Rattle.file.specs.File.{register}
 use Rattle.file.specs.Readers.{read_register}
-use borrow.Author.Rules.{rules}
 use Rattle.file.proofs.registers.File.register.Goals as goal
 
 pub returns-then-not-is_sound : goal.returns-then-not-is_sound

@@ -1,7 +1,6 @@
 -- `File::register_named` meets its contract. Assumes nothing.
 use Prim.Native.Nat.{ℕ}
 use mathlib.Core.Path.{ap, ◌∙◌}
-use borrow.Author.Rules.{rules}
 use Rattle.file.specs.Readers.{read_named, read_register}
 use Rattle.file.proofs.registers.File.register_named.Goals as goal
 

@@ -1,5 +1,4 @@
 -- `stored` meets its contract. Assumes nothing.
-use borrow.Author.Rules.{rules}
 use Rattle.file.specs.Registers.{stored_bits, stored_table}
 use Rattle.file.proofs.registers.File.stored.Goals as goal
 

@@ -2,7 +2,6 @@
 use Prim.Native.Nat.{ℕ}
 use mathlib.Core.List.{List}
 use mathlib.Core.Path.{sym, ap}
-use borrow.Author.Rules.{rules}
 use lib.ListN.{get_or, get_or-eq_default}
 use Rattle.file.specs.Registers.{stored_bits, stored_table}
 use Rattle.file.proofs.registers.File.stored_bits.Goals as goal

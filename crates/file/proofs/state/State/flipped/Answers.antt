@@ -2,7 +2,6 @@
 use Rattle.file.specs.State.{toggling, flipped}
 use mathlib.Core.Path.{◌≡◌, refl, ap, ◌∙◌}
 use mathlib.Core.Bool.{Bool, true, false, not, cond, beq}
-use borrow.Author.Rules.{rules}
 use Rattle.file.proofs.state.State.flipped.Goals as goal
 
 -- what differs from a truth value is its opposite

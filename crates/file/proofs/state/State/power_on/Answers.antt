@@ -1,6 +1,5 @@
 -- `power_on` meets its contract. Assumes nothing.
 use Rattle.file.specs.State.{initial}
-use borrow.Author.Rules.{rules}
 use Rattle.file.proofs.state.State.power_on.Goals as goal
 
 pub returns : goal.returns

@@ -3,7 +3,6 @@ use Prim.Native.Nat.{◌≤◌}
 use native.Mathlib.Omega.{arith}
 use lib.ListN.{length}
 use lib.Seq.{set_out}
-use borrow.Author.Rules.{rules}
 use Rattle.touched.specs.Noted.{also}
 use Rattle.touched.proofs.SetIsSet.{is-set}
 use Rattle.touched.proofs.set.Touched.also_palette.Goals as goal

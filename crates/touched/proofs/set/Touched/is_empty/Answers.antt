@@ -3,7 +3,6 @@ use Prim.Native.Nat.{ℕ}
 use mathlib.Core.Path.{ap}
 use lib.Dec.{eqb}
 use Rattle.touched.specs.Things.{is_empty}
-use borrow.Author.Rules.{rules}
 use Rattle.touched.proofs.set.Touched.is_empty.Goals as goal
 
 pub returns : goal.returns

@@ -1,6 +1,5 @@
 -- `note` meets its contract. Assumes nothing.
 use mathlib.Core.Path.{ap, ◌∙◌}
-use borrow.Author.Rules.{rules}
 use Rattle.touched.specs.declared.set.Touched.{Touched}
 use Rattle.touched.specs.Noted.{also, noted}
 use Rattle.touched.proofs.set.Touched.note.Goals as goal

@@ -3,7 +3,6 @@ use native.Mathlib.Omega.{arith}
 use Rattle.touched.specs.Things.{size}
 use Rattle.touched.proofs.SetIsSet.{is-set}
 use Rattle.touched.proofs.Turns.{one-few, many-few}
-use borrow.Author.Rules.{rules}
 use Rattle.touched.proofs.set.Touched.size.Goals as goal
 
 pub overflow_add-entries : goal.overflow_add-entries
