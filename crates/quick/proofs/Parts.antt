@@ -1,6 +1,6 @@
 -- A state's bytes are the state, and a decision carried out on registers and state, by what its effect is. Assumes nothing.
 use Prim.Native.Nat.{ℕ, ◌<◌}
-use mathlib.Core.Path.{◌≡◌, refl, sym, ap, ◌∙◌, subst}
+use mathlib.Core.Path.{◌≡◌, refl, sym, ◌∙◌, subst}
 use mathlib.Core.Bool.{Bool, true, false, cond, true≢false}
 use mathlib.Core.List.{List}
 use native.Mathlib.Omega.{arith}
@@ -16,12 +16,12 @@ use Rattle.file.specs.Answers.{code_of, value_of, refused}
 use Rattle.file.specs.Effects.{apply}
 use Rattle.places.specs.declared.place.Place.{Place}
 use Rattle.places.specs.EngineCells.{plain_place}
-use Rattle.places.specs.Profile.{Reading, Writing, profile, reads_pixel}
+use Rattle.places.specs.Profile.{profile, reads_pixel}
 use Rattle.access.specs.declared.engine.Decision.{Decision}
 use Rattle.access.specs.Access.{answer_of_read, read_effect, write_answer, write_effect}
 use Rattle.access.specs.Engine.{reach_by, decided_read, decided_write}
 use Rattle.places.specs.EngineCells.{taken}
-use Rattle.quick.specs.Painting.{paints, paints_bank, paints_colour}
+use Rattle.quick.specs.Painting.{paints}
 use Rattle.quick.specs.Said.{plain_said, code_in, value_in, mark_in, pixel_in, paints_in, Told}
 use Rattle.quick.specs.Smalls.{smalls_of, state_of}
 use Rattle.quick.specs.Turned.{Turned}

@@ -4,21 +4,20 @@ use mathlib.Core.Path.{◌≡◌, refl, sym, ap, ap₂, ◌∙◌, subst}
 use mathlib.Core.Bool.{Bool, true, false, cond, true≢false}
 use mathlib.Core.List.{List, []}
 use native.Mathlib.Omega.{arith}
-use lib.Dec.{eqb, leb}
+use lib.Dec.{eqb}
 use lib.ListN.{set}
 use borrow.Author.Tests.{le-leb}
 use Rattle.bits.proofs.Test.{by-test}
 use Rattle.file.specs.declared.answer.Answer.TheVariants.{Done, PaletteDown}
-use Rattle.file.specs.declared.effect.Effect.TheVariants.{Nothing, Move, Step, Paint}
-use Rattle.file.specs.declared.palette.Colour.{Colour}
+use Rattle.file.specs.declared.effect.Effect.TheVariants.{Move, Step, Paint}
 use Rattle.file.specs.declared.palette.Pointer.{Pointer}
 use Rattle.file.specs.declared.registers.File.{File}
 use Rattle.file.specs.declared.state.State.{State}
 use Rattle.file.specs.Answers.{code_of, value_of, refused}
 use Rattle.file.specs.Effects.{apply}
-use Rattle.file.specs.File.{seen, register}
-use Rattle.file.specs.Palette.{by_colour, addressed, moved, after_write, after_read, stores, mixed, marks_from}
-use Rattle.file.specs.State.{unasked, pointing, stepping}
+use Rattle.file.specs.File.{seen}
+use Rattle.file.specs.Palette.{addressed, moved, after_write, after_read, stores, mixed, marks_from}
+use Rattle.file.specs.State.{pointing, stepping}
 use Rattle.file.proofs.Colours.{blue-left}
 use Rattle.places.specs.EngineCells.{taken}
 use Rattle.places.specs.Profile.{gives_pixel, sets_address, writes_pixel, reads_pixel}

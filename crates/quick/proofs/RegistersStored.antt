@@ -1,11 +1,10 @@
 -- Registers stored where they stand. Assumes nothing.
 use Prim.Native.Nat.{ℕ, ◌<◌, ◌≤◌}
-use mathlib.Core.Path.{◌≡◌, refl, sym, ap, ap₂, ◌∙◌, subst}
-use mathlib.Core.Bool.{Bool, true, false, cond, not, ◌&&◌}
+use mathlib.Core.Path.{◌≡◌, refl, sym, ap, ◌∙◌}
+use mathlib.Core.Bool.{Bool, true, false, cond, not}
 use mathlib.Core.List.{List}
 use native.Mathlib.Omega.{arith}
 use borrow.Author.Tests.{lt-ltb, le-ltb, lt-leb, ne_eqb}
-use lib.Dec.{eqb}
 use lib.ListN.{get_or, set}
 use lib.Seq.{get_or-set_other}
 use Rattle.bits.specs.Store.{store}
@@ -14,7 +13,7 @@ use Rattle.file.specs.declared.answer.Answer.TheVariants.{Done, Locked, NoRegist
 use Rattle.file.specs.declared.effect.Effect.TheVariants.{Nothing, Store, Toggle}
 use Rattle.file.specs.declared.registers.File.{File}
 use Rattle.file.specs.declared.state.State.{State}
-use Rattle.file.specs.Answers.{code_of, value_of, refused}
+use Rattle.file.specs.Answers.{code_of, refused}
 use Rattle.file.specs.Effects.{apply}
 use Rattle.file.specs.File.{seen, register, crtc_locked}
 use Rattle.file.specs.Names.{MISC, ARX, PCI04, CR0, CR6, CR7}

@@ -5,8 +5,8 @@ use mathlib.Core.Bool.{Bool, true, false, cond, true≢false, not, ◌&&◌, ◌
 use mathlib.Core.List.{List, [], ◌∷◌}
 use native.Mathlib.Nat.{mod-eq_of_lt}
 use native.Mathlib.Omega.{arith}
-use borrow.Author.Tests.{lt-ltb, le-ltb, lt-leb, eq-eqb, ne_eqb, eqb-true, eqb-false, leb-true, ltb-true}
-use lib.Dec.{T, eqb, leb, ltb, ltb→lt}
+use borrow.Author.Tests.{le-ltb, lt-leb, eq-eqb, eqb-true, eqb-false, leb-true, ltb-true}
+use lib.Dec.{T, eqb, ltb, ltb→lt}
 use lib.ListN.{get_or}
 use Rattle.bits.specs.Store.{bit}
 use Rattle.bits.proofs.Bit.{bit-zero}
@@ -22,7 +22,6 @@ use Rattle.places.specs.Lookup.{selects, first, place_of_row, other_way, some_ro
 use Rattle.places.specs.Places.{places}
 use Rattle.places.specs.EngineCells.{other_way_held, wider, is_nothing, cell_width, cell_in, cell_place, behind_arx, behind_cell, plain_cell, indexed_cell, of_kind, of_address, rows_in, rows_at, cell_of, held_cell, nothing_at, cell_at, chosen, cells_from, behind_port, tabled, table_cell, cell_table}
 use Rattle.access.specs.declared.engine.Looked.TheVariants.{Refused, At}
-use Rattle.access.specs.declared.record.Record.{Record}
 use Rattle.access.specs.Checks.{is_write, is_port, is_mmio, bad_access, space_off}
 use Rattle.access.specs.Engine.{no_access, other_row, looked_by}
 use Rattle.access.proofs.PassedChecks.{word_fits}

@@ -3,28 +3,26 @@
 use Prim.Native.Nat.{ℕ, ◌%◌, ◌<◌}
 use mathlib.Core.Path.{◌≡◌, refl, sym, ap, ap₂, ◌∙◌, subst}
 use mathlib.Core.Bool.{Bool, true, false, cond, true≢false, not, ◌&&◌}
-use mathlib.Core.List.{List, []}
-use lib.Dec.{T, ltb, eqb→eq, eqb_refl, ltb→lt}
+use mathlib.Core.List.{List}
+use lib.Dec.{T, eqb→eq, eqb_refl, ltb→lt}
 use lib.ListN.{get_or, set}
 use Rattle.bits.specs.Store.{store}
-use Rattle.bits.proofs.Test.{left, right, by-test, passes, is_true}
+use Rattle.bits.proofs.Test.{right}
 use Rattle.file.specs.declared.effect.Effect.{Effect}
 use Rattle.file.specs.declared.effect.Effect.TheVariants.{Nothing, Store, Toggle, Move, Step, Paint, Pass}
 use Rattle.file.specs.declared.palette.Colour.{Colour}
 use Rattle.file.specs.declared.palette.Pointer.{Pointer}
 use Rattle.file.specs.declared.registers.File.{File}
 use Rattle.file.specs.declared.state.State.{State}
-use Rattle.file.specs.Answers.{refused}
 use Rattle.file.specs.Effects.{apply}
 use Rattle.file.specs.File.{register, seen, bank_count}
 use Rattle.file.specs.Registers.{register_count}
 use Rattle.file.specs.State.{pointing, stepping, toggling, flipped, passing}
 use Rattle.places.specs.EngineCells.{reads_file, writes_file, in_file}
-use Rattle.places.specs.Profile.{Reading, Writing, stores_to, profile, reads_pixel}
+use Rattle.places.specs.Profile.{Writing, profile}
 use Rattle.places.proofs.RulesOfPlaces.{place-in-file}
 use Rattle.access.specs.declared.record.Record.{Record}
-use Rattle.access.specs.Access.{place_of, reach_in, in_bank, entry_number, write_effect, read_effect, answer, effect}
-use Rattle.access.specs.Checks.{is_write}
+use Rattle.access.specs.Access.{place_of, reach_in, in_bank, entry_number, write_effect, effect}
 use Rattle.access.specs.Engine.{asks_pixel}
 use Rattle.access.proofs.Refusals.{by_read, by-write, by-effect}
 use Rattle.trace.specs.declared.running.Served.{Served}

@@ -1,6 +1,6 @@
 -- What the loop of a run holds, and that one record more keeps it. Assumes nothing.
 use Prim.Native.Nat.{ℕ, ◌+◌, ◌*◌, ◌-◌, ◌/◌, ◌%◌, ◌≤◌, ◌<◌}
-use mathlib.Core.Path.{◌≡◌, refl, sym, ap, ap₂, ◌∙◌, subst}
+use mathlib.Core.Path.{◌≡◌, refl, sym, ap, ap₂, ◌∙◌}
 use mathlib.Core.Bool.{Bool, true, false, cond, not, ◌&&◌}
 use mathlib.Core.List.{List, ◌++◌}
 use mathlib.Core.Logic.{◌⊎◌, inl, inr}
@@ -10,7 +10,6 @@ use borrow.Author.Tests.{le-leb, eqb-true}
 use lib.ListN.{length, get_or, set, take, drop, length-append, length-take, length-drop}
 use lib.Seq.{take_at, drop_at, drop-drop}
 use Rattle.bits.proofs.Test.{by-test}
-use Rattle.file.specs.declared.answer.Answer.{Answer}
 use Rattle.file.specs.declared.chip.Chip.{Chip}
 use Rattle.file.specs.declared.chip.Chip.TheVariants.{Gd5462, Gd5464}
 use Rattle.file.specs.declared.answer.Answer.TheVariants.{Done}
@@ -32,7 +31,7 @@ use Rattle.quick.specs.Said.{mark_in, pixel_in, paints_in}
 use Rattle.quick.specs.Slots.{by_the_key}
 use Rattle.quick.specs.Smalls.{smalls_of, state_of}
 use Rattle.trace.specs.declared.running.Served.{Served}
-use Rattle.trace.specs.EngineServed.{paints, paints_bank, paints_colour, Serves}
+use Rattle.trace.specs.EngineServed.{paints, Serves}
 use Rattle.trace.specs.Records.{four, record_of, item_of, items, reply_bytes}
 use Rattle.trace.specs.Run.{file_after, replies}
 use Rattle.trace.proofs.EffectsInParts.{effect-lands, palette_after, bank_after, parts-after, pixel-keeps}

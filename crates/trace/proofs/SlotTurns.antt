@@ -1,19 +1,17 @@
 -- What is done on registers and the bytes of the state, quickly or in order, is 01's access. Assumes nothing.
-use Prim.Native.Nat.{ℕ, ◌+◌, ◌/◌, ◌%◌, ◌<◌, ◌≤◌}
+use Prim.Native.Nat.{ℕ, ◌/◌, ◌%◌, ◌<◌, ◌≤◌}
 use mathlib.Core.Path.{◌≡◌, refl, sym, ap, ap₂, ◌∙◌, subst}
-use mathlib.Core.Bool.{Bool, true, false, cond, true≢false, not, ◌&&◌, ◌||◌}
-use mathlib.Core.List.{List, []}
+use mathlib.Core.Bool.{true, false, cond, true≢false}
+use mathlib.Core.List.{List}
 use native.Mathlib.Omega.{arith}
 use lib.Dec.{T, eqb, leb}
 use borrow.Author.Tests.{ne_eqb}
 use lib.ListN.{get_or}
-use Rattle.bits.proofs.Test.{by-test, is_true}
-use Rattle.file.specs.declared.answer.Answer.{Answer}
+use Rattle.bits.proofs.Test.{by-test}
 use Rattle.file.specs.declared.answer.Answer.TheVariants.{Done, SpaceOff, OtherHalf}
 use Rattle.file.specs.declared.chip.Chip.{Chip}
 use Rattle.file.specs.declared.effect.Effect.{Effect}
 use Rattle.file.specs.declared.effect.Effect.TheVariants.{Nothing, Store, Toggle, Move, Step, Paint, Pass}
-use Rattle.file.specs.declared.palette.Colour.{Colour}
 use Rattle.file.specs.declared.registers.File.{File}
 use Rattle.file.specs.declared.state.State.{State}
 use Rattle.file.specs.Answers.{code_of, value_of, refused}
@@ -36,12 +34,12 @@ use Rattle.access.proofs.SeenDecisions.{answer-seen}
 use Rattle.access.proofs.SeenFiles.{none-shown, decided-refused, decided-write, decided-read}
 use Rattle.quick.specs.Classes.{class_of, codes_of}
 use Rattle.quick.specs.Painting.{paints, paints_bank, paints_colour}
-use Rattle.quick.specs.Said.{plain_said, code_in, value_in, mark_in, pixel_in, paints_in, bank_in, colour_in, next_in, address_in, Told}
+use Rattle.quick.specs.Said.{plain_said, code_in, value_in, mark_in, pixel_in, paints_in, bank_in, colour_in, next_in, address_in}
 use Rattle.quick.specs.Slots.{by_the_key, slot_true}
 use Rattle.quick.specs.Smalls.{smalls_of, state_of}
 use Rattle.quick.specs.Turned.{Turned}
-use Rattle.quick.proofs.Parts.{same-state, state-back, says, unchanged, turned_by, plain-pixel, plain-paints}
-use Rattle.quick.proofs.SlotsTold.{its-class, cell-low, looks, same_place, writes, short, code-told}
+use Rattle.quick.proofs.Parts.{same-state, says, unchanged, plain-pixel, plain-paints}
+use Rattle.quick.proofs.SlotsTold.{its-class, looks, same_place, writes, short, code-told}
 use Rattle.trace.specs.EngineServed.{Serves, served_of, Says, Turns}
 use Rattle.trace.specs.declared.running.Served.{Served}
 use Rattle.trace.proofs.ServedAccess.{colour-told}

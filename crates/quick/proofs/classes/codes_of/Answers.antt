@@ -1,6 +1,5 @@
 -- `codes_of` meets its contract. Assumes nothing.
 use Rattle.quick.specs.Classes.{codes_of}
-use borrow.Author.Rules.{rules}
 use Rattle.quick.proofs.classes.codes_of.Goals as goal
 
 pub returns : goal.returns

@@ -10,7 +10,6 @@ use Rattle.access.specs.Access.{palette_up}
 use Rattle.quick.specs.Smalls.{smalls_of}
 use Rattle.quick.proofs.Parts.{says}
 use Rattle.quick.proofs.PixelsTurned.{read_down, pixel-read}
-use borrow.Author.Rules.{rules}
 use Rattle.quick.proofs.pixels.read_pixel.Goals as goal
 
 pub returns-then-is_palette_up : goal.returns-then-is_palette_up

@@ -2,7 +2,6 @@
 use Rattle.file.specs.Palette.{addressed}
 use Rattle.file.specs.State.{pointing}
 use Rattle.quick.specs.Smalls.{smalls_of}
-use borrow.Author.Rules.{rules}
 use Rattle.quick.proofs.pixels.rise.Goals as goal
 
 pub returns : goal.returns

@@ -8,7 +8,6 @@ use Rattle.file.specs.declared.answer.Answer.TheVariants.{Done}
 use Rattle.file.specs.Answers.{code_of, value_of}
 use Rattle.quick.proofs.Parts.{says}
 use Rattle.quick.proofs.PixelsTurned.{small-byte, address-set}
-use borrow.Author.Rules.{rules}
 use Rattle.quick.proofs.pixels.set_address.Goals as goal
 
 pub returns : goal.returns

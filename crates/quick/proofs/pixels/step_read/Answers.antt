@@ -6,7 +6,6 @@ use lib.ListN.{get_or, set}
 use Rattle.file.specs.State.{stepping}
 use Rattle.quick.specs.Smalls.{smalls_of}
 use Rattle.quick.proofs.PixelsTurned.{read-red, read-green, read-blue}
-use borrow.Author.Rules.{rules}
 use Rattle.quick.proofs.pixels.step_read.Goals as goal
 
 pub returns-in-0 : goal.returns-in-0

@@ -14,7 +14,6 @@ use Rattle.access.specs.Access.{palette_up, in_bank}
 use Rattle.quick.specs.Smalls.{smalls_of}
 use Rattle.quick.proofs.Parts.{says}
 use Rattle.quick.proofs.PixelsTurned.{small-byte, write-blue, blue-stores, write-down, hold-red, hold-green, paints-blue}
-use borrow.Author.Rules.{rules}
 use Rattle.quick.proofs.pixels.write_pixel.Goals as goal
 
 pub returns-then-not-is_palette_up : goal.returns-then-not-is_palette_up

@@ -1,7 +1,6 @@
 -- `code_in` meets its contract. Assumes nothing.
 use mathlib.Core.Path.{refl}
 use Rattle.quick.specs.Said.{code_in}
-use borrow.Author.Rules.{rules}
 use Rattle.quick.proofs.said.code_in.Goals as goal
 
 pub returns : goal.returns

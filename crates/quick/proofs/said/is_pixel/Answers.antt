@@ -1,7 +1,6 @@
 -- `is_pixel` meets its contract. Assumes nothing.
 use mathlib.Core.Path.{refl}
 use Rattle.quick.specs.Said.{pixel_in, mark_in}
-use borrow.Author.Rules.{rules}
 use Rattle.quick.proofs.said.is_pixel.Goals as goal
 
 pub returns : goal.returns

@@ -1,7 +1,6 @@
 -- `next_in` meets its contract. Assumes nothing.
 use mathlib.Core.Path.{refl}
 use Rattle.quick.specs.Said.{next_in}
-use borrow.Author.Rules.{rules}
 use Rattle.quick.proofs.said.next_in.Goals as goal
 
 pub returns : goal.returns

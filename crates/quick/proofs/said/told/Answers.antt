@@ -1,7 +1,6 @@
 -- `told` meets its contract. Assumes nothing.
 use native.Mathlib.Omega.{arith}
 use Rattle.quick.specs.Said.{code_in, value_in}
-use borrow.Author.Rules.{rules}
 use Rattle.quick.proofs.said.told.Goals as goal
 
 pub returns : goal.returns

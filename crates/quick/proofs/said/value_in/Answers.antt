@@ -1,7 +1,6 @@
 -- `value_in` meets its contract. Assumes nothing.
 use mathlib.Core.Path.{refl}
 use Rattle.quick.specs.Said.{value_in}
-use borrow.Author.Rules.{rules}
 use Rattle.quick.proofs.said.value_in.Goals as goal
 
 pub returns : goal.returns

@@ -6,7 +6,6 @@ use Rattle.places.specs.Places.{places}
 use Rattle.places.specs.EngineCells.{plain_cell, indexed_cell, of_kind, of_address, rows_in, rows_at, cell_of, held_cell, nothing_at, cell_at, chosen, cells_from, behind_port, tabled, table_cell, cell_table, port_cell, config_cell, csl_cell, mmio_cell, cell_in, cell_width}
 use Rattle.quick.specs.Classes.{class_of}
 use Rattle.quick.specs.Slots.{limit_fits, slot_true, slots_true}
-use borrow.Author.Rules.{rules}
 use Rattle.quick.proofs.slots.all_slots.Goals as goal
 
 pub returns : goal.returns

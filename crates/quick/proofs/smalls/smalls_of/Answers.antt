@@ -1,6 +1,5 @@
 -- `smalls_of` meets its contract. Assumes nothing.
 use Rattle.quick.specs.Smalls.{smalls_of}
-use borrow.Author.Rules.{rules}
 use Rattle.quick.proofs.smalls.smalls_of.Goals as goal
 
 pub returns : goal.returns

@@ -1,5 +1,4 @@
 -- `store_in` meets its contract. Assumes nothing.
-use borrow.Author.Rules.{rules}
 use Rattle.quick.proofs.stores.store_in.Goals as goal
 
 pub returns : goal.returns

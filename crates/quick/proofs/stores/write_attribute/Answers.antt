@@ -10,7 +10,6 @@ use Rattle.quick.specs.Smalls.{smalls_of}
 use Rattle.quick.proofs.Parts.{says}
 use Rattle.quick.proofs.RegistersStored.{coded-other, is-off, is-on, index-written, data-written, none_written}
 use Rattle.quick.proofs.PlainPlaces.{kept-codes}
-use borrow.Author.Rules.{rules}
 use Rattle.quick.proofs.stores.write_attribute.Goals as goal
 
 pub returns-then-smalls-ne1 : goal.returns-then-smalls-ne1

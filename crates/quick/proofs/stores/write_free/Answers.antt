@@ -5,7 +5,6 @@ use Rattle.file.specs.declared.answer.Answer.TheVariants.{Done}
 use Rattle.file.specs.Answers.{code_of, value_of}
 use Rattle.quick.proofs.Parts.{says}
 use Rattle.quick.proofs.RegistersStored.{above-lock, other-reach, table-stored, coded-other}
-use borrow.Author.Rules.{rules}
 use Rattle.quick.proofs.stores.write_free.Goals as goal
 
 pub returns : goal.returns

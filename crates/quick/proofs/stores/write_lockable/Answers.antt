@@ -11,7 +11,6 @@ use Rattle.quick.proofs.Parts.{says}
 use Rattle.quick.proofs.RegistersStored.{above-lock}
 use Rattle.file.specs.File.{seen}
 use Rattle.file.specs.State.{unasked}
-use borrow.Author.Rules.{rules}
 use Rattle.quick.proofs.stores.write_lockable.Goals as goal
 
 pub returns-then-number-le-CR6 : goal.returns-then-number-le-CR6

@@ -6,7 +6,6 @@ use Rattle.file.specs.Answers.{code_of, value_of}
 use Rattle.quick.proofs.Parts.{says}
 use Rattle.quick.proofs.RegistersStored.{below-lock, other-reach, table-stored, coded-other}
 use Rattle.quick.specs.Turned.{Coded}
-use borrow.Author.Rules.{rules}
 use Rattle.quick.proofs.stores.write_low.Goals as goal
 
 pub returns-then-number-eq-PCI04 : goal.returns-then-number-eq-PCI04

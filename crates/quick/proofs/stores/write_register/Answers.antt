@@ -1,8 +1,6 @@
 -- `write_register` meets its contract. Assumes nothing.
-use mathlib.Core.Bool.{true}
 use native.Mathlib.Omega.{arith}
 use Rattle.quick.proofs.RegistersStored.{stored-coded}
-use borrow.Author.Rules.{rules}
 use Rattle.quick.proofs.stores.write_register.Goals as goal
 
 pub returns-then-number-le-CR7 : goal.returns-then-number-le-CR7

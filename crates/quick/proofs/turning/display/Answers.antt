@@ -7,7 +7,6 @@ use Rattle.access.specs.Access.{display_state, v_sync_start, v_display}
 use Rattle.timing.specs.declared.Scanlines.{Scanlines}
 use Rattle.quick.specs.Smalls.{state_of}
 use Rattle.quick.proofs.Display.{at-line-zero}
-use borrow.Author.Rules.{rules}
 use Rattle.quick.proofs.turning.display.Goals as goal
 
 pub returns-then-v_display-gt0 : goal.returns-then-v_display-gt0

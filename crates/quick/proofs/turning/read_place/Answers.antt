@@ -4,7 +4,7 @@ use mathlib.Core.Bool.{Bool, false, cond}
 use mathlib.Core.List.{List}
 use mathlib.Core.Path.{refl, sym, ap, ◌∙◌}
 use native.Mathlib.Omega.{arith}
-use lib.Dec.{T, eqb}
+use lib.Dec.{eqb}
 use lib.ListN.{get_or, set}
 use Rattle.bits.specs.Store.{store as storeBits}
 use Rattle.file.specs.declared.answer.Answer.TheVariants.{Done}
@@ -26,7 +26,6 @@ use Rattle.access.proofs.PassedChecks.{register-below, attribute-below}
 use Rattle.quick.specs.Painting.{paints}
 use Rattle.quick.specs.Smalls.{smalls_of}
 use Rattle.quick.proofs.Parts.{bit-back, same-state, says, made, read-there, only-read}
-use borrow.Author.Rules.{rules}
 use Rattle.quick.proofs.turning.read_place.Goals as goal
 
 pub offset_bounds-registers-number : goal.offset_bounds-registers-number

@@ -7,7 +7,6 @@ use Rattle.places.specs.Profile.{profile}
 use Rattle.places.proofs.BehindPorts.{place-behind}
 use Rattle.access.specs.Engine.{decided_read}
 use Rattle.quick.proofs.Parts.{turned_by}
-use borrow.Author.Rules.{rules}
 use Rattle.quick.proofs.turning.turn_read.Goals as goal
 
 pub returns : goal.returns

@@ -9,7 +9,6 @@ use Rattle.places.specs.Profile.{profile}
 use Rattle.places.proofs.BehindPorts.{place-behind, place-due}
 use Rattle.access.specs.Engine.{decided_write}
 use Rattle.quick.proofs.Parts.{turned_by}
-use borrow.Author.Rules.{rules}
 use Rattle.quick.proofs.turning.turn_write.Goals as goal
 
 pub returns-then-cell-eq124 : goal.returns-then-cell-eq124

@@ -1,13 +1,9 @@
 -- `write_place` meets its contract. Assumes nothing.
 use mathlib.Core.Bool.{true, false}
 use mathlib.Core.Path.{refl, sym, ◌∙◌}
-use lib.Dec.{T}
-use lib.ListN.{set}
 use Rattle.file.specs.declared.answer.Answer.TheVariants.{NoRegister, ReadOnly}
-use Rattle.file.specs.declared.effect.Effect.TheVariants.{Toggle}
-use Rattle.file.specs.declared.state.State.{State}
 use Rattle.file.specs.Answers.{code_of, value_of}
-use Rattle.file.specs.File.{seen, register}
+use Rattle.file.specs.File.{seen}
 use Rattle.places.specs.declared.place.Place.TheVariants.{Register, Attribute, Fixed, DeviceId, ToggleState, AttributeIndex, PaletteState, VPortState, ReadAddress, WriteAddress, PixelData, ToggleReset, Unnamed, UnnamedAttribute, CurrentLine, Passing}
 use Rattle.places.specs.EngineCells.{taken}
 use Rattle.places.specs.Profile.{profile}
@@ -18,7 +14,6 @@ use Rattle.quick.proofs.Parts.{turned_by, says, write-there, only-write}
 use Rattle.quick.proofs.RegistersStored.{storing}
 use Rattle.quick.proofs.PixelsTurned.{pixel-alike, address-alike}
 use Rattle.quick.proofs.PlainPlaces.{kept-codes, is_plain, never-plain}
-use borrow.Author.Rules.{rules}
 use Rattle.quick.proofs.turning.write_place.Goals as goal
 
 pub write_register-requires : goal.write_register-requires

@@ -1,6 +1,5 @@
 -- `line::behind_number` meets its contract. Assumes nothing.
 use native.Mathlib.Omega.{arith}
-use borrow.Author.Rules.{rules}
 use Rattle.text.specs.Text.{decimal, hex_four, newline, space}
 use Rattle.text.proofs.Spelled.{digits-length}
 use Rattle.text.proofs.Stores.{then-text}

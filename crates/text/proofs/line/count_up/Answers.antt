@@ -1,6 +1,5 @@
 -- `line::count_up` meets its contract. Assumes nothing.
 use native.Mathlib.Omega.{arith}
-use borrow.Author.Rules.{rules}
 use Rattle.text.specs.Counted.{Next}
 use Rattle.text.proofs.Counted.{some-places, spelled-anew}
 use Rattle.text.proofs.line.count_up.Goals as goal

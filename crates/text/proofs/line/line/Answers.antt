@@ -1,7 +1,6 @@
 -- `line::line` meets its contract. Assumes nothing.
 use mathlib.Core.Path.{refl}
 use native.Mathlib.Omega.{arith}
-use borrow.Author.Rules.{rules}
 use Rattle.text.specs.Text.{decimal}
 use Rattle.text.proofs.Lines.{line-length, line_made}
 use Rattle.text.proofs.Spelled.{digits-length}

@@ -1,6 +1,5 @@
 -- `line::line_size` meets its contract. Assumes nothing.
 use mathlib.Core.Path.{sym}
-use borrow.Author.Rules.{rules}
 use Rattle.text.proofs.Lines.{line-length}
 use Rattle.text.proofs.line.line_size.Goals as goal
 

@@ -1,7 +1,6 @@
 -- `line::numbers_fit` meets its contract. Assumes nothing.
 use Prim.Native.Nat.{◌+◌, ◌-◌}
 use native.Mathlib.Omega.{arith}
-use borrow.Author.Rules.{rules}
 use borrow.Author.Tests.{le-leb}
 use Rattle.text.specs.Text.{numbers_fit}
 use Rattle.text.proofs.Tests.{same_test}

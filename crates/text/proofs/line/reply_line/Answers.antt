@@ -1,6 +1,5 @@
 -- `line::reply_line` meets its contract. Assumes nothing.
 use mathlib.Core.Path.{◌∙◌}
-use borrow.Author.Rules.{rules}
 use lib.ListN.{get_or}
 use Rattle.text.proofs.Lines.{line_made}
 use Rattle.text.proofs.Replies.{value-bytes}

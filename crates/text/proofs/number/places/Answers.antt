@@ -1,6 +1,5 @@
 -- `number::places` meets its contract: each test is of a power of ten. Assumes nothing.
 use mathlib.Core.Path.{sym}
-use borrow.Author.Rules.{rules}
 use lib.Dec.{lit≤}
 use Rattle.text.proofs.Places.{one_place, so-many}
 use Rattle.text.proofs.number.places.Goals as goal

@@ -1,6 +1,6 @@
 use mathlib.Core.Path.{◌≡◌, refl, ◌∙◌}
 use native.Mathlib.Omega.{arith}
-use lib.ListN.{length, length-set}
+use lib.ListN.{length-set}
 use Rattle.text.proofs.Spelled.{digits-length, spell_one, spell-pair}
 use Rattle.text.proofs.number.spell.Goals as goal
 

@@ -1,6 +1,5 @@
 -- `numbers::behind_size` meets its contract. Assumes nothing.
 use native.Mathlib.Omega.{arith}
-use borrow.Author.Rules.{rules}
 use Rattle.text.proofs.Spaced.{minus-length, plain-length}
 use Rattle.text.proofs.numbers.behind_size.Goals as goal
 

@@ -1,5 +1,4 @@
 -- `numbers::capture_line` meets its contract. Assumes nothing.
-use borrow.Author.Rules.{rules}
 use Rattle.file.specs.Readers.{ascii}
 use Rattle.text.specs.Text.{capture_line}
 use Rattle.text.proofs.numbers.capture_line.Goals as goal

@@ -1,5 +1,4 @@
 -- `numbers::cursor_line` meets its contract. Assumes nothing.
-use borrow.Author.Rules.{rules}
 use Rattle.file.specs.Readers.{ascii}
 use Rattle.text.specs.Text.{cursor_line}
 use Rattle.text.proofs.numbers.cursor_line.Goals as goal

@@ -1,7 +1,6 @@
 -- `numbers::plain_text` meets its contract. Assumes nothing.
 use Prim.Native.Nat.{◌+◌}
 use mathlib.Core.Path.{refl, sym, ◌∙◌}
-use borrow.Author.Rules.{rules}
 use borrow.Author.Tests.{leb-true}
 use lib.ListN.{length}
 use Rattle.text.proofs.Stores.{no_room, room}

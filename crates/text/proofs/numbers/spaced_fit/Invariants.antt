@@ -1,9 +1,8 @@
 -- `numbers::spaced_fit` meets its contract: what is left of the room is short of the rest of the numbers where the room is short of all. Assumes nothing.
 use Prim.Native.Nat.{◌+◌, ◌-◌, ◌≤◌}
 use mathlib.Core.Path.{◌≡◌}
-use borrow.Author.Rules.{rules}
 use lib.ListN.{length, drop}
-use Rattle.text.specs.Text.{space, spaced}
+use Rattle.text.specs.Text.{spaced}
 use Rattle.text.proofs.numbers.spaced_fit.Given as goal
 
 abbrev pub invariant-loop-i : goal.invariant-loop-i

@@ -1,7 +1,6 @@
 -- `numbers::spaced_numbers` meets its contract. Assumes nothing.
 use Prim.Native.Nat.{◌+◌}
 use mathlib.Core.Path.{refl, sym, ◌∙◌}
-use borrow.Author.Rules.{rules}
 use borrow.Author.Tests.{leb-true}
 use lib.ListN.{length}
 use Rattle.text.specs.Text.{spaced}

@@ -1,6 +1,5 @@
 -- `numbers::spell_behind` meets its contract. Assumes nothing.
 use native.Mathlib.Omega.{arith}
-use borrow.Author.Rules.{rules}
 use Rattle.bits.proofs.Test.{by-test}
 use Rattle.text.specs.Text.{decimal, signed, space}
 use Rattle.text.proofs.Spaced.{minus-length, plain-length}

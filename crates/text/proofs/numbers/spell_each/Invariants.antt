@@ -1,10 +1,9 @@
 -- `numbers::spell_each` meets its contract: with the rest of the numbers stored, the buffer holds them all. Assumes nothing.
 use Prim.Native.Nat.{◌+◌, ◌-◌, ◌≤◌}
 use mathlib.Core.Path.{◌≡◌}
-use borrow.Author.Rules.{rules}
 use lib.ListN.{length, drop}
 use lib.Seq.{sets}
-use Rattle.text.specs.Text.{space, spaced}
+use Rattle.text.specs.Text.{spaced}
 use Rattle.text.proofs.numbers.spell_each.Given as goal
 
 abbrev pub invariant-loop-i : goal.invariant-loop-i

@@ -1,5 +1,4 @@
 -- `numbers::timing_line` meets its contract. Assumes nothing.
-use borrow.Author.Rules.{rules}
 use Rattle.file.specs.Readers.{ascii}
 use Rattle.text.specs.Text.{timing_line}
 use Rattle.text.proofs.numbers.timing_line.Goals as goal

@@ -1,5 +1,4 @@
 -- `numbers::window2_line` meets its contract. Assumes nothing.
-use borrow.Author.Rules.{rules}
 use Rattle.file.specs.Readers.{ascii}
 use Rattle.text.specs.Text.{window_2_line}
 use Rattle.text.proofs.numbers.window2_line.Goals as goal

@@ -1,6 +1,5 @@
 -- `access_bytes` meets its contract. Assumes nothing.
 use mathlib.Core.Path.{ap, ◌∙◌}
-use borrow.Author.Rules.{rules}
 use Rattle.access.specs.declared.access.Accessed.{Accessed}
 use Rattle.access.specs.Access.{access_item}
 use Rattle.trace.specs.Records.{reply_bytes}

@@ -1,5 +1,4 @@
 -- `component_of` meets its contract. Assumes nothing.
-use borrow.Author.Rules.{rules}
 use Rattle.trace.proofs.running.component_of.Goals as goal
 
 pub returns-then-bank : goal.returns-then-bank

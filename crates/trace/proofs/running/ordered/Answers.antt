@@ -9,7 +9,6 @@ use Rattle.places.specs.EngineCells.{cell_table}
 use Rattle.quick.specs.Smalls.{state_of}
 use Rattle.trace.specs.EngineServed.{Says}
 use Rattle.trace.proofs.SlotTurns.{serves-alike, ordered-turns}
-use borrow.Author.Rules.{rules}
 use Rattle.trace.proofs.running.ordered.Goals as goal
 
 pub serve-served-requires : goal.serve-served-requires

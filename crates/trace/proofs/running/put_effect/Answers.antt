@@ -1,6 +1,5 @@
 -- `put_effect` meets its contract. Assumes nothing.
 use Rattle.trace.proofs.EffectsInParts.{nothing_put, store-put, toggle-put, move-put, step-put, paint-put, pass-put}
-use borrow.Author.Rules.{rules}
 use Rattle.trace.proofs.running.put_effect.Goals as goal
 
 pub returns-in-Nothing : goal.returns-in-Nothing

@@ -9,7 +9,6 @@ use Rattle.access.specs.declared.record.Record.{Record}
 use Rattle.access.specs.Access.{reply_to}
 use Rattle.trace.specs.Records.{record_of, reply_bytes}
 use Rattle.trace.proofs.RecordBytes.{part_left}
-use borrow.Author.Rules.{rules}
 use Rattle.trace.proofs.running.put_fragment.Goals as goal
 
 pub returns-then-trace-at : goal.returns-then-trace-at

@@ -2,7 +2,6 @@
 use mathlib.Core.Path.{refl, sym, ◌∙◌}
 use Rattle.bits.proofs.Test.{passes}
 use Rattle.trace.specs.Run.{run, ran}
-use borrow.Author.Rules.{rules}
 use Rattle.trace.proofs.running.run.Goals as goal
 
 pub is_sound-requires : goal.is_sound-requires

@@ -1,6 +1,6 @@
-use Prim.Native.Nat.{ℕ, ◌+◌, ◌*◌, ◌-◌, ◌%◌}
+use Prim.Native.Nat.{ℕ, ◌*◌, ◌%◌}
 use mathlib.Core.Path.{◌≡◌, refl, sym, ap, ◌∙◌, subst}
-use mathlib.Core.Bool.{true, false, cond, ◌&&◌, not}
+use mathlib.Core.Bool.{cond, ◌&&◌, not}
 use mathlib.Core.List.{◌++◌}
 use native.Mathlib.Omega.{arith}
 use lib.Dec.{T}
@@ -13,7 +13,6 @@ use Rattle.file.specs.Palette.{component}
 use Rattle.file.specs.Sound.{sound}
 use Rattle.places.specs.EngineCells.{cell_table}
 use Rattle.access.specs.Access.{in_bank, shown_in}
-use Rattle.quick.specs.Said.{value_in}
 use Rattle.quick.specs.Slots.{by_the_key, slots_true}
 use Rattle.quick.specs.Smalls.{smalls_of, state_of}
 use Rattle.quick.proofs.Parts.{same-state, plain-pixel, plain-paints}
@@ -21,9 +20,8 @@ use Rattle.trace.specs.EngineServed.{served_of}
 use Rattle.trace.specs.declared.running.Served.{Served}
 use Rattle.trace.specs.Records.{items}
 use Rattle.trace.specs.Run.{file_after, replies}
-use Rattle.trace.proofs.RunLoop.{came-by, together, on-either, pixel-paints, key-record, buffer-long, component-served, held-step}
+use Rattle.trace.proofs.RunLoop.{together, on-either, pixel-paints, key-record, buffer-long, component-served, held-step}
 use Rattle.trace.proofs.RunMore.{run_sound}
-use borrow.Author.Rules.{rules}
 use Rattle.trace.proofs.running.run_whole.Goals as goal
 use Rattle.trace.proofs.running.run_whole.Goals.{then-said-ge-PLAIN+then-is_pixel, then-said-ge-PLAIN+else-is_pixel+then-paints+then-paints_bank, then-said-ge-PLAIN+else-is_pixel+then-paints+else-paints_bank, then-said-ge-PLAIN+else-is_pixel+else-paints, else-said-ge-PLAIN}
 

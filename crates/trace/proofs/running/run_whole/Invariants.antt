@@ -1,10 +1,7 @@
 -- `run_whole` meets its contract: the loop keeps `Going`. Assumes nothing.
 use Prim.Native.Nat.{◌-◌}
-use Rattle.file.specs.File.{register}
 use Rattle.quick.specs.Smalls.{state_of}
-use Rattle.trace.specs.Run.{replies}
 use Rattle.trace.proofs.RunLoop.{together, Going}
-use borrow.Author.Rules.{rules}
 use Rattle.trace.proofs.running.run_whole.Given as goal
 
 abbrev pub invariant-loop-n : goal.invariant-loop-n

@@ -1,7 +1,6 @@
 -- `said_of` meets its contract. Assumes nothing.
 use mathlib.Core.Bool.{true≢false}
 use mathlib.Core.Path.{sym, ◌∙◌}
-use borrow.Author.Rules.{rules}
 use Rattle.trace.proofs.running.said_of.Goals as goal
 
 pub returns-then-served : goal.returns-then-served

@@ -2,7 +2,6 @@
 use Prim.Native.Nat.{ℕ}
 use mathlib.Core.List.{List}
 use mathlib.Core.Path.{ap₂, ◌∙◌}
-use borrow.Author.Rules.{rules}
 use Rattle.file.specs.File.{seen}
 use Rattle.access.specs.Engine.{decided_by}
 use Rattle.access.proofs.DecidedByTables.{decided-by-tables}

@@ -1,6 +1,5 @@
 -- `store_in` meets its contract. Assumes nothing.
 use native.Mathlib.Omega.{arith}
-use borrow.Author.Rules.{rules}
 use Rattle.trace.proofs.running.store_in.Goals as goal
 
 pub returns-then-number-lt-REGISTERS : goal.returns-then-number-lt-REGISTERS

@@ -18,7 +18,6 @@ use Rattle.quick.specs.Smalls.{state_of}
 use Rattle.quick.specs.Turned.{Coded}
 use Rattle.quick.proofs.SlotsTold.{slot_at, cell-low, attribute-free}
 use Rattle.trace.proofs.SlotTurns.{quick-turns, refuses, writes-there, reads-there}
-use borrow.Author.Rules.{rules}
 use Rattle.trace.proofs.running.turn.Goals as goal
 
 pub returns-then-keys-slot : goal.returns-then-keys-slot

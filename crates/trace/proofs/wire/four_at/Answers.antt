@@ -1,6 +1,5 @@
 -- `four_at` meets its contract. Assumes nothing.
 use Rattle.trace.specs.Records.{four}
-use borrow.Author.Rules.{rules}
 use Rattle.trace.proofs.wire.four_at.Goals as goal
 
 pub returns : goal.returns

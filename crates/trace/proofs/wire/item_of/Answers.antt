@@ -1,6 +1,5 @@
 -- `item_of` meets its contract. Assumes nothing.
 use Rattle.trace.proofs.RecordBytes.{whole-read, fragment-read}
-use borrow.Author.Rules.{rules}
 use Rattle.trace.proofs.wire.item_of.Goals as goal
 
 pub returns-then-bytes-lt8 : goal.returns-then-bytes-lt8

@@ -5,7 +5,6 @@ use Prim.Native.Nat.{◌/◌, ◌%◌}
 use lib.ListN.{length-set}
 use lib.Seq.{sets-eq}
 use Rattle.trace.specs.Records.{reply_bytes}
-use borrow.Author.Rules.{rules}
 use Rattle.trace.proofs.wire.put_said.Goals as goal
 
 pub bounds-replies-at-2 : goal.bounds-replies-at-2

@@ -1,7 +1,6 @@
 -- `record_by` meets its contract. Assumes nothing.
 use mathlib.Core.Path.{refl}
 use Rattle.quick.specs.Slots.{by_the_key}
-use borrow.Author.Rules.{rules}
 use Rattle.trace.proofs.wire.record_by.Goals as goal
 
 pub returns : goal.returns

@@ -1,6 +1,5 @@
 -- `record_of` meets its contract. Assumes nothing.
 use Rattle.trace.proofs.RecordBytes.{record-read}
-use borrow.Author.Rules.{rules}
 use Rattle.trace.proofs.wire.record_of.Goals as goal
 
 pub returns : goal.returns
