@@ -8,20 +8,20 @@ mod same;
 mod stored;
 
 use file::{Chip, File, Pointer};
-use libc::STDOUT_FILENO;
 use printing::{print_item, print_number, print_replies};
 use reader::{Next, RanAt, next_from, run_from, unread};
 use same::{same_bytes, same_files};
+use std::io;
 use stored::TRACE;
 use trace::{Replied, reply_bytes};
 
 // One run; how many replies there are, and how many bytes are left unread.
-fn at_once(trace: &[u8], replies: &mut [u8]) -> File {
+fn at_once(rt: &impl Print, trace: &[u8], replies: &mut [u8]) -> io::Result<File> {
     let after = run_from(trace, 0, File::power_on(Chip::Gd5464), replies);
     let ran = after.ran;
-    print_number(ran.count);
-    print_number(unread(trace, ran.count).len());
-    ran.file
+    print_number(rt, ran.count)?;
+    print_number(rt, unread(trace, ran.count).len())?;
+    Ok(ran.file)
 }
 
 fn lesser(a: usize, b: usize) -> usize
@@ -39,7 +39,7 @@ fn piece(trace: &[u8], at: usize, file: File, replies: &mut [u8]) -> RanAt {
 }
 
 // Such runs, each from where the one before it ended, and the position after each.
-fn in_pieces(trace: &[u8], replies: &mut [u8]) -> File {
+fn in_pieces(rt: &impl Print, trace: &[u8], replies: &mut [u8]) -> io::Result<File> {
     let mut file = File::power_on(Chip::Gd5464);
     let mut at: usize = 0;
     let mut turns: usize = 26;
@@ -49,29 +49,29 @@ fn in_pieces(trace: &[u8], replies: &mut [u8]) -> File {
         let next = ran.file;
         file = next;
         at = after.at;
-        print_number(at);
+        print_number(rt, at)?;
         turns -= 1;
     }
-    file
+    Ok(file)
 }
 
 // What the access of what stands next leaves, which is printed; its end leaves the file.
-fn stepped(next: Next, file: File) -> Replied {
+fn stepped(rt: &impl Print, next: Next, file: File) -> io::Result<Replied> {
     match next {
         Next::Item(item) => {
-            print_item(item);
+            print_item(rt, item)?;
             let done = item.access(file);
             let after = done.file;
             let said = done.reply;
-            Replied {
+            Ok(Replied {
                 file: after,
                 reply: reply_bytes(said),
-            }
+            })
         }
-        Next::End => Replied {
+        Next::End => Ok(Replied {
             file,
             reply: [0; 8],
-        },
+        }),
     }
 }
 
@@ -82,19 +82,19 @@ fn put(replies: &mut [u8], at: usize, reply: [u8; 8]) {
         return;
     }
     if at <= room - 8 {
-        bytes::copy(&reply, &mut replies[at..]);
+        replies[at..at + 8].copy_from_slice(&reply);
     }
 }
 
 // One access after the other.
-fn item_by_item(trace: &[u8], replies: &mut [u8]) -> File {
+fn item_by_item(rt: &impl Print, trace: &[u8], replies: &mut [u8]) -> io::Result<File> {
     let mut file = File::power_on(Chip::Gd5464);
     let mut at: usize = 0;
     let mut turns: usize = 26;
     while turns > 0 && at < trace.len() {
         let step = next_from(trace, at);
         let next = step.next;
-        let after = stepped(next, file);
+        let after = stepped(rt, next, file)?;
         let reply = after.reply;
         put(replies, at, reply);
         let left = after.file;
@@ -102,11 +102,11 @@ fn item_by_item(trace: &[u8], replies: &mut [u8]) -> File {
         at = step.at;
         turns -= 1;
     }
-    file
+    Ok(file)
 }
 
 // A run from a file whose next colour is none: its code, its count and the position after it.
-fn from_unsound(trace: &[u8], replies: &mut [u8]) {
+fn from_unsound(rt: &impl Print, trace: &[u8], replies: &mut [u8]) -> io::Result<()> {
     let mut file = File::power_on(Chip::Gd5464);
     let pointer = Pointer {
         address: 0,
@@ -120,39 +120,39 @@ fn from_unsound(trace: &[u8], replies: &mut [u8]) {
     let after = run_from(trace, 0, file, replies);
     let ran = after.ran;
     let answer = ran.answer;
-    print_number(answer.code() as usize);
-    print_number(ran.count);
-    print_number(after.at);
+    print_number(rt, answer.code() as usize)?;
+    print_number(rt, ran.count)?;
+    print_number(rt, after.at)
 }
 
-fn print_same(same: bool) {
+fn print_same(rt: &impl Print, same: bool) -> io::Result<()> {
     if same {
-        io::write_all(STDOUT_FILENO, b"same\n");
+        rt.println("same")
     } else {
-        io::write_all(STDOUT_FILENO, b"different\n");
+        rt.println("different")
     }
 }
 
-fn main() {
+fn main(rt: HostRuntime) -> io::Result<()> {
     let trace = TRACE;
     let mut whole = [0u8; 216];
     let mut parts = [0u8; 216];
     let mut singles = [0u8; 216];
-    io::write_all(STDOUT_FILENO, b"unsound\n");
-    from_unsound(&trace, &mut whole);
-    io::write_all(STDOUT_FILENO, b"at once\n");
-    let first = at_once(&trace, &mut whole);
-    print_replies(&whole, 26);
-    io::write_all(STDOUT_FILENO, b"in pieces\n");
-    let second = in_pieces(&trace, &mut parts);
-    print_replies(&parts, 26);
-    io::write_all(STDOUT_FILENO, b"item by item\n");
-    let third = item_by_item(&trace, &mut singles);
-    print_replies(&singles, 26);
-    io::write_all(STDOUT_FILENO, b"replies\n");
-    print_same(same_bytes(&whole, &parts));
-    print_same(same_bytes(&whole, &singles));
-    io::write_all(STDOUT_FILENO, b"files\n");
-    print_same(same_files(first, second));
-    print_same(same_files(first, third));
+    rt.println("unsound")?;
+    from_unsound(&rt, &trace, &mut whole)?;
+    rt.println("at once")?;
+    let first = at_once(&rt, &trace, &mut whole)?;
+    print_replies(&rt, &whole, 26)?;
+    rt.println("in pieces")?;
+    let second = in_pieces(&rt, &trace, &mut parts)?;
+    print_replies(&rt, &parts, 26)?;
+    rt.println("item by item")?;
+    let third = item_by_item(&rt, &trace, &mut singles)?;
+    print_replies(&rt, &singles, 26)?;
+    rt.println("replies")?;
+    print_same(&rt, same_bytes(&whole, &parts))?;
+    print_same(&rt, same_bytes(&whole, &singles))?;
+    rt.println("files")?;
+    print_same(&rt, same_files(first, second))?;
+    print_same(&rt, same_files(first, third))
 }

@@ -1,56 +1,50 @@
 // Lines on the standard output.
 use access::Item;
-use libc::STDOUT_FILENO;
+use std::io;
 use trace::record_bytes;
 
-pub fn print_number(n: usize) {
-    io::print_decimal(STDOUT_FILENO, n as u64);
-    io::write_all(STDOUT_FILENO, b"\n");
-}
-
-fn to_u64(x: u8) -> u64 {
-    x as u64
+pub fn print_number(rt: &impl Print, n: usize) -> io::Result<()> {
+    rt.println(n)
 }
 
 // A reply's number, code and value.
-fn print_reply(replies: &[u8], number: usize) {
+fn print_reply(rt: &impl Print, replies: &[u8], number: usize) -> io::Result<()> {
     if replies.len() / 8 <= number {
-        return;
+        return Ok(());
     }
     let at = 8 * number;
-    io::print_decimal(STDOUT_FILENO, number as u64);
-    io::write_all(STDOUT_FILENO, b" ");
-    io::print_decimal(STDOUT_FILENO, to_u64(replies[at]));
-    io::write_all(STDOUT_FILENO, b" ");
-    io::print_hex(STDOUT_FILENO, to_u64(replies[at + 5]), 2);
-    io::print_hex(STDOUT_FILENO, to_u64(replies[at + 4]), 2);
-    io::write_all(STDOUT_FILENO, b"\n");
+    let code = replies[at];
+    let high = replies[at + 5];
+    let low = replies[at + 4];
+    println!(rt; "{number} {code} {high:02x}{low:02x}")
 }
 
-pub fn print_replies(replies: &[u8], count: usize) {
+pub fn print_replies(rt: &impl Print, replies: &[u8], count: usize) -> io::Result<()> {
     let mut n: usize = 0;
     while n < count {
-        print_reply(replies, n);
+        print_reply(rt, replies, n)?;
         n += 1;
     }
+    Ok(())
 }
 
-fn print_bytes(bytes: [u8; 8]) {
+fn print_bytes(rt: &impl Print, bytes: [u8; 8]) -> io::Result<()> {
     let mut n: usize = 0;
     while n < 8 {
-        io::print_hex(STDOUT_FILENO, to_u64(bytes[n]), 2);
+        let byte = bytes[n];
+        print!(rt; "{byte:02x}")?;
         n += 1;
     }
-    io::write_all(STDOUT_FILENO, b"\n");
+    rt.println("")
 }
 
 // The bytes of an item's record, encoded anew.
-pub fn print_item(item: Item) {
+pub fn print_item(rt: &impl Print, item: Item) -> io::Result<()> {
     match item {
-        Item::Whole(asked) => print_bytes(record_bytes(asked)),
+        Item::Whole(asked) => print_bytes(rt, record_bytes(asked)),
         Item::Fragment(asked) => {
-            io::write_all(STDOUT_FILENO, b"fragment ");
-            print_bytes(record_bytes(asked));
+            rt.print("fragment ")?;
+            print_bytes(rt, record_bytes(asked))
         }
     }
 }

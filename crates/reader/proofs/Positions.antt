@@ -54,9 +54,6 @@ drop-taken zero xs = refl
 drop-taken (suc n) [] = refl
 drop-taken (suc n) (x ∷ xs) = drop-taken n xs
 
-pub left_after : (xs : List ℕ) (n m : ℕ) → m ≡ min n (length xs) → drop m xs ≡ drop n xs
-left_after xs n m e = ap (λ (k : ℕ). drop k xs) (e ∙ sym (length-take n xs)) ∙ drop-taken n xs
-
 -- past what stands next, a reader has 8 bytes less to read
 pub left-past-next : (xs : List ℕ) (at : ℕ) → drop (after_next xs at) xs ≡ drop 8 (drop at xs)
 unfolding after_next
