@@ -1,2 +1,1 @@
 pub mod SameTexts
-pub mod WordBytes

@@ -6,6 +6,7 @@ use crate::options::{Wish, wanted};
 use crate::words::{Words, read_words, read_words_behind};
 use engines::Engine;
 use file::Chip;
+use std::rt::Env;
 
 // A chip and an engine, or words that name none.
 #[derive(Clone, Copy)]
@@ -81,10 +82,10 @@ fn chosen_by(words: Words) -> Chosen
 }
 
 // By the words that the program was started with.
-pub fn choose() -> Choice
+pub fn choose(rt: &impl Env) -> Choice
     ensures { result.chosen ≡ chosen_by result.words }
 {
-    let words = read_words();
+    let words = read_words(rt);
     Choice {
         words,
         chosen: chosen_by(words),
@@ -92,10 +93,10 @@ pub fn choose() -> Choice
 }
 
 // By those behind the first, which is no option.
-pub fn choose_behind() -> Choice
+pub fn choose_behind(rt: &impl Env) -> Choice
     ensures { result.chosen ≡ chosen_by result.words }
 {
-    let words = read_words_behind();
+    let words = read_words_behind(rt);
     Choice {
         words,
         chosen: chosen_by(words),

@@ -6,4 +6,4 @@ mod options;
 mod words;
 
 pub use choosing::{Choice, Chosen, choose, choose_behind};
-pub use words::{Asked, Word, Words};
+pub use words::{Asked, Word, Words, count_args, read_arg};

@@ -1,7 +1,11 @@
 // The words that a program was started with.
 ghost use Rattle.std.specs.Prelude.{◌≡◌, ◌<◌, min};
+ghost use Rattle.io.specs.Counts.{IsPrefixLen};
 ghost use Rattle.file.specs.Readers.{same};
 ghost use Rattle.choosing.specs.Choosing.{text_of};
+
+use std::env::FillError;
+use std::rt::Env;
 
 // A word; one that is missing, or longer than any option or name, counts as an empty one. It is made here alone: no other module can say what a word was.
 #[derive(Clone, Copy)]
@@ -70,27 +74,48 @@ impl Words {
     }
 }
 
-fn read_word(place: usize) -> Word {
+// Puts the word of this number at the start of a buffer and gives its length; one that is missing, or longer than the buffer, counts as an empty one.
+pub fn read_arg(rt: &impl Env, number: usize, buffer: &mut [u8]) -> usize
+    ensures { IsPrefixLen result buffer.new }
+{
+    match rt.arg(number, buffer) {
+        Ok(size) => size,
+        Err(_) => 0,
+    }
+}
+
+// How many words there are, the program's own name among them.
+pub fn count_args(rt: &impl Env) -> usize {
+    let mut word = [0u8; 8];
+    for number in 0..usize::MAX {
+        if let Err(FillError::NotPresent) = rt.arg(number, &mut word) {
+            return number;
+        }
+    }
+    usize::MAX
+}
+
+fn read_word(rt: &impl Env, place: usize) -> Word {
     let mut bytes = [0u8; 8];
-    let size = os::arg(place, &mut bytes);
+    let size = read_arg(rt, place, &mut bytes);
     Word { bytes, size }
 }
 
-fn read_asked(place: usize) -> Asked
+fn read_asked(rt: &impl Env, place: usize) -> Asked
     requires { place < 16 }
 {
     Asked {
-        option: read_word(place),
-        name: read_word(place + 1),
+        option: read_word(rt, place),
+        name: read_word(rt, place + 1),
     }
 }
 
 // The words of this program.
-pub fn read_words() -> Words {
+pub fn read_words(rt: &impl Env) -> Words {
     Words {
-        count: os::arg_count(),
-        first: read_asked(1),
-        second: read_asked(3),
+        count: count_args(rt),
+        first: read_asked(rt, 1),
+        second: read_asked(rt, 3),
     }
 }
 
@@ -100,10 +125,10 @@ fn but_one(count: usize) -> usize {
 }
 
 // The same without the first behind the program's own name.
-pub fn read_words_behind() -> Words {
+pub fn read_words_behind(rt: &impl Env) -> Words {
     Words {
-        count: but_one(os::arg_count()),
-        first: read_asked(2),
-        second: read_asked(4),
+        count: but_one(count_args(rt)),
+        first: read_asked(rt, 2),
+        second: read_asked(rt, 4),
     }
 }

@@ -3,9 +3,12 @@
 // hex or `none`, and both whole numbers.
 #![tactic(auto)]
 
+ghost use Rattle.std.specs.Prelude.{◌≤◌, IfOk, length};
+
 use clock::{ClockRead, DotClock, clock};
 use file::{Chip, File, MISC};
-use libc::{STDIN_FILENO, STDOUT_FILENO};
+use std::io;
+use std::io::Read;
 
 fn widened(byte: u8) -> u16 {
     byte as u16
@@ -25,50 +28,66 @@ fn file_of(set: [u8; 9]) -> File {
     file
 }
 
-fn print(text: &[u8]) {
-    io::write_all(STDOUT_FILENO, text);
-}
-
 // Only a number has bits here; no rate is another.
-fn print_bits(hertz: f64) {
+fn print_bits(rt: &impl Print, hertz: f64) -> io::Result<()> {
     if hertz >= 0.0 {
-        io::print_hex(STDOUT_FILENO, f64::to_bits(hertz), 16);
+        let bits = f64::to_bits(hertz);
+        print!(rt; "{bits:016x}")
     } else {
-        print(b"no rate");
+        rt.print("no rate")
     }
 }
 
-fn print_rate(clock: DotClock) {
+fn print_rate(rt: &impl Print, clock: DotClock) -> io::Result<()> {
     match clock {
-        DotClock::Rate(hertz) => print_bits(hertz),
-        DotClock::None => print(b"none"),
+        DotClock::Rate(hertz) => print_bits(rt, hertz),
+        DotClock::None => rt.print("none"),
     }
 }
 
-fn print_clock(read: ClockRead) {
+fn print_clock(rt: &impl Print, read: ClockRead) -> io::Result<()> {
     let answer = read.answer;
     let rate = read.clock;
-    io::print_decimal(STDOUT_FILENO, answer.code() as u64);
-    print(b" ");
-    print_rate(rate);
-    print(b" ");
-    io::print_decimal(STDOUT_FILENO, read.terms.p as u64);
-    print(b"/");
-    io::print_decimal(STDOUT_FILENO, read.terms.q as u64);
-    print(b"\n");
+    rt.print(answer.code())?;
+    rt.print(" ")?;
+    print_rate(rt, rate)?;
+    let p = read.terms.p;
+    let q = read.terms.q;
+    println!(rt; " {p}/{q}")
+}
+
+// Reads until the buffer is full or the input ends, and gives how many bytes it put at the start of the buffer.
+fn read_full<I: Read>(from: &mut I, buffer: &mut [u8]) -> io::Result<usize>
+    ensures { IfOk result (λ n. n ≤ length buffer.new) }
+{
+    let mut at = 0;
+    while at < buffer.len() {
+        let count = from.read(&mut buffer[at..])?;
+        if count == 0 {
+            break;
+        }
+        at += count;
+    }
+    Ok(at)
 }
 
 // The next nine bytes; false where there are none.
-fn read_set(set: &mut [u8; 9]) -> bool {
-    io::read_full(STDIN_FILENO, set) == 9
+fn read_set<I: Read>(from: &mut I, set: &mut [u8; 9]) -> io::Result<bool> {
+    Ok(read_full(from, set)? == 9)
 }
 
 // A proved loop has to end, so this one counts its turns down.
-fn main() {
+fn print_clocks(rt: &(impl Input + Print)) -> io::Result<()> {
+    let mut from = rt.reader();
     let mut set = [0u8; 9];
     let mut turns: u32 = 1000000;
-    while turns > 0 && read_set(&mut set) {
-        print_clock(clock(file_of(set)));
+    while turns > 0 && read_set(&mut from, &mut set)? {
+        print_clock(rt, clock(file_of(set)))?;
         turns -= 1;
     }
+    Ok(())
+}
+
+fn main(rt: HostRuntime) -> io::Result<()> {
+    print_clocks(&rt)
 }

@@ -3,9 +3,13 @@
 // power-on) and a digit for the hundreds. The number that it prints hangs on all that it did.
 #![tactic(auto)]
 
+ghost use Rattle.std.specs.Prelude.{◌≤◌, IfOk, length};
+
 use engines::{Engine, run_by};
 use file::{Chip, File};
-use libc::{STDIN_FILENO, STDOUT_FILENO};
+use std::io;
+use std::io::Read;
+use std::rt::Env;
 use timing::{Timing, read_timing, write_timing};
 
 // A sum that hangs on the order.
@@ -25,26 +29,43 @@ struct Course {
     more: bool,
 }
 
-fn run_some(
+// Reads until the buffer is full or the input ends, and gives how many bytes it put at the start of the buffer.
+fn read_full<I: Read>(from: &mut I, buffer: &mut [u8]) -> io::Result<usize>
+    ensures { IfOk result (λ n. n ≤ length buffer.new) }
+{
+    let mut at = 0;
+    while at < buffer.len() {
+        let count = from.read(&mut buffer[at..])?;
+        if count == 0 {
+            break;
+        }
+        at += count;
+    }
+    Ok(at)
+}
+
+fn run_some<I: Read>(
+    from: &mut I,
     engine: Engine,
     before: Course,
     trace: &mut [u8; 8192],
     replies: &mut [u8; 8192],
-) -> Course {
-    let size = io::read_full(STDIN_FILENO, trace);
+) -> io::Result<Course> {
+    let size = read_full(from, trace)?;
     let trace: &[u8] = trace;
     let ran = run_by(engine, before.file, &trace[..size], replies);
     let at = (before.sum % 8192) as usize;
     let file = ran.file;
-    Course {
+    Ok(Course {
         file,
         sum: mix(before.sum, to_u64(replies[at])),
         more: size == 8192,
-    }
+    })
 }
 
 // A proved loop has to end, so this one counts its turns down, from a number that no run uses up.
-fn run_input(engine: Engine) -> Course {
+fn run_input(rt: &impl Input, engine: Engine) -> io::Result<Course> {
+    let mut from = rt.reader();
     let mut trace = [0u8; 8192];
     let mut replies = [0u8; 8192];
     let mut course = Course {
@@ -54,11 +75,11 @@ fn run_input(engine: Engine) -> Course {
     };
     let mut turns = u64::MAX;
     while turns > 0 && course.more {
-        let next = run_some(engine, course, &mut trace, &mut replies);
+        let next = run_some(&mut from, engine, course, &mut trace, &mut replies)?;
         course = next;
         turns -= 1;
     }
-    course
+    Ok(course)
 }
 
 fn counted(n: usize) -> u64 {
@@ -108,9 +129,9 @@ fn write_many(file: File, timing: Timing, times: u64) -> u64 {
 }
 
 // The first byte of a word that the program was started with; the third of `restore`, which begins as `read` does.
-fn letter(place: usize) -> u8 {
+fn letter(rt: &impl Env, place: usize) -> u8 {
     let mut word = [0u8; 16];
-    os::arg(place, &mut word);
+    let _ = rt.arg(place, &mut word);
     if word[2] == b's' { word[2] } else { word[0] }
 }
 
@@ -121,16 +142,15 @@ fn engine_for(what: u8) -> Engine {
     Engine::Quick
 }
 
-fn main() {
-    let what = letter(1);
-    let course = run_input(engine_for(what));
+fn main(rt: HostRuntime) -> io::Result<()> {
+    let what = letter(&rt, 1);
+    let course = run_input(&rt, engine_for(what))?;
     let file = course.file;
-    let times = to_u64(letter(2)) % 16 * 100;
+    let times = to_u64(letter(&rt, 2)) % 16 * 100;
     let done = if what == b'w' {
         write_many(file, read_timing(file).timing, times)
     } else {
         look_many(what, file, times)
     };
-    io::print_decimal(STDOUT_FILENO, mix(course.sum, done));
-    io::write_all(STDOUT_FILENO, b"\n");
+    rt.println(mix(course.sum, done))
 }

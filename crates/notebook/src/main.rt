@@ -2,46 +2,84 @@
 // list of fourteen numbers it writes the bytes with these in them, or tells the code.
 #![tactic(auto)]
 
-ghost use Rattle.std.specs.Prelude.{◌++◌, ◌≡◌, ◌≤◌, length, drop};
+ghost use Rattle.std.specs.Prelude.{◌++◌, ◌≡◌, ◌≤◌, IfOk, length, drop};
 ghost use Rattle.io.specs.Counts.{IsPrefixLen};
 ghost use Rattle.portable_text.specs.Line.{line_most, line_of};
 
-use libc::{STDERR_FILENO, STDIN_FILENO, STDOUT_FILENO};
 use portable_text::{LINE_MOST, timing_line, write_list};
+use std::env::FillError;
+use std::io;
+use std::io::Read;
+use std::rt::Env;
 
 // What goes wrong, as a line: a program has no exit status.
-fn tell(what: &[u8]) {
-    io::write_all(STDERR_FILENO, b"portable: ");
-    io::write_all(STDERR_FILENO, what);
-    io::write_all(STDERR_FILENO, b"\n");
+fn tell(err: &impl Print, what: &[u8]) {
+    let _ = err.write_all(b"portable: ");
+    let _ = err.write_all(what);
+    let _ = err.write_all(b"\n");
+}
+
+// A failed call, and why.
+fn tell_failure(err: &impl Print, what: &[u8], why: io::Error) {
+    let _ = err.write_all(what);
+    let _ = err.write_all(b": ");
+    let _ = err.println(why);
 }
 
 // A refusal in words, with its code.
-fn tell_refusal(code: u8) {
-    io::write_all(STDERR_FILENO, b"portable: nothing is written, code ");
-    io::print_decimal(STDERR_FILENO, code as u64);
+fn tell_refusal(err: &impl Print, code: u8) {
+    let _ = err.write_all(b"portable: nothing is written, code ");
+    let _ = err.print(code);
     if code == 8 {
-        io::write_all(STDERR_FILENO, b": CR11[7] locks the bytes");
+        let _ = err.write_all(b": CR11[7] locks the bytes");
     }
     if code == 10 {
-        io::write_all(STDERR_FILENO, b": a number is out of its range");
+        let _ = err.write_all(b": a number is out of its range");
     }
     if code == 12 {
-        io::write_all(STDERR_FILENO, b": there aren't 28 bytes");
+        let _ = err.write_all(b": there aren't 28 bytes");
     }
-    io::write_all(STDERR_FILENO, b"\n");
+    let _ = err.write_all(b"\n");
 }
 
-fn write_out(bytes: &[u8]) {
-    if !io::write_all(STDOUT_FILENO, bytes) {
-        os::fail(b"portable: standard output");
+fn write_out(rt: &impl Print, err: &impl Print, bytes: &[u8]) {
+    if let Err(why) = rt.write_all(bytes) {
+        tell_failure(err, b"portable: standard output", why);
     }
 }
 
-// Whether nothing more comes on standard input: a read that brings nothing tells an end from a failure.
-fn is_over() -> bool {
-    let mut more = [0u8; 1];
-    libc::read(STDIN_FILENO, &mut more) == 0
+// Puts the word of this number at the start of a buffer and gives its length; one that is missing, or longer than the buffer, counts as an empty one.
+fn read_arg(rt: &impl Env, number: usize, buffer: &mut [u8]) -> usize
+    ensures { IsPrefixLen result buffer.new }
+{
+    match rt.arg(number, buffer) {
+        Ok(size) => size,
+        Err(_) => 0,
+    }
+}
+
+// Whether there is a word behind the program's name.
+fn has_word(rt: &impl Env) -> bool {
+    let mut word = [0u8; 8];
+    match rt.arg(1, &mut word) {
+        Err(FillError::NotPresent) => false,
+        _ => true,
+    }
+}
+
+// Reads until the buffer is full or the input ends, and gives how many bytes it put at the start of the buffer.
+fn read_full<I: Read>(from: &mut I, buffer: &mut [u8]) -> io::Result<usize>
+    ensures { IfOk result (λ n. IsPrefixLen n buffer.new) }
+{
+    let mut at = 0;
+    while at < buffer.len() {
+        let count = from.read(&mut buffer[at..])?;
+        if count == 0 {
+            break;
+        }
+        at += count;
+    }
+    Ok(at)
 }
 
 // The line of some bytes, from the start of a buffer on, and where it ends.
@@ -54,41 +92,48 @@ fn line_end(bytes: &[u8], line: &mut [u8]) -> usize
     timing_line(line, 0, bytes).end
 }
 
-fn print_line(bytes: &[u8]) {
+fn print_line(rt: &impl Print, err: &impl Print, bytes: &[u8]) {
     let mut line = [0u8; LINE_MOST];
     let end = line_end(bytes, &mut line);
-    write_out(&line[..end]);
+    write_out(rt, err, &line[..end]);
 }
 
 // The bytes with the numbers of the first word in them. A word that is missing, or has more bytes than these, is no list.
-fn write_numbers(bytes: &mut [u8]) {
+fn write_numbers(rt: &(impl Env + Print), err: &impl Print, bytes: &mut [u8]) {
     let mut text = [0u8; 256];
-    let size = os::arg(1, &mut text);
+    let size = read_arg(rt, 1, &mut text);
     let tried = write_list(bytes, &text[..size]);
     if !tried.listed {
-        tell(b"no fourteen decimal numbers with one space between");
+        tell(err, b"no fourteen decimal numbers with one space between");
         return;
     }
     let answer = tried.answer;
     let code = answer.code();
     if code != 0 {
-        tell_refusal(code);
+        tell_refusal(err, code);
         return;
     }
-    write_out(bytes);
+    write_out(rt, err, bytes);
 }
 
 // One byte more than 28 is enough to tell another length.
-fn main() {
+fn run(rt: &(impl Env + Input + Print), err: &impl Print) {
+    let mut from = rt.reader();
     let mut bytes = [0u8; 29];
-    let count = io::read_full(STDIN_FILENO, &mut bytes);
-    if count < 29 && !is_over() {
-        os::fail(b"portable: standard input");
+    let count = match read_full(&mut from, &mut bytes) {
+        Ok(count) => count,
+        Err(why) => {
+            tell_failure(err, b"portable: standard input", why);
+            return;
+        }
+    };
+    if !has_word(rt) {
+        print_line(rt, err, &bytes[..count]);
         return;
     }
-    if os::arg_count() < 2 {
-        print_line(&bytes[..count]);
-        return;
-    }
-    write_numbers(&mut bytes[..count]);
+    write_numbers(rt, err, &mut bytes[..count]);
+}
+
+fn main(rt: HostRuntime) {
+    run(&rt, &rt.stderr());
 }

@@ -4,7 +4,8 @@
 
 use access::Record;
 use file::{Chip, File};
-use libc::STDOUT_FILENO;
+use std::io;
+use std::rt::Env;
 
 // A sum that hangs on the order.
 fn mix(sum: u64, more: u64) -> u64 {
@@ -48,10 +49,9 @@ fn access_many(file: File, times: u64) -> u64 {
     sum
 }
 
-fn main() {
+fn main(rt: HostRuntime) -> io::Result<()> {
     let mut word = [0u8; 16];
-    os::arg(2, &mut word);
+    let _ = rt.arg(2, &mut word);
     let times = to_u64(word[0]) % 16 * 100;
-    io::print_decimal(STDOUT_FILENO, access_many(opened(), times));
-    io::write_all(STDOUT_FILENO, b"\n");
+    rt.println(access_many(opened(), times))
 }

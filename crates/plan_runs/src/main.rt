@@ -2,22 +2,16 @@
 #![tactic(auto)]
 
 use file::{Chip, Colour, File, Pointer, REGISTERS, State};
-use libc::STDOUT_FILENO;
 use paper::set_register;
 use plan::plan;
 use restoring::restore;
+use std::io;
 
 // What every buffer is filled with before.
 const FILL: u8 = 0xA5;
 
-fn print(text: &[u8]) {
-    io::write_all(STDOUT_FILENO, text);
-}
-
-fn print_code_and_count(code: u8, count: usize) {
-    io::print_decimal(STDOUT_FILENO, code as u64);
-    print(b" ");
-    io::print_decimal(STDOUT_FILENO, count as u64);
+fn print_code_and_count(rt: &impl Print, code: u8, count: usize) -> io::Result<()> {
+    print!(rt; "{code} {count}")
 }
 
 // Every byte from a place on is as it was filled.
@@ -166,113 +160,112 @@ fn with_pointer(file: File, pointer: Pointer) -> File {
 }
 
 // A plan's code and count, and whether the buffer behind it is as found.
-fn print_plan(title: &[u8], wanted: File, buffer: &mut [u8]) {
+fn print_plan(rt: &impl Print, title: &str, wanted: File, buffer: &mut [u8]) -> io::Result<()> {
     let planned = plan(wanted, buffer);
     let answer = planned.answer;
     let count = planned.count;
-    print(title);
-    print_code_and_count(answer.code(), count);
-    print_found(buffer, count);
+    rt.print(title)?;
+    print_code_and_count(rt, answer.code(), count)?;
+    print_found(rt, buffer, count)
 }
 
-fn print_found(buffer: &[u8], count: usize) {
+fn print_found(rt: &impl Print, buffer: &[u8], count: usize) -> io::Result<()> {
     if count <= 1024 {
         if is_filled(buffer, 8 * count) {
-            print(b", the rest as found");
+            rt.print(", the rest as found")?;
         }
     }
-    print(b"\n");
+    rt.println("")
 }
 
 // A restore's code and count, which file it ended in, and whether its line is the current file's.
-fn print_restore(title: &[u8], current: File, wanted: File) {
+fn print_restore(rt: &impl Print, title: &str, current: File, wanted: File) -> io::Result<()> {
     let mut buffer = [FILL; 8192];
     let restored = restore(current, wanted, &mut buffer);
     let answer = restored.answer;
     let count = restored.count;
-    print(title);
-    print_code_and_count(answer.code(), count);
+    rt.print(title)?;
+    print_code_and_count(rt, answer.code(), count)?;
     if same(restored.file, wanted) {
-        print(b", the wanted file");
+        rt.print(", the wanted file")?;
     }
     if same(restored.file, current) {
-        print(b", the file as given");
+        rt.print(", the file as given")?;
     }
     if restored.file.state.line == current.state.line {
-        print(b", the line as given");
+        rt.print(", the line as given")?;
     }
-    print_found(&buffer, count);
+    print_found(rt, &buffer, count)
 }
 
-fn print_colour(colour: Colour) {
-    io::print_decimal(STDOUT_FILENO, colour.red as u64);
-    print(b" ");
-    io::print_decimal(STDOUT_FILENO, colour.green as u64);
-    print(b" ");
-    io::print_decimal(STDOUT_FILENO, colour.blue as u64);
+fn print_colour(rt: &impl Print, colour: Colour) -> io::Result<()> {
+    let red = colour.red;
+    let green = colour.green;
+    let blue = colour.blue;
+    print!(rt; "{red} {green} {blue}")
 }
 
 // What a host reads of the file that a restore ends in: a register by its name, the last entries, the pointer's address.
-fn print_reads(current: File, wanted: File) {
+fn print_reads(rt: &impl Print, current: File, wanted: File) -> io::Result<()> {
     let mut buffer = [FILL; 8192];
     let end = restore(current, wanted, &mut buffer).file;
-    print(b"E8 ");
-    io::print_decimal(STDOUT_FILENO, end.register_named(b"E8").value() as u64);
-    print(b", palette ");
-    print_colour(end.palette_entry(255).colour);
-    print(b", bank ");
-    print_colour(end.bank_entry(15).colour);
-    print(b", address ");
-    io::print_decimal(STDOUT_FILENO, end.pointer_now().pointer.address as u64);
-    print(b"\n");
+    rt.print("E8 ")?;
+    rt.print(end.register_named(b"E8").value())?;
+    rt.print(", palette ")?;
+    print_colour(rt, end.palette_entry(255).colour)?;
+    rt.print(", bank ")?;
+    print_colour(rt, end.bank_entry(15).colour)?;
+    rt.print(", address ")?;
+    rt.println(end.pointer_now().pointer.address)
 }
 
-fn plans(chip: Chip) {
+fn plans(rt: &impl Print, chip: Chip) -> io::Result<()> {
     let mut short = [FILL; 8191];
-    print_plan(b"plan, 8191 bytes: ", varied(chip), &mut short);
+    print_plan(rt, "plan, 8191 bytes: ", varied(chip), &mut short)?;
     let mut room = [FILL; 8192];
-    print_plan(b"plan, 8192 bytes: ", varied(chip), &mut room);
+    print_plan(rt, "plan, 8192 bytes: ", varied(chip), &mut room)?;
     let mut buffer = [FILL; 8192];
     let green = with_pointer(varied(chip), pointer_before(1, 0, 0));
-    print_plan(b"plan, before green: ", green, &mut buffer);
+    print_plan(rt, "plan, before green: ", green, &mut buffer)?;
     let blue = with_pointer(varied(chip), pointer_before(2, 0, 0));
-    print_plan(b"plan, before blue: ", blue, &mut buffer);
+    print_plan(rt, "plan, before blue: ", blue, &mut buffer)?;
     let unsound = with_pointer(varied(chip), pointer_before(1, 0, 7));
-    print_plan(b"plan, held green too early: ", unsound, &mut buffer);
+    print_plan(rt, "plan, held green too early: ", unsound, &mut buffer)
 }
 
-fn restores(chip: Chip) {
+fn restores(rt: &impl Print, chip: Chip) -> io::Result<()> {
     let wanted = varied(chip);
     let all = everything_set(chip);
-    print_restore(b"restore from power-on: ", File::power_on(chip), wanted);
-    print_restore(b"restore from everything set: ", all, wanted);
+    print_restore(rt, "restore from power-on: ", File::power_on(chip), wanted)?;
+    print_restore(rt, "restore from everything set: ", all, wanted)?;
     let closed = set_register(all, 6, 0); // PCI04
-    print_restore(b"restore from a closed card: ", closed, wanted);
-    print_reads(closed, wanted);
-    print_restore(b"restore to power-on: ", all, File::power_on(chip));
+    print_restore(rt, "restore from a closed card: ", closed, wanted)?;
+    print_reads(rt, closed, wanted)?;
+    print_restore(rt, "restore to power-on: ", all, File::power_on(chip))?;
     let unsound = with_pointer(all, pointer_before(3, 0, 0));
-    print_restore(b"restore of an unsound file: ", unsound, wanted);
-    print_restore(b"restore to an unsound file: ", wanted, unsound);
+    print_restore(rt, "restore of an unsound file: ", unsound, wanted)?;
+    print_restore(rt, "restore to an unsound file: ", wanted, unsound)
 }
 
 // From a file of the other chip: 15, also where the wanted file's pointer stands inside an entry.
-fn between(chip: Chip, other: Chip) {
+fn between(rt: &impl Print, chip: Chip, other: Chip) -> io::Result<()> {
     print_restore(
-        b"restore from the other chip: ",
+        rt,
+        "restore from the other chip: ",
         varied(other),
         varied(chip),
-    );
+    )?;
     let blue = with_pointer(varied(chip), pointer_before(2, 0, 0));
-    print_restore(b"restore from it, before blue: ", varied(other), blue);
+    print_restore(rt, "restore from it, before blue: ", varied(other), blue)
 }
 
-fn main() {
-    print(b"5464\n");
-    plans(Chip::Gd5464);
-    restores(Chip::Gd5464);
-    between(Chip::Gd5464, Chip::Gd5462);
-    print(b"5462\n");
-    plans(Chip::Gd5462);
-    restores(Chip::Gd5462);
-    between(Chip::Gd5462, Chip::Gd5464);
+fn main(rt: HostRuntime) -> io::Result<()> {
+    rt.println("5464")?;
+    plans(&rt, Chip::Gd5464)?;
+    restores(&rt, Chip::Gd5464)?;
+    between(&rt, Chip::Gd5464, Chip::Gd5462)?;
+    rt.println("5462")?;
+    plans(&rt, Chip::Gd5462)?;
+    restores(&rt, Chip::Gd5462)?;
+    between(&rt, Chip::Gd5462, Chip::Gd5464)
 }

@@ -1,13 +1,10 @@
 -- The scan's definitions, by what the code's tests found. Assumes nothing.
 use Prim.Native.Nat.{ℕ, ◌+◌, ◌%◌, ◌≤◌, ◌<◌}
-use mathlib.Core.Bool.{Bool, true, false, ◌&&◌}
+use mathlib.Core.Bool.{true, false}
 use mathlib.Core.List.{List}
-use mathlib.Core.Path.{◌≡◌, refl, sym, ap, ◌∙◌}
-use native.Mathlib.Omega.{arith}
+use mathlib.Core.Path.{◌≡◌}
 use borrow.Author.Tests.{eq-eqb, ne_eqb, lt-ltb, le-ltb, le-leb, lt-leb}
-use lib.Dec.{eqb, leb, ltb}
 use lib.ListN.{get_or, set}
-use Rattle.bits.proofs.Test.{by-test}
 use Rattle.modes.specs.Form.{digit}
 use Rattle.portable.specs.declared.Timing.{Timing}
 use Rattle.portable.specs.Timing.{timing_by}

@@ -1,13 +1,13 @@
 -- Read byte by byte, a text is a list of fourteen numbers exactly where its parts are, and the numbers are theirs. Assumes nothing.
 use Prim.Native.Nat.{ℕ, zero, suc, ◌+◌, ◌-◌, ◌*◌, ◌%◌, ◌≤◌, ◌<◌, min}
 use mathlib.Core.Path.{◌≡◌, refl, sym, ap, ◌∙◌, fun_ext}
-use mathlib.Core.Bool.{Bool, true, false, cond, ◌&&◌}
-use mathlib.Core.List.{List, [], ◌∷◌, ◌++◌, map, map-append, append_assoc, append-nil}
+use mathlib.Core.Bool.{Bool, true, false, ◌&&◌}
+use mathlib.Core.List.{List, [], ◌∷◌, ◌++◌, map, map-append, append-nil}
 use native.Mathlib.Nat.{mod-eq_of_lt}
 use native.Mathlib.Numerals.{add-one}
 use native.Mathlib.Omega.{arith}
-use borrow.Author.Tests.{eqb-true, eqb-false, eq-eqb, ne_eqb, lt-ltb, le-ltb, ltb-true, ltb-false}
-use lib.Dec.{eqb, leb, ltb}
+use borrow.Author.Tests.{eqb-true, eqb-false, eq-eqb, ne_eqb, lt-ltb, ltb-true, ltb-false}
+use lib.Dec.{eqb, ltb}
 use lib.ListN.{length, length-append, length-drop, length-map, drop, drop_of_length-le, get_or, replicate, set}
 use lib.Seq.{append_snoc, drop-cons, set-append_seam}
 use Rattle.bits.proofs.Test.{by-test, is_true, left, passes, right}
@@ -15,7 +15,6 @@ use Rattle.modes.specs.Form.{digit, every, value_from, value_of}
 use Rattle.modes.proofs.Tokens.{value-append}
 use Rattle.portable.specs.declared.Timing.{Timing}
 use Rattle.portable.specs.Timing.{timing_by, timing_of}
-use Rattle.portable_text.specs.declared.listing.Listed.{Listed}
 use Rattle.portable_text.specs.declared.listing.Scan.{Scan}
 use Rattle.portable_text.specs.Numbers.{parts_from, parts, number, is_list, held_of, no_list, listed_by, listed_in}
 use Rattle.portable_text.specs.Scan.{begun, spoiled, with_digit, with_space, stepped, scanned, ended}

@@ -1,6 +1,6 @@
 -- The program of 02, 13/13: how the code goes through a list of numbers, byte by byte; no part of what a list is.
 -- Assumes nothing.
-use Rattle.std.specs.Prelude.{ℕ, ◌+◌, ◌-◌, ◌*◌, ◌%◌, min, Bool, true, false, cond, ◌&&◌, List, [], ◌∷◌, eqb, ltb, get_or, replicate, set}
+use Rattle.std.specs.Prelude.{ℕ, ◌+◌, ◌-◌, ◌*◌, ◌%◌, min, true, false, cond, ◌&&◌, List, [], ◌∷◌, eqb, ltb, get_or, replicate, set}
 use Rattle.modes.specs.Form.{digit}
 use Rattle.portable.specs.Timing.{timing_by}
 use Rattle.portable_text.specs.declared.listing.Listed.{Listed}

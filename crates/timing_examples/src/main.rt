@@ -6,8 +6,8 @@ ghost use Rattle.paper.specs.Examples.{blanked as blankedNumbers, mode12, starte
 ghost use Rattle.timing.specs.Timing.{timing_of};
 
 use file::{Chip, File};
-use libc::STDOUT_FILENO;
 use paper::{opened, set_register};
+use std::io;
 use timing::{Clocks, Scanlines, Timing, read_timing, write_timing};
 
 // P9: 'IBM mode 12h'.
@@ -57,54 +57,52 @@ fn blanked(clocks: u16) -> Timing
     }
 }
 
-fn print_timing(file: File) {
+fn print_timing(rt: &impl Print, file: File) -> io::Result<()> {
     let mut line = [0u8; 512];
     let end = text::timing_line(&mut line, 0, read_timing(file).timing).end;
-    io::write_all(STDOUT_FILENO, &line[..end]);
+    rt.write_all(&line[..end])
 }
 
 // A timing write's code, and the timing of the file after it.
-fn print_written(file: File, timing: Timing) {
+fn print_written(rt: &impl Print, file: File, timing: Timing) -> io::Result<()> {
     let written = write_timing(file, timing);
     let answer = written.answer;
-    io::print_decimal(STDOUT_FILENO, answer.code() as u64);
-    io::write_all(STDOUT_FILENO, b"\n");
-    print_timing(written.file);
+    rt.println(answer.code())?;
+    print_timing(rt, written.file)
 }
 
-fn print_signed(n: i16) {
+fn print_signed(rt: &impl Print, n: i16) -> io::Result<()> {
     if n < 0 {
-        io::write_all(STDOUT_FILENO, b"-");
+        rt.print("-")?;
     }
-    io::print_decimal(STDOUT_FILENO, geometry::magnitude(n) as u64);
+    rt.print(geometry::magnitude(n))
 }
 
 // The cursor's left edge and shown width.
-fn print_cursor(file: File) {
+fn print_cursor(rt: &impl Print, file: File) -> io::Result<()> {
     let cursor = geometry::read_geometry(file).cursor;
-    print_signed(cursor.left.0);
-    io::write_all(STDOUT_FILENO, b" ");
-    io::print_decimal(STDOUT_FILENO, cursor.width.0 as u64);
-    io::write_all(STDOUT_FILENO, b"\n");
+    print_signed(rt, cursor.left.0)?;
+    rt.print(" ")?;
+    rt.println(cursor.width.0)
 }
 
-fn print_examples(chip: Chip) {
-    io::write_all(STDOUT_FILENO, b"P9\n");
-    print_timing(mode_12h(chip));
-    io::write_all(STDOUT_FILENO, b"P10\n");
-    print_written(opened(chip), blanked(64));
-    print_written(opened(chip), blanked(65));
+fn print_examples(rt: &impl Print, chip: Chip) -> io::Result<()> {
+    rt.println("P9")?;
+    print_timing(rt, mode_12h(chip))?;
+    rt.println("P10")?;
+    print_written(rt, opened(chip), blanked(64))?;
+    print_written(rt, opened(chip), blanked(65))?;
     let wide = set_register(opened(chip), 52, 0x20); // CR1B
-    print_written(wide, blanked(256));
-    print_written(wide, blanked(257));
-    io::write_all(STDOUT_FILENO, b"P11\n");
+    print_written(rt, wide, blanked(256))?;
+    print_written(rt, wide, blanked(257))?;
+    rt.println("P11")?;
     let preset = set_register(opened(chip), 97, 0x0A00); // E4
-    print_cursor(set_register(preset, 95, 0x0005)); // E0
+    print_cursor(rt, set_register(preset, 95, 0x0005)) // E0
 }
 
-fn main() {
-    io::write_all(STDOUT_FILENO, b"5464\n");
-    print_examples(Chip::Gd5464);
-    io::write_all(STDOUT_FILENO, b"5462\n");
-    print_examples(Chip::Gd5462);
+fn main(rt: HostRuntime) -> io::Result<()> {
+    rt.println("5464")?;
+    print_examples(&rt, Chip::Gd5464)?;
+    rt.println("5462")?;
+    print_examples(&rt, Chip::Gd5462)
 }

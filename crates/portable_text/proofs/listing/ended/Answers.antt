@@ -1,6 +1,5 @@
 -- `ended` meets its contract, by what its tests found. Assumes nothing.
 use mathlib.Core.Path.{◌∙◌}
-use borrow.Author.Rules.{rules}
 use borrow.Author.Tests.{not-true, not-false}
 use Rattle.portable_text.proofs.Cases.{end-spoiled, end_empty, end-early, end-full}
 use Rattle.portable_text.proofs.listing.ended.Goals as goal

@@ -1,7 +1,6 @@
 -- `no_list` meets its contract. Assumes nothing.
 use mathlib.Core.Bool.{false}
 use mathlib.Core.Path.{ap}
-use borrow.Author.Rules.{rules}
 use Rattle.portable.specs.declared.Timing.{Timing}
 use Rattle.portable.specs.Timing.{timing_of}
 use Rattle.portable_text.specs.Numbers.{no_list}

@@ -1,11 +1,10 @@
-use Prim.Native.Nat.{◌+◌, ◌-◌}
+use Prim.Native.Nat.{◌+◌}
 use mathlib.Core.Path.{sym, ap, ◌∙◌}
 use native.Mathlib.Omega.{arith}
 use lib.ListN.{drop}
 use Rattle.portable_text.specs.declared.listing.Scan.{Scan}
-use Rattle.portable_text.specs.Scan.{begun, ended, scanned}
+use Rattle.portable_text.specs.Scan.{ended, scanned}
 use Rattle.portable_text.proofs.ListRead.{list_read, scanned-next, scanned-last}
-use borrow.Author.Rules.{rules}
 use Rattle.portable_text.proofs.listing.read_list.Goals as goal
 
 pub loop-i-init : goal.loop-i-init

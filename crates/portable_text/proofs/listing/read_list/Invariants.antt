@@ -3,7 +3,6 @@ use Prim.Native.Nat.{◌-◌, ◌≤◌}
 use mathlib.Core.Path.{◌≡◌}
 use lib.ListN.{drop, length}
 use Rattle.portable_text.specs.Scan.{begun, scanned}
-use borrow.Author.Rules.{rules}
 use Rattle.portable_text.proofs.listing.read_list.Given as goal
 
 abbrev pub invariant-loop-i : goal.invariant-loop-i

@@ -1,6 +1,5 @@
 -- `stepped` meets its contract, by what its tests found. Assumes nothing.
 use mathlib.Core.Path.{◌∙◌}
-use borrow.Author.Rules.{rules}
 use Rattle.portable_text.proofs.Cases.{step-space, step-low, step-high, step-digit}
 use Rattle.portable_text.proofs.listing.stepped.Goals as goal
 

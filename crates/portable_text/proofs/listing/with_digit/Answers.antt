@@ -1,5 +1,4 @@
 -- `with_digit` meets its contract. Assumes nothing.
-use borrow.Author.Rules.{rules}
 use Rattle.portable_text.specs.Scan.{with_digit}
 use Rattle.portable_text.proofs.listing.with_digit.Goals as goal
 

@@ -1,7 +1,6 @@
 -- `with_space` meets its contract, by what its tests found. Assumes nothing.
 use mathlib.Core.Path.{◌∙◌}
 use native.Mathlib.Omega.{arith}
-use borrow.Author.Rules.{rules}
 use borrow.Author.Tests.{not-true, not-false}
 use Rattle.portable_text.proofs.Cases.{space-none, space-last, space-next}
 use Rattle.portable_text.proofs.listing.with_space.Goals as goal

@@ -1,5 +1,4 @@
 -- `timing_line` meets its contract: the reader's code is 0 or 12. Assumes nothing.
-use borrow.Author.Rules.{rules}
 use Rattle.text.proofs.Standing.{lined-as}
 use Rattle.portable_text.proofs.Lines.{done-line, refused-line}
 use Rattle.portable_text.proofs.printing.timing_line.Goals as goal

@@ -1,5 +1,4 @@
 -- `write_list` meets its contract. Assumes nothing.
-use borrow.Author.Rules.{rules}
 use Rattle.portable_text.proofs.ListsWritten.{list_written}
 use Rattle.portable_text.proofs.writing.write_list.Goals as goal
 

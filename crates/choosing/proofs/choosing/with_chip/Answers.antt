@@ -1,0 +1,15 @@
+-- `with_chip` meets its contract. Assumes nothing.
+use Rattle.choosing.specs.Choosing.{with_chip}
+use Rattle.choosing.proofs.choosing.with_chip.Goals as goal
+
+pub returns-in-OnChip : goal.returns-in-OnChip
+unfolding with_chip
+returns-in-OnChip c = rw c.in-OnChip.is
+
+pub returns-in-ByEngine : goal.returns-in-ByEngine
+unfolding with_chip
+returns-in-ByEngine c = rw c.in-ByEngine.is
+
+pub returns-in-Nothing : goal.returns-in-Nothing
+unfolding with_chip
+returns-in-Nothing c = rw c.in-Nothing.is
