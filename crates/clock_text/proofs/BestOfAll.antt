@@ -1,10 +1,10 @@
 -- The largest and the smallest rate: one of the sets has it, and no set has a better one. Assumes nothing.
-use Prim.Native.Nat.{ℕ, ◌+◌, ◌*◌, ◌≤◌, ◌<◌}
+use Prim.Native.Nat.{ℕ, ◌+◌, ◌*◌, ◌<◌}
 use mathlib.Core.Bool.{Bool, true, false, cond, not, ◌||◌}
 use mathlib.Core.List.Memᴰ
 use mathlib.Core.List.{List, [], ◌∷◌, Memᴰ}
 use mathlib.Core.Logic.{◌⊎◌, inl, inr, ⊎_elim}
-use mathlib.Core.Path.{◌≡◌, refl, sym, ap, ◌∙◌, subst}
+use mathlib.Core.Path.{◌≡◌, refl, sym, ◌∙◌, subst}
 use native.Mathlib.Nat.{le_refl}
 use native.Mathlib.Omega.{arith}
 use borrow.Author.Tests.{ltb-true, ltb-false, le-ltb, eqb-false, ne_eqb}
@@ -14,7 +14,7 @@ use lib.ListN.{length}
 use Rattle.bits.specs.Store.{bit}
 use Rattle.bits.proofs.Test.{by-test}
 use Rattle.clock.specs.declared.terms.Terms.{Terms}
-use Rattle.clock.specs.Clock.{denominator, terms_of}
+use Rattle.clock.specs.Clock.{denominator}
 use Rattle.clock.specs.Lowest.{no_terms}
 use Rattle.clock.proofs.RateRounds.{terms-positive}
 use Rattle.clock_text.specs.declared.sets.SetClock.{SetClock}

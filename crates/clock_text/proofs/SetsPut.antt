@@ -8,7 +8,6 @@ use lib.Seq.{sets, length-sets}
 use Rattle.file.specs.declared.answer.Answer.TheVariants.{Done}
 use Rattle.text.specs.Lent.{Wrote}
 use Rattle.text.proofs.Stores.{rest-stored}
-use Rattle.clock_text.specs.declared.parts.SetsPart.{SetsPart}
 use Rattle.clock_text.specs.declared.sets.SetClock.{SetClock}
 use Rattle.clock_text.specs.declared.sets.SetClock.TheVariants.{Rate, None, Refused}
 use Rattle.clock_text.specs.declared.tally.Tally.{Tally}

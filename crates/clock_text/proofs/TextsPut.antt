@@ -1,10 +1,10 @@
 -- A text copied into a buffer, and a number's digits. Assumes nothing.
 use Prim.Native.Nat.{ℕ, zero, suc, ◌+◌, ◌-◌, ◌≤◌}
-use mathlib.Core.List.{List, ◌++◌, append_assoc, append-nil}
+use mathlib.Core.List.{List, append_assoc}
 use mathlib.Core.Path.{◌≡◌, refl, sym, ap, ◌∙◌}
 use native.Mathlib.Omega.{arith}
-use lib.ListN.{length, take, drop, length-drop, drop_of_length-le}
-use lib.Seq.{drop-drop, sets, sets-eq, take_all, take-length}
+use lib.ListN.{length, take, drop}
+use lib.Seq.{drop-drop, sets-eq}
 use borrow.Rule.Slice.PartMut.{put_mid}
 use Rattle.io.specs.Digits.{last_digits, IsDigitCount}
 use Rattle.text.specs.Lent.{Wrote}

@@ -1,7 +1,6 @@
 -- The place that a sound file shows at a kind and an address, by the engine's cells. Assumes nothing.
 use Prim.Native.Nat.{ℕ, zero, suc, ◌<◌}
 use mathlib.Core.Bool.{true, false, true≢false}
-use mathlib.Core.Option.{none, some}
 use mathlib.Core.List.{List}
 use mathlib.Core.Path.{◌≡◌, refl, sym, ap, ◌∙◌}
 use native.Mathlib.Omega.{arith}
@@ -12,15 +11,12 @@ use Rattle.file.specs.File.{register, seen}
 use Rattle.file.specs.Registers.{stored_bits}
 use Rattle.file.specs.Sound.{sound}
 use Rattle.file.proofs.Soundness.{at_most, registers-sound}
-use Rattle.places.specs.declared.place.Place.{Place}
 use Rattle.places.specs.EngineCells.{attribute_place, cell_at, cell_in, cell_place, cell_table, held_cell, indexed_places, is_nothing, plain_place}
 use Rattle.places.specs.Lookup.{attribute_index, place_at, place_of_row, row_at}
-use Rattle.places.specs.Places.{Row}
 use Rattle.places.proofs.CellsOfRows.{Outcome, nothing, held, outcome, spoken}
 use Rattle.places.proofs.IndexedPorts.{decider, count, Indexed, cell-names}
 use Rattle.places.proofs.NotHeld.{something-held, cell-held, cell-spoken}
 use Rattle.places.proofs.TableOfCells.{cell-true}
-use Rattle.explaining.specs.declared.words.Found.{Found}
 use Rattle.explaining.specs.declared.words.Found.TheVariants.{Held, NotFound}
 use Rattle.explaining.specs.Words.{found_at}
 

@@ -1,7 +1,7 @@
 -- 'Explain': what a line is made of. A line is written token by token behind what stands there, and nothing stands behind its last place, so that
 -- with its newline it has 160 bytes at most. No line of an explanation gets that far, so none drops a byte: `nothing-dropped`.
 -- Assumes nothing.
-use Rattle.std.specs.Prelude.{ℕ, zero, suc, ◌+◌, ◌-◌, ◌*◌, ◌/◌, ◌%◌, ◌^◌, Bool, cond, List, [], ◌∷◌, ◌++◌, eqb, leb, ltb, get_or, length, set, take, replicate}
+use Rattle.std.specs.Prelude.{ℕ, zero, suc, ◌+◌, ◌-◌, ◌*◌, ◌/◌, ◌%◌, ◌^◌, cond, List, [], ◌∷◌, ◌++◌, eqb, leb, ltb, get_or, length, set, take, replicate}
 use Prim.Native.String.{String}
 use Rattle.file.specs.declared.answer.Answer.{Answer}
 use Rattle.file.specs.declared.answer.Answer.TheVariants.{Done, ShortBuffer}

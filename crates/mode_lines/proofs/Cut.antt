@@ -1,8 +1,8 @@
 -- Where a part's first line ends. Assumes nothing.
 use Prim.Native.Nat.{ℕ, suc, ◌+◌, ◌≤◌, ◌<◌}
 use mathlib.Core.Bool.{Bool, true, false, true≢false}
-use mathlib.Core.List.{List, [], ◌∷◌, ◌++◌}
-use mathlib.Core.Path.{◌≡◌, refl, sym, ap, ◌∙◌}
+use mathlib.Core.List.{List, [], ◌∷◌}
+use mathlib.Core.Path.{◌≡◌, refl, sym, ap}
 use native.Mathlib.Numerals.{add-one}
 use native.Mathlib.Omega.{arith}
 use borrow.Author.Tests.{eq-eqb, ne_eqb}
@@ -11,7 +11,6 @@ use lib.ListN.{length, get_or, take, drop, drop_of_length-le}
 use lib.Seq.{drop-cons}
 use Rattle.io.specs.Counts.{IsPrefixLen}
 use Rattle.bits.proofs.Test.{by-test}
-use Rattle.mode_lines.specs.declared.split.Taken.{Taken}
 use Rattle.mode_lines.specs.Kept.{Kept}
 use Rattle.mode_lines.specs.Lines.{TookLine, up_to, has_newline}
 use Rattle.mode_lines.proofs.Laying.{kept-counts}

@@ -1,12 +1,12 @@
 -- A good line has at most 113 bytes; so a line that has more than 256 is judged by its first 256. Assumes nothing.
-use Prim.Native.Nat.{ℕ, suc, ◌+◌, ◌-◌, ◌*◌, ◌^◌, ◌≤◌, ◌<◌}
-use mathlib.Core.Bool.{Bool, true, false, not, ◌&&◌, ◌||◌}
+use Prim.Native.Nat.{ℕ, suc, ◌-◌, ◌*◌, ◌^◌, ◌≤◌, ◌<◌}
+use mathlib.Core.Bool.{Bool, true, false, ◌&&◌}
 use mathlib.Core.List.{List, [], ◌∷◌, ◌++◌}
-use mathlib.Core.Path.{◌≡◌, refl, sym, ap, ◌∙◌, subst}
+use mathlib.Core.Path.{◌≡◌, sym, ap, subst}
 use native.Mathlib.Omega.{arith}
 use borrow.Author.Tests.{leb-true, leb-false}
 use lib.Dec.{T, leb, leb→le}
-use lib.ListN.{length, take, drop, length-append, length-take}
+use lib.ListN.{length, take, length-append}
 use lib.Seq.{length-take-le, take_all, take-take}
 use Rattle.bits.proofs.Test.{by-test, left, right}
 use Rattle.file.specs.Readers.{ascii}
@@ -14,7 +14,7 @@ use Rattle.modes.proofs.Tokens.{value-append, value-large}
 use Rattle.modes.specs.declared.mode.Mode.{Mode}
 use Rattle.modes.specs.declared.mode.Parsed.{Parsed}
 use Rattle.modes.specs.Form.{Flag, Parts, Formed, Good, every, numeral, value_from, value_of, kilohertz, clock_text, numbers_text, flag_text, flags_text, each_once, header, spelled}
-use Rattle.modes.specs.Place.{Begins, BadAt, Says}
+use Rattle.modes.specs.Place.{Begins, BadAt}
 use Rattle.modes.specs.Promises.{Told, told_by}
 
 -- each MHz is 1000 kHz

@@ -1,22 +1,21 @@
 -- A part, taken line by line: what holds between two lines, one line more, and the end. Assumes nothing.
-use Prim.Native.Nat.{ℕ, zero, suc, ◌+◌, ◌-◌, ◌*◌, ◌/◌, ◌^◌, ◌≤◌, ◌<◌}
+use Prim.Native.Nat.{ℕ, zero, suc, ◌+◌, ◌-◌, ◌*◌, ◌/◌, ◌≤◌, ◌<◌}
 use mathlib.Core.Bool.{Bool, true, false, cond}
-use mathlib.Core.List.{List, [], ◌∷◌, ◌++◌, append_assoc}
+use mathlib.Core.List.{List, [], ◌∷◌, ◌++◌}
 use mathlib.Core.Path.{◌≡◌, refl, sym, ap, ap₂, ◌∙◌, subst}
 use native.Mathlib.Omega.{arith}
 use lib.ListN.{length, take, drop, length-append, length-drop, drop_of_length-le}
-use lib.Seq.{length-take-le, take_all, take-append_seam, drop-append-add, drop-drop, sets-eq}
+use lib.Seq.{length-take-le, take_all, take-append_seam, drop-append-add, drop-drop}
 use Rattle.io.specs.Counts.{IsPrefixLen}
 use Rattle.file.specs.declared.answer.Answer.TheVariants.{Done}
 use Rattle.file.specs.declared.registers.File.{File}
 use Rattle.file.specs.Answers.{code_of, refused}
-use Rattle.text.specs.Lent.{Lined, Wrote, behind_by, placed_by}
+use Rattle.text.specs.Lent.{Lined, behind_by, placed_by}
 use Rattle.mode_lines.specs.declared.parts.Progress.{Progress}
-use Rattle.mode_lines.specs.declared.split.Taken.{Taken}
-use Rattle.mode_lines.specs.Kept.{Kept, kept_text}
-use Rattle.mode_lines.specs.Lines.{TookLine, has_newline, up_to}
+use Rattle.mode_lines.specs.Kept.{kept_text}
+use Rattle.mode_lines.specs.Lines.{has_newline, up_to}
 use Rattle.mode_lines.specs.Parts.{Held, NextReported, PartReported, Reports, none, behind, last_number, line_kept, next_by, taken, take_lines, with_line, with_part}
-use Rattle.mode_lines.specs.Report.{Reported, report_line}
+use Rattle.mode_lines.specs.Report.{report_line}
 use Rattle.mode_lines.proofs.Cut.{up-to-all, up-to-most, ended-less}
 use Rattle.mode_lines.proofs.Laying.{kept-length, kept-start}
 use Rattle.mode_lines.proofs.ReportsOfLines.{reports-more}

@@ -3,7 +3,6 @@ use Prim.Native.Nat.{ℕ, zero, suc, ◌+◌, ◌-◌}
 use mathlib.Core.Bool.{Bool, true, false, true≢false, cond}
 use mathlib.Core.List.{List, [], ◌∷◌, ◌++◌, append_assoc, append-nil, map}
 use mathlib.Core.Path.{◌≡◌, refl, sym, ap, ap₂, ◌∙◌, subst}
-use native.Mathlib.Nat.{add-zero, add_assoc}
 use native.Mathlib.Omega.{arith}
 use borrow.Author.Tests.{eqb-true}
 use lib.Dec.{eqb}
@@ -18,7 +17,6 @@ use Rattle.mode_lines.specs.Inputs.{AllReported, Input, InParts, nothing, more, 
 use Rattle.mode_lines.specs.Kept.{kept_text}
 use Rattle.mode_lines.specs.Lines.{has_newline, up_to}
 use Rattle.mode_lines.specs.Parts.{Held, PartReported, Reports, none, then, behind, last_number, line_kept, taken, take_lines, with_line, with_part}
-use Rattle.mode_lines.specs.Report.{report_line}
 use Rattle.mode_lines.proofs.Cut.{up-to-take}
 use Rattle.mode_lines.proofs.FirstBytes.{told-by-first}
 use Rattle.mode_lines.proofs.Laying.{kept-room, take-over}

@@ -1,12 +1,12 @@
 -- Bytes laid one behind the other in a buffer. Assumes nothing.
-use Prim.Native.Nat.{ℕ, suc, ◌+◌, ◌-◌, ◌≤◌, ◌<◌, min}
+use Prim.Native.Nat.{ℕ, ◌+◌, ◌-◌, ◌≤◌, min}
 use mathlib.Core.List.{List, [], ◌++◌, append_assoc, append-nil}
-use mathlib.Core.Path.{◌≡◌, refl, sym, ap, ap₂, ◌∙◌, subst}
+use mathlib.Core.Path.{◌≡◌, sym, ap, ap₂, ◌∙◌}
 use native.Mathlib.Omega.{arith}
 use borrow.Author.Tests.{leb-true, leb-false}
 use lib.Dec.{leb}
 use lib.ListN.{length, take, drop, length-append, length-take, length-drop, take-append-drop}
-use lib.Seq.{length-take-le, take_all, take-length, take-append-add, take-append-le, drop-append-add, drop-drop, take_at, drop_at, take-take, sets, sets-eq}
+use lib.Seq.{length-take-le, take_all, take-append-add, take-append-le, drop-append-add, drop-drop, take_at, take-take, sets, sets-eq}
 use Rattle.io.specs.Counts.{IsPrefixLen}
 use Rattle.bits.proofs.Test.{by-test}
 use Rattle.text.specs.Lent.{Wrote}

@@ -1,12 +1,12 @@
 -- A report: from what it is put together, and that it is short. Assumes nothing.
 use Prim.Native.Nat.{ℕ, ◌+◌, ◌^◌, ◌≤◌, ◌<◌}
-use mathlib.Core.Bool.{Bool, true, false, cond}
+use mathlib.Core.Bool.{true, false}
 use mathlib.Core.List.{List, [], ◌∷◌, ◌++◌, append-nil}
-use mathlib.Core.Path.{◌≡◌, refl, sym, ap, ◌∙◌, subst}
+use mathlib.Core.Path.{◌≡◌, refl, sym, ap, subst}
 use native.Mathlib.Numerals.{add-one}
 use native.Mathlib.Omega.{arith}
 use borrow.Author.Tests.{leb-true, le-leb, eq-eqb, ne_eqb}
-use lib.Dec.{eqb, leb, lit<}
+use lib.Dec.{leb, lit<}
 use lib.ListN.{length, length-append}
 use Rattle.bits.proofs.Test.{by-test}
 use Rattle.file.specs.declared.answer.Answer.TheVariants.{Done as Answered, ShortBuffer}
@@ -18,7 +18,7 @@ use Rattle.replaying.specs.Replay.{timing_most}
 use Rattle.replaying.proofs.Timed.{line-short}
 use Rattle.text.specs.declared.placed.Placed.{Placed}
 use Rattle.text.specs.Lent.{Lined}
-use Rattle.text.specs.Text.{decimal, decimal_places, newline, numbers_line, signed, space, spaced, timing_line}
+use Rattle.text.specs.Text.{decimal, decimal_places, newline, signed, space, spaced, timing_line}
 use Rattle.text.proofs.Places.{most-places}
 use Rattle.text.proofs.Spaced.{numbers-length}
 use Rattle.text.proofs.Spelled.{digits-length}

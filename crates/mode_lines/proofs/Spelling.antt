@@ -1,12 +1,11 @@
 -- Numbers as the kit's digits, and several of them, each behind a space. Assumes nothing.
 use Prim.Native.Nat.{ℕ, zero, suc, ◌+◌, ◌-◌, ◌^◌, ◌≤◌, ◌<◌}
-use mathlib.Core.Bool.{Bool, false}
 use mathlib.Core.List.{List, [], ◌∷◌, ◌++◌, append_assoc, append-nil}
 use mathlib.Core.Path.{◌≡◌, sym, ap, ◌∙◌, subst}
 use native.Mathlib.Numerals.{add-one}
 use native.Mathlib.Omega.{arith}
-use lib.ListN.{length, get_or, take, drop}
-use lib.Seq.{take-suc, drop-nil}
+use lib.ListN.{length, get_or, take}
+use lib.Seq.{take-suc}
 use Rattle.io.specs.Digits.{last_digits, IsDigitCount}
 use Rattle.text.specs.Text.{decimal, decimal_places, signed, space, spaced}
 use Rattle.text.proofs.Places.{one_place, so-many}

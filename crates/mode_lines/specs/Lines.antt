@@ -1,6 +1,6 @@
 -- 02, 4/13: 'Read one line': an input's lines, each ended by a newline, out of parts that end anywhere.
 -- Assumes nothing.
-use Rattle.std.specs.Prelude.{ℕ, ◌+◌, Bool, true, false, cond, ◌||◌, List, [], ◌∷◌, ◌≡◌, eqb, length}
+use Rattle.std.specs.Prelude.{ℕ, ◌+◌, Bool, false, cond, ◌||◌, List, [], ◌∷◌, ◌≡◌, eqb, length}
 use Rattle.mode_lines.specs.declared.split.Taken.{Taken}
 use Rattle.mode_lines.specs.Kept.{Kept}
 

@@ -9,7 +9,7 @@ use Rattle.mode_lines.specs.declared.parts.Progress.{Progress}
 use Rattle.mode_lines.specs.declared.split.Taken.{Taken}
 use Rattle.mode_lines.specs.Kept.{kept_text}
 use Rattle.mode_lines.specs.Lines.{TookLine, has_newline, up_to}
-use Rattle.mode_lines.specs.Report.{Reported, report_line, report_most}
+use Rattle.mode_lines.specs.Report.{Reported, report_line}
 
 -- the lines that were whole so far, as they were kept; what is kept of the next, at the start of a buffer; and how many bytes of the part that took
 pub record Held : Type 0 where

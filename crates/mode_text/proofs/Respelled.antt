@@ -1,29 +1,28 @@
 -- 02, 4/13: a line that was read, written again with its name and its clock from the file that it was read into, is the same line with three decimals and
 -- both flags. Assumes nothing.
-use Prim.Native.Nat.{ℕ, zero, suc, ◌+◌, ◌-◌, ◌*◌, ◌/◌, ◌%◌, ◌^◌, ◌≤◌}
-use mathlib.Core.Bool.{Bool, true, ◌&&◌}
+use Prim.Native.Nat.{ℕ, zero, suc, ◌-◌, ◌*◌, ◌/◌, ◌%◌, ◌^◌}
+use mathlib.Core.Bool.{true}
 use mathlib.Core.List.{List, ◌++◌, map}
-use mathlib.Core.Path.{◌≡◌, refl, sym, ap, ◌∙◌, subst}
+use mathlib.Core.Path.{◌≡◌, sym, ap, ◌∙◌}
 use native.Mathlib.Omega.{arith}
 use borrow.Author.Tests.{le-leb}
-use lib.Dec.{T, leb, le→leb}
+use lib.Dec.{T}
 use lib.ListN.{length, length-append, length-map, length-replicate, replicate}
 use Rattle.io.specs.Digits.{last_digits}
-use Rattle.bits.proofs.Test.{both, is_true, passes}
+use Rattle.bits.proofs.Test.{is_true, passes}
 use Rattle.file.specs.Sound.{sound}
 use Rattle.file.specs.declared.registers.File.{File}
 use Rattle.text.specs.Text.{decimal}
 use Rattle.timing.specs.Timing.{timing_in}
 use Rattle.modes.proofs.Tokens.{value-append}
-use Rattle.modes.specs.Form.{horizontal, vertical, Parts, every, digit, name_byte, value_from, value_of, kilohertz, Formed, spelled, minus_of, mode_of}
+use Rattle.modes.specs.Form.{horizontal, vertical, Parts, every, digit, value_from, value_of, kilohertz, Formed, spelled, minus_of, mode_of}
 use Rattle.mode_file.proofs.Laws.{line-accepted, line-good, line_read, line-sound}
 use Rattle.mode_file.specs.Into.{ReadInto}
-use Rattle.mode_file.specs.Promises.{name_in}
 use Rattle.mode_file.specs.Said.{timing_said}
 use Rattle.mode_file.specs.Verdicts.{number_of}
 use Rattle.mode_file.specs.declared.into.ReadLine.{ReadLine}
 use Rattle.mode_file.specs.declared.verdict.Verdict.TheVariants.{Done}
-use Rattle.mode_text.specs.Out.{name_fits, clock_fits, of_form, numbers_out, flags_out, parts_with, parts_out, line_out, minus_in, write_verdict}
+use Rattle.mode_text.specs.Out.{name_fits, clock_fits, numbers_out, parts_with, parts_out, line_out, minus_in, write_verdict}
 use Rattle.mode_text.specs.Promises.{respelled, Respelled, WrittenAgain}
 use Rattle.mode_text.proofs.Decimals.{every_append}
 use Rattle.mode_text.proofs.ModeInFile.{mode-timing, mode-flags}

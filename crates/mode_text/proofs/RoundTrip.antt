@@ -7,7 +7,7 @@ use native.Mathlib.Omega.{arith}
 use lib.Dec.{T, eqb, leb}
 use lib.ListN.{length, take, drop}
 use lib.Seq.{take_at}
-use Rattle.bits.proofs.Test.{by-test, is_true, left, right, passes}
+use Rattle.bits.proofs.Test.{is_true, left, right, passes}
 use Rattle.bits.specs.Numbers.{all_in_range}
 use Rattle.bits.specs.Store.{bit}
 use Rattle.file.specs.Answers.{code_of}
@@ -24,7 +24,6 @@ use Rattle.modes.proofs.Once.{told-good}
 use Rattle.modes.specs.declared.mode.Parsed.{Parsed}
 use Rattle.mode_file.proofs.Laws.{line_read}
 use Rattle.mode_file.specs.Into.{done_line, by_code, mode_line, read_with, ReadInto}
-use Rattle.mode_file.specs.Promises.{name_in}
 use Rattle.mode_file.specs.Said.{timing_said, with_mode}
 use Rattle.mode_file.specs.Verdicts.{number_of}
 use Rattle.mode_file.specs.declared.into.ReadLine.{ReadLine}

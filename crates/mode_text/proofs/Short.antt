@@ -1,10 +1,9 @@
 -- A line that is written has at most 113 bytes. Assumes nothing.
-use Prim.Native.Nat.{ℕ, suc, ◌+◌, ◌*◌, ◌/◌, ◌%◌, ◌≤◌}
-use mathlib.Core.List.{List, [], ◌∷◌, ◌++◌, map}
+use Prim.Native.Nat.{ℕ, suc, ◌*◌, ◌/◌, ◌%◌, ◌≤◌}
+use mathlib.Core.List.{List, [], ◌∷◌, map}
 use native.Mathlib.Omega.{arith}
 use lib.Dec.{T, leb, leb→le}
 use lib.ListN.{length, length-append}
-use Rattle.io.specs.Digits.{last_digits}
 use Rattle.bits.proofs.Test.{right}
 use Rattle.file.specs.declared.registers.File.{File}
 use Rattle.text.proofs.Places.{most-places}

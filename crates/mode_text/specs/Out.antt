@@ -1,6 +1,6 @@
 -- 02, 4/13: a line written from a file, a name and a clock.
 -- Assumes nothing.
-use Rattle.std.specs.Prelude.{ℕ, ◌+◌, ◌*◌, ◌/◌, ◌%◌, Bool, true, false, cond, ◌&&◌, List, [], ◌∷◌, ◌++◌, map, ◌≡◌, eqb, leb, length, drop}
+use Rattle.std.specs.Prelude.{ℕ, ◌*◌, ◌/◌, ◌%◌, Bool, cond, ◌&&◌, List, [], ◌∷◌, ◌++◌, map, ◌≡◌, eqb, leb, length, drop}
 use Rattle.bits.specs.Store.{bit}
 use Rattle.io.specs.Digits.{last_digits}
 use Rattle.file.specs.declared.registers.File.{File}

@@ -20,7 +20,7 @@ use Rattle.file.specs.Sound.{sound}
 use Rattle.file.proofs.Codes.{every-listed}
 use Rattle.trace.specs.Records.{items, item_count}
 use Rattle.trace.specs.declared.running.Ran.{Ran}
-use Rattle.trace.specs.Run.{replies, run, ran, run_count}
+use Rattle.trace.specs.Run.{run, ran, run_count}
 use Rattle.trace.specs.Run.{RunLeft as LeftBy}
 use Rattle.trace.proofs.RunMore.{items-length, replies-length}
 use Rattle.text.specs.declared.placed.Placed.{Placed}

@@ -1,6 +1,5 @@
 -- `refused_part` meets its contract. Assumes nothing.
 use mathlib.Core.Path.{refl, sym, ◌∙◌}
-use borrow.Author.Rules.{rules}
 use Rattle.replaying.proofs.refused_part.Goals as goal
 
 pub returns-then-is_sound : goal.returns-then-is_sound

@@ -1,6 +1,5 @@
 -- `parts::counts_fit` meets its contract. Assumes nothing.
 use mathlib.Core.Path.{sym, ◌∙◌}
-use borrow.Author.Rules.{rules}
 use borrow.Author.Tests.{not-true, not-false}
 use Rattle.clock_text.specs.Parts.{counts_fit}
 use Rattle.clock_text.proofs.parts.counts_fit.Goals as goal

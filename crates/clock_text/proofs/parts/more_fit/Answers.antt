@@ -1,7 +1,6 @@
 -- `parts::more_fit` meets its contract. Assumes nothing.
 use Prim.Native.Nat.{◌+◌, ◌-◌}
 use native.Mathlib.Omega.{arith}
-use borrow.Author.Rules.{rules}
 use Rattle.text.proofs.Tests.{same_test}
 use Rattle.clock_text.proofs.parts.more_fit.Goals as goal
 

@@ -1,6 +1,5 @@
 use Prim.Native.Nat.{◌-◌}
 use native.Mathlib.Omega.{arith}
-use borrow.Author.Rules.{rules}
 use Rattle.clock_text.specs.Sets.{set_count}
 use Rattle.clock_text.proofs.SetsPut.{countable-one, line-fits, putting-all, putting-next, putting-none}
 use Rattle.clock_text.proofs.parts.put_sets.Goals as goal

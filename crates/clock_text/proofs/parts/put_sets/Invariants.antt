@@ -1,6 +1,5 @@
 -- `parts::put_sets` meets its contract: what is left, counted and stored, gives the whole. Assumes nothing.
 use Prim.Native.Nat.{◌-◌}
-use borrow.Author.Rules.{rules}
 use Rattle.clock_text.proofs.SetsPut.{Putting}
 use Rattle.clock_text.proofs.parts.put_sets.Given as goal
 

@@ -1,5 +1,5 @@
 -- `put::put` meets its contract. Assumes nothing.
-use Rattle.std.proofs.Common.{◌≡◌, ◌+◌, ◌-◌, length, arith}
+use Rattle.std.proofs.Common.{◌+◌, ◌-◌, length, arith}
 use Rattle.clock_text.proofs.TextsPut.{copy-wrote}
 use Rattle.clock_text.proofs.put.put.Goals as goal
 

@@ -1,5 +1,4 @@
 -- `put::put_clock` meets its contract. Assumes nothing.
-use borrow.Author.Rules.{rules}
 use Rattle.file.specs.Answers.{code_of}
 use Rattle.file.specs.Readers.{ascii}
 use Rattle.text.specs.Text.{decimal, decimal_places}

@@ -1,6 +1,5 @@
 -- `put::put_counts` meets its contract. Assumes nothing.
 use native.Mathlib.Omega.{arith}
-use borrow.Author.Rules.{rules}
 use Rattle.file.specs.Readers.{ascii}
 use Rattle.text.specs.Text.{newline, space}
 use Rattle.text.proofs.Stores.{then-text}

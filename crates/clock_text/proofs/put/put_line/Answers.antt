@@ -1,6 +1,5 @@
 -- `put::put_line` meets its contract. Assumes nothing.
 use native.Mathlib.Omega.{arith}
-use borrow.Author.Rules.{rules}
 use Rattle.text.specs.Text.{newline}
 use Rattle.text.proofs.Stores.{then-text}
 use Rattle.clock_text.specs.Report.{clock_line}

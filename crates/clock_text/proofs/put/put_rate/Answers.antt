@@ -1,5 +1,4 @@
 -- `put::put_rate` meets its contract. Assumes nothing.
-use borrow.Author.Rules.{rules}
 use borrow.Author.Tests.{eq-eqb, ne_eqb}
 use Rattle.file.specs.Readers.{ascii}
 use Rattle.clock_text.specs.Report.{rate_text}

@@ -1,6 +1,5 @@
 -- `sets::set_at` meets its contract. Assumes nothing.
 use native.Mathlib.Omega.{arith}
-use borrow.Author.Rules.{rules}
 use Rattle.clock_text.proofs.SetsInTurn.{fragment, whole_set}
 use Rattle.clock_text.proofs.sets.set_at.Goals as goal
 

@@ -1,6 +1,5 @@
 -- `sets::set_clock` meets its contract. Assumes nothing.
 use mathlib.Core.Path.{◌≡◌, sym, ap, ap₂, ◌∙◌}
-use borrow.Author.Rules.{rules}
 use borrow.Author.Tests.{eq-eqb, ne_eqb}
 use Rattle.bits.specs.Store.{bit}
 use Rattle.clock.specs.declared.terms.Terms.{Terms}

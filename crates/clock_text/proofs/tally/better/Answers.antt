@@ -1,5 +1,4 @@
 -- `tally::better` meets its contract. Assumes nothing.
-use borrow.Author.Rules.{rules}
 use borrow.Author.Tests.{eq-eqb, ne_eqb}
 use Rattle.clock_text.specs.Sets.{better}
 use Rattle.clock_text.proofs.tally.better.Goals as goal

@@ -1,6 +1,5 @@
 -- `tally::counting` meets its contract. Assumes nothing.
 use native.Mathlib.Omega.{arith}
-use borrow.Author.Rules.{rules}
 use Rattle.clock_text.specs.Sets.{counting}
 use Rattle.clock_text.proofs.tally.counting.Goals as goal
 

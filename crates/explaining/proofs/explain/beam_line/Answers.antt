@@ -1,5 +1,4 @@
 -- `explain::beam_line` meets its contract. Assumes nothing.
-use borrow.Author.Rules.{rules}
 use Rattle.file.specs.Readers.{ascii}
 use Rattle.explaining.specs.Explained.{beam_line}
 use Rattle.explaining.proofs.explain.beam_line.Goals as goal

@@ -1,5 +1,4 @@
 -- `explain::case_of` meets its contract. Assumes nothing.
-use borrow.Author.Rules.{rules}
 use Rattle.explaining.specs.Explained.{case_of}
 use Rattle.explaining.proofs.explain.case_of.Goals as goal
 

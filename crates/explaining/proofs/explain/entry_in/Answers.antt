@@ -1,7 +1,6 @@
 -- `explain::entry_in` meets its contract. Assumes nothing.
 use mathlib.Core.Path.{sym}
 use native.Mathlib.Omega.{arith}
-use borrow.Author.Rules.{rules}
 use lib.ListN.{get_or-eq_default}
 use Rattle.bits.proofs.Lists.{any-default}
 use Rattle.file.specs.File.{black}

@@ -1,5 +1,4 @@
 -- `explain::entry_line` meets its contract. Assumes nothing.
-use borrow.Author.Rules.{rules}
 use Rattle.file.specs.Readers.{ascii}
 use Rattle.explaining.specs.Explained.{entry_line}
 use Rattle.explaining.proofs.explain.entry_line.Goals as goal

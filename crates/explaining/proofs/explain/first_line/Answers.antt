@@ -1,5 +1,4 @@
 -- `explain::first_line` meets its contract. Assumes nothing.
-use borrow.Author.Rules.{rules}
 use borrow.Author.Tests.{eq-eqb, ne_eqb}
 use Rattle.explaining.specs.Explained.{first_line}
 use Rattle.explaining.proofs.explain.first_line.Goals as goal

@@ -1,5 +1,4 @@
 -- `explain::head_line` meets its contract. Assumes nothing.
-use borrow.Author.Rules.{rules}
 use Rattle.explaining.specs.Explained.{head_line}
 use Rattle.explaining.proofs.explain.head_line.Goals as goal
 

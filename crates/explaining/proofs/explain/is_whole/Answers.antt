@@ -1,5 +1,4 @@
 -- `explain::is_whole` meets its contract. Assumes nothing.
-use borrow.Author.Rules.{rules}
 use Rattle.explaining.specs.Explained.{is_whole}
 use Rattle.explaining.proofs.explain.is_whole.Goals as goal
 

@@ -1,5 +1,4 @@
 -- `explain::line_at` meets its contract. Assumes nothing.
-use borrow.Author.Rules.{rules}
 use borrow.Author.Tests.{eq-eqb, ne_eqb}
 use Rattle.explaining.specs.Explained.{line_at}
 use Rattle.explaining.proofs.explain.line_at.Goals as goal

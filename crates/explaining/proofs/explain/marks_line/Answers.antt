@@ -1,5 +1,4 @@
 -- `explain::marks_line` meets its contract. Assumes nothing.
-use borrow.Author.Rules.{rules}
 use Rattle.file.specs.Readers.{ascii}
 use Rattle.explaining.specs.Explained.{marks_line}
 use Rattle.explaining.proofs.explain.marks_line.Goals as goal

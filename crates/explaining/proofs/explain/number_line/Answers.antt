@@ -1,6 +1,5 @@
 -- `explain::number_line` meets its contract. Assumes nothing.
 use mathlib.Core.Path.{sym, ◌∙◌}
-use borrow.Author.Rules.{rules}
 use Rattle.file.specs.File.{register}
 use Rattle.timing.specs.Table.{wide}
 use Rattle.explaining.specs.Explained.{number_line}

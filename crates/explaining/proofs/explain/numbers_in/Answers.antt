@@ -1,5 +1,4 @@
 -- `explain::numbers_in` meets its contract. Assumes nothing.
-use borrow.Author.Rules.{rules}
 use Rattle.explaining.specs.Moves.{numbers_in}
 use Rattle.explaining.proofs.explain.numbers_in.Goals as goal
 

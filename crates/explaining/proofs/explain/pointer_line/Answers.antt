@@ -1,5 +1,4 @@
 -- `explain::pointer_line` meets its contract. Assumes nothing.
-use borrow.Author.Rules.{rules}
 use Rattle.file.specs.Readers.{ascii}
 use Rattle.explaining.specs.Explained.{pointer_line}
 use Rattle.explaining.proofs.explain.pointer_line.Goals as goal

@@ -1,8 +1,7 @@
-use Prim.Native.Nat.{◌+◌, ◌-◌}
-use mathlib.Core.Path.{◌≡◌, refl, ap, ◌∙◌}
+use Prim.Native.Nat.{◌+◌}
+use mathlib.Core.Path.{◌≡◌, refl, ◌∙◌}
 use native.Mathlib.Omega.{arith}
-use borrow.Author.Rules.{rules}
-use lib.ListN.{length, length-set}
+use lib.ListN.{length-set}
 use Rattle.explaining.proofs.Typed.{line-count}
 use Rattle.explaining.proofs.PutLines.{next-stored, no_line, whole-line}
 use Rattle.explaining.proofs.explain.put_line.Goals as goal

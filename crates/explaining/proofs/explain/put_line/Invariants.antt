@@ -1,7 +1,6 @@
 -- `explain::put_line` meets its contract: with the bytes that are left stored, the buffer holds them all. Assumes nothing.
 use Prim.Native.Nat.{◌+◌, ◌-◌, ◌≤◌}
 use mathlib.Core.Path.{◌≡◌}
-use borrow.Author.Rules.{rules}
 use lib.ListN.{length, drop, take}
 use lib.Seq.{sets}
 use Rattle.explaining.proofs.explain.put_line.Given as goal

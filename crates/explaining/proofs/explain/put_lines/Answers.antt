@@ -1,6 +1,4 @@
-use Prim.Native.Nat.{◌-◌}
 use native.Mathlib.Omega.{arith}
-use borrow.Author.Rules.{rules}
 use Rattle.explaining.specs.Explained.{line_at, line_count}
 use Rattle.explaining.proofs.PutLines.{lining-all, lining-next, lining-none}
 use Rattle.explaining.proofs.Typed.{line-count}

@@ -1,6 +1,5 @@
 -- `explain::put_lines` meets its contract: with the lines that are left stored, the buffer holds them all. Assumes nothing.
 use Prim.Native.Nat.{◌-◌}
-use borrow.Author.Rules.{rules}
 use Rattle.explaining.specs.Explained.{line_at, line_count}
 use Rattle.explaining.proofs.PutLines.{Lining}
 use Rattle.explaining.proofs.explain.put_lines.Given as goal

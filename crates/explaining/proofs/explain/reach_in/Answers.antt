@@ -1,5 +1,4 @@
 -- `explain::reach_in` meets its contract. Assumes nothing.
-use borrow.Author.Rules.{rules}
 use Rattle.explaining.specs.Explained.{reach_in}
 use Rattle.explaining.proofs.explain.reach_in.Goals as goal
 

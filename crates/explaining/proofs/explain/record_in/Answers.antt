@@ -1,5 +1,4 @@
 -- `explain::record_in` meets its contract. Assumes nothing.
-use borrow.Author.Rules.{rules}
 use Rattle.access.specs.Access.{record_in}
 use Rattle.explaining.proofs.explain.record_in.Goals as goal
 

@@ -1,5 +1,4 @@
 -- `explain::toggle_line` meets its contract. Assumes nothing.
-use borrow.Author.Rules.{rules}
 use Rattle.file.specs.Readers.{ascii}
 use Rattle.explaining.specs.Explained.{toggle_line}
 use Rattle.explaining.proofs.explain.toggle_line.Goals as goal

@@ -1,5 +1,4 @@
 -- `line::byte` meets its contract. Assumes nothing.
-use borrow.Author.Rules.{rules}
 use borrow.Author.Tests.{lt-ltb, le-ltb}
 use Rattle.explaining.specs.Lines.{byte_behind}
 use Rattle.explaining.proofs.line.byte.Goals as goal

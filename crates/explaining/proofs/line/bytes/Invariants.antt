@@ -1,7 +1,6 @@
 -- `line::bytes` meets its contract: what is left, behind the line, is the whole behind it. Assumes nothing.
 use Prim.Native.Nat.{◌-◌, ◌≤◌}
 use mathlib.Core.Path.{◌≡◌}
-use borrow.Author.Rules.{rules}
 use lib.ListN.{length, drop}
 use Rattle.explaining.specs.Lines.{behind}
 use Rattle.explaining.proofs.line.bytes.Given as goal

@@ -1,5 +1,4 @@
 -- `line::capital` meets its contract. Assumes nothing.
-use borrow.Author.Rules.{rules}
 use borrow.Author.Tests.{lt-ltb, le-ltb}
 use Rattle.text.specs.Text.{capital}
 use Rattle.explaining.proofs.line.capital.Goals as goal

@@ -1,7 +1,6 @@
 -- `line::column` meets its contract: the spaces that are left, behind the line, are all of them behind it. Assumes nothing.
 use Prim.Native.Nat.{◌-◌, ◌≤◌}
 use mathlib.Core.Path.{◌≡◌}
-use borrow.Author.Rules.{rules}
 use lib.ListN.{replicate}
 use Rattle.explaining.specs.Lines.{behind}
 use Rattle.explaining.proofs.line.column.Given as goal

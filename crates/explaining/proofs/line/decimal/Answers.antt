@@ -1,6 +1,5 @@
 -- `line::decimal` meets its contract. Assumes nothing.
 use mathlib.Core.Path.{◌≡◌, ap, ◌∙◌}
-use borrow.Author.Rules.{rules}
 use lib.ListN.{take}
 use Rattle.text.specs.Text.{decimal}
 use Rattle.explaining.specs.Lines.{behind}

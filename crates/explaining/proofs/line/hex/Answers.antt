@@ -1,7 +1,6 @@
 use Prim.Native.Nat.{suc, ◌-◌}
 use mathlib.Core.Path.{◌≡◌, refl, ap, ◌∙◌}
 use native.Mathlib.Omega.{arith}
-use borrow.Author.Rules.{rules}
 use Rattle.text.specs.Text.{capital}
 use Rattle.explaining.specs.declared.line.Line.{Line}
 use Rattle.explaining.specs.Lines.{behind, byte_behind, hex_of}

@@ -1,7 +1,6 @@
 -- `line::hex` meets its contract: the digits that are left, behind the line, are all of them behind it. Assumes nothing.
-use Prim.Native.Nat.{◌-◌, ◌≤◌}
+use Prim.Native.Nat.{◌≤◌}
 use mathlib.Core.Path.{◌≡◌}
-use borrow.Author.Rules.{rules}
 use Rattle.explaining.specs.Lines.{behind, hex_of}
 use Rattle.explaining.proofs.line.hex.Given as goal
 

@@ -1,5 +1,4 @@
 -- `line::token` meets its contract. Assumes nothing.
-use borrow.Author.Rules.{rules}
 use Rattle.file.specs.Readers.{ascii}
 use Rattle.explaining.specs.Lines.{behind, form_text, hex_of}
 use Rattle.explaining.proofs.Behind.{then-behind}

@@ -1,7 +1,6 @@
 -- `line::told` meets its contract: the tokens that are left, behind the line, are all of them behind it. Assumes nothing.
 use Prim.Native.Nat.{◌-◌, ◌≤◌}
 use mathlib.Core.Path.{◌≡◌}
-use borrow.Author.Rules.{rules}
 use lib.ListN.{drop}
 use Rattle.explaining.specs.Lines.{behind, tokens_text}
 use Rattle.explaining.proofs.line.told.Given as goal

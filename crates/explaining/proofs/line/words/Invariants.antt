@@ -1,7 +1,6 @@
 -- `line::words` meets its contract: what is left, behind the line, is the whole behind it. Assumes nothing.
 use Prim.Native.Nat.{◌-◌, ◌≤◌}
 use mathlib.Core.Path.{◌≡◌}
-use borrow.Author.Rules.{rules}
 use lib.ListN.{drop}
 use Rattle.explaining.specs.Lines.{behind, up_to_dot}
 use Rattle.explaining.proofs.line.words.Given as goal

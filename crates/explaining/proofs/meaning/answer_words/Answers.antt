@@ -1,5 +1,4 @@
 -- `meaning::answer_words` meets its contract. Assumes nothing.
-use borrow.Author.Rules.{rules}
 use Rattle.file.specs.Readers.{ascii}
 use Rattle.explaining.specs.Words.{answer_words}
 use Rattle.explaining.proofs.meaning.answer_words.Goals as goal

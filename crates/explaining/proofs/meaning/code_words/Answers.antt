@@ -1,5 +1,4 @@
 -- `meaning::code_words` meets its contract. Assumes nothing.
-use borrow.Author.Rules.{rules}
 use Rattle.explaining.specs.Words.{code_words}
 use Rattle.explaining.proofs.meaning.code_words.Goals as goal
 

@@ -1,5 +1,4 @@
 -- `meaning::done_words` meets its contract. Assumes nothing.
-use borrow.Author.Rules.{rules}
 use Rattle.file.specs.Readers.{ascii}
 use Rattle.access.specs.Checks.{is_write, is_passing, carries}
 use Rattle.explaining.specs.Words.{done_words}

@@ -1,5 +1,4 @@
 -- `meaning::down_words` meets its contract. Assumes nothing.
-use borrow.Author.Rules.{rules}
 use Rattle.file.specs.Readers.{ascii}
 use Rattle.explaining.specs.Words.{down_words}
 use Rattle.explaining.proofs.meaning.down_words.Goals as goal

@@ -1,5 +1,4 @@
 -- `meaning::half_words` meets its contract. Assumes nothing.
-use borrow.Author.Rules.{rules}
 use Rattle.file.specs.Readers.{ascii}
 use Rattle.explaining.specs.Words.{half_words}
 use Rattle.explaining.proofs.meaning.half_words.Goals as goal

@@ -1,5 +1,4 @@
 -- `meaning::inside_words` meets its contract. Assumes nothing.
-use borrow.Author.Rules.{rules}
 use Rattle.file.specs.Readers.{ascii}
 use Rattle.explaining.specs.Words.{inside_words}
 use Rattle.explaining.proofs.meaning.inside_words.Goals as goal

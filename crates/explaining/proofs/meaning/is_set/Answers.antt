@@ -1,7 +1,6 @@
 -- `meaning::is_set` meets its contract. Assumes nothing.
 use mathlib.Core.Path.{refl}
 use Rattle.bits.specs.Store.{bit}
-use borrow.Author.Rules.{rules}
 use Rattle.explaining.proofs.meaning.is_set.Goals as goal
 
 pub returns : goal.returns

@@ -1,5 +1,4 @@
 -- `meaning::locked_words` meets its contract. Assumes nothing.
-use borrow.Author.Rules.{rules}
 use Rattle.file.specs.Readers.{ascii}
 use Rattle.explaining.specs.Words.{locked_words}
 use Rattle.explaining.proofs.meaning.locked_words.Goals as goal

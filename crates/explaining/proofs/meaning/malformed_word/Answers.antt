@@ -1,5 +1,4 @@
 -- `meaning::malformed_word` meets its contract. Assumes nothing.
-use borrow.Author.Rules.{rules}
 use Rattle.file.specs.Readers.{ascii}
 use Rattle.access.specs.Checks.{is_passing}
 use Rattle.explaining.specs.Words.{malformed_word}

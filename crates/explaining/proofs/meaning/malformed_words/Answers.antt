@@ -1,5 +1,4 @@
 -- `meaning::malformed_words` meets its contract. Assumes nothing.
-use borrow.Author.Rules.{rules}
 use Rattle.file.specs.Readers.{ascii}
 use Rattle.explaining.specs.Words.{malformed_words}
 use Rattle.explaining.proofs.meaning.malformed_words.Goals as goal

@@ -1,5 +1,4 @@
 -- `meaning::off_words` meets its contract. Assumes nothing.
-use borrow.Author.Rules.{rules}
 use Rattle.file.specs.Readers.{ascii}
 use Rattle.access.specs.Checks.{is_port}
 use Rattle.explaining.specs.Words.{off_words}

@@ -1,5 +1,4 @@
 -- `meaning::passing_why` meets its contract. Assumes nothing.
-use borrow.Author.Rules.{rules}
 use Rattle.file.specs.Readers.{ascii}
 use Rattle.explaining.specs.Words.{passing_why}
 use Rattle.explaining.proofs.meaning.passing_why.Goals as goal

@@ -1,7 +1,6 @@
 -- `meaning::register_of` meets its contract. Assumes nothing.
 use mathlib.Core.Path.{refl, sym}
 use native.Mathlib.Omega.{arith}
-use borrow.Author.Rules.{rules}
 use lib.ListN.{get_or-eq_default}
 use Rattle.file.specs.File.{register}
 use Rattle.file.proofs.Typed.{registers-count}

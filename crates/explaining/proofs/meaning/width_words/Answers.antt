@@ -1,5 +1,4 @@
 -- `meaning::width_words` meets its contract. Assumes nothing.
-use borrow.Author.Rules.{rules}
 use Rattle.file.specs.Readers.{ascii}
 use Rattle.explaining.specs.Words.{width_words}
 use Rattle.explaining.proofs.meaning.width_words.Goals as goal

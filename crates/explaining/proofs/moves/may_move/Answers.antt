@@ -1,5 +1,4 @@
 -- `moves::may_move` meets its contract. Assumes nothing.
-use borrow.Author.Rules.{rules}
 use Rattle.explaining.specs.Moves.{may_move}
 use Rattle.explaining.proofs.moves.may_move.Goals as goal
 

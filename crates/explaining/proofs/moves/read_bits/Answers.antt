@@ -1,6 +1,5 @@
 -- `moves::read_bits` meets its contract. Assumes nothing.
 use mathlib.Core.Path.{sym, ◌∙◌}
-use borrow.Author.Rules.{rules}
 use Rattle.explaining.proofs.MovedBits.{either_way, narrow-none, read_above, read_below}
 use Rattle.explaining.proofs.moves.read_bits.Goals as goal
 

@@ -1,5 +1,4 @@
 -- `parts::bit_digits` meets its contract. Assumes nothing.
-use borrow.Author.Rules.{rules}
 use Rattle.explaining.specs.Explained.{bit_digits}
 use Rattle.explaining.proofs.parts.bit_digits.Goals as goal
 

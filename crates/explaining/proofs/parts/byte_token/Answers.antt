@@ -1,5 +1,4 @@
 -- `parts::byte_token` meets its contract. Assumes nothing.
-use borrow.Author.Rules.{rules}
 use Rattle.explaining.specs.Explained.{byte_token}
 use Rattle.explaining.proofs.parts.byte_token.Goals as goal
 

@@ -1,5 +1,4 @@
 -- `parts::change` meets its contract. Assumes nothing.
-use borrow.Author.Rules.{rules}
 use Rattle.file.specs.Readers.{ascii}
 use Rattle.explaining.specs.Explained.{changed}
 use Rattle.explaining.proofs.parts.change.Goals as goal

@@ -1,6 +1,5 @@
 -- `parts::colour_code` meets its contract. Assumes nothing.
 use mathlib.Core.Path.{refl}
-use borrow.Author.Rules.{rules}
 use Rattle.explaining.specs.Explained.{colour_code}
 use Rattle.explaining.proofs.parts.colour_code.Goals as goal
 

@@ -1,5 +1,4 @@
 -- `parts::colour_word` meets its contract. Assumes nothing.
-use borrow.Author.Rules.{rules}
 use Rattle.file.specs.Readers.{ascii}
 use Rattle.explaining.specs.Explained.{colour_word}
 use Rattle.explaining.proofs.parts.colour_word.Goals as goal

@@ -1,5 +1,4 @@
 -- `parts::marks_words` meets its contract. Assumes nothing.
-use borrow.Author.Rules.{rules}
 use Rattle.file.specs.Readers.{ascii}
 use Rattle.explaining.specs.Explained.{marks_words}
 use Rattle.explaining.proofs.parts.marks_words.Goals as goal

@@ -1,5 +1,4 @@
 -- `parts::part_line` meets its contract. Assumes nothing.
-use borrow.Author.Rules.{rules}
 use borrow.Author.Tests.{not-false, not-true}
 use Rattle.explaining.specs.Explained.{part_line}
 use Rattle.explaining.proofs.parts.part_line.Goals as goal

@@ -1,5 +1,4 @@
 -- `parts::pointer_code` meets its contract. Assumes nothing.
-use borrow.Author.Rules.{rules}
 use Rattle.explaining.specs.Explained.{pointer_code}
 use Rattle.explaining.proofs.parts.pointer_code.Goals as goal
 

@@ -1,5 +1,4 @@
 -- `parts::pointer_words` meets its contract. Assumes nothing.
-use borrow.Author.Rules.{rules}
 use Rattle.file.specs.Readers.{ascii}
 use Rattle.explaining.specs.Explained.{pointer_words}
 use Rattle.explaining.proofs.parts.pointer_words.Goals as goal

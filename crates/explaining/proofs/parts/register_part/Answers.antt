@@ -1,5 +1,4 @@
 -- `parts::register_part` meets its contract. Assumes nothing.
-use borrow.Author.Rules.{rules}
 use Rattle.file.specs.Readers.{ascii}
 use Rattle.explaining.specs.Explained.{register_part}
 use Rattle.explaining.proofs.parts.register_part.Goals as goal

@@ -1,5 +1,4 @@
 -- `parts::toggle_words` meets its contract. Assumes nothing.
-use borrow.Author.Rules.{rules}
 use Rattle.file.specs.Readers.{ascii}
 use Rattle.explaining.specs.Explained.{toggle_words}
 use Rattle.explaining.proofs.parts.toggle_words.Goals as goal

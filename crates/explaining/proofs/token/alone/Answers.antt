@@ -1,5 +1,4 @@
 -- `token::alone` meets its contract. Assumes nothing.
-use borrow.Author.Rules.{rules}
 use Rattle.explaining.proofs.token.alone.Goals as goal
 
 pub returns : goal.returns

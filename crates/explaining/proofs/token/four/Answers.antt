@@ -1,5 +1,4 @@
 -- `token::four` meets its contract. Assumes nothing.
-use borrow.Author.Rules.{rules}
 use Rattle.explaining.proofs.token.four.Goals as goal
 
 pub returns : goal.returns

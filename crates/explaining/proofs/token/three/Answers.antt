@@ -1,5 +1,4 @@
 -- `token::three` meets its contract. Assumes nothing.
-use borrow.Author.Rules.{rules}
 use Rattle.explaining.proofs.token.three.Goals as goal
 
 pub returns : goal.returns

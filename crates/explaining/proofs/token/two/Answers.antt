@@ -1,5 +1,4 @@
 -- `token::two` meets its contract. Assumes nothing.
-use borrow.Author.Rules.{rules}
 use Rattle.explaining.proofs.token.two.Goals as goal
 
 pub returns : goal.returns

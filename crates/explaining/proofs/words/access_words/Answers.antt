@@ -1,5 +1,4 @@
 -- `words::access_words` meets its contract. Assumes nothing.
-use borrow.Author.Rules.{rules}
 use Rattle.explaining.specs.Words.{access_words}
 use Rattle.explaining.proofs.words.access_words.Goals as goal
 

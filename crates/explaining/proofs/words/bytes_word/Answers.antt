@@ -1,5 +1,4 @@
 -- `words::bytes_word` meets its contract. Assumes nothing.
-use borrow.Author.Rules.{rules}
 use Rattle.file.specs.Readers.{ascii}
 use Rattle.explaining.specs.Words.{bytes_word}
 use Rattle.explaining.proofs.words.bytes_word.Goals as goal

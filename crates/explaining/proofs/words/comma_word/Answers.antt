@@ -1,5 +1,4 @@
 -- `words::comma_word` meets its contract. Assumes nothing.
-use borrow.Author.Rules.{rules}
 use Rattle.file.specs.Readers.{ascii}
 use Rattle.explaining.specs.Words.{comma_word}
 use Rattle.explaining.proofs.words.comma_word.Goals as goal

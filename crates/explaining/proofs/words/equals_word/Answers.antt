@@ -1,5 +1,4 @@
 -- `words::equals_word` meets its contract. Assumes nothing.
-use borrow.Author.Rules.{rules}
 use Rattle.file.specs.Readers.{ascii}
 use Rattle.explaining.specs.Words.{equals_word}
 use Rattle.explaining.proofs.words.equals_word.Goals as goal

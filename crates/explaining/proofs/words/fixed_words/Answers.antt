@@ -1,5 +1,4 @@
 -- `words::fixed_words` meets its contract. Assumes nothing.
-use borrow.Author.Rules.{rules}
 use Rattle.file.specs.Readers.{ascii}
 use Rattle.explaining.specs.Words.{fixed_words}
 use Rattle.explaining.proofs.words.fixed_words.Goals as goal

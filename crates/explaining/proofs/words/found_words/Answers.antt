@@ -1,5 +1,4 @@
 -- `words::found_words` meets its contract. Assumes nothing.
-use borrow.Author.Rules.{rules}
 use Rattle.file.specs.Readers.{ascii}
 use Rattle.explaining.specs.Words.{found_words}
 use Rattle.explaining.proofs.words.found_words.Goals as goal

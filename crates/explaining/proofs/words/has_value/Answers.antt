@@ -1,5 +1,4 @@
 -- `words::has_value` meets its contract. Assumes nothing.
-use borrow.Author.Rules.{rules}
 use Rattle.access.specs.Checks.{is_write}
 use Rattle.explaining.proofs.words.has_value.Goals as goal
 

@@ -1,5 +1,4 @@
 -- `words::item_words` meets its contract. Assumes nothing.
-use borrow.Author.Rules.{rules}
 use Rattle.file.specs.Readers.{ascii}
 use Rattle.explaining.specs.Words.{item_words}
 use Rattle.explaining.proofs.words.item_words.Goals as goal

@@ -1,5 +1,4 @@
 -- `words::looked_words` meets its contract. Assumes nothing.
-use borrow.Author.Rules.{rules}
 use Rattle.file.specs.Readers.{ascii}
 use Rattle.explaining.specs.Words.{looked_words}
 use Rattle.explaining.proofs.words.looked_words.Goals as goal

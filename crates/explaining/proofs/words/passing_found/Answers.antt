@@ -1,5 +1,4 @@
 -- `words::passing_found` meets its contract. Assumes nothing.
-use borrow.Author.Rules.{rules}
 use borrow.Author.Tests.{eq-eqb, ne_eqb}
 use Rattle.access.specs.Checks.{is_passing}
 use Rattle.explaining.specs.Words.{passing_found}

@@ -1,5 +1,4 @@
 -- `words::passing_words` meets its contract. Assumes nothing.
-use borrow.Author.Rules.{rules}
 use Rattle.file.specs.Readers.{ascii}
 use Rattle.explaining.specs.Words.{passing_words}
 use Rattle.explaining.proofs.words.passing_words.Goals as goal

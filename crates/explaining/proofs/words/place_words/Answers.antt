@@ -1,5 +1,4 @@
 -- `words::place_words` meets its contract. Assumes nothing.
-use borrow.Author.Rules.{rules}
 use Rattle.file.specs.Readers.{ascii}
 use Rattle.explaining.specs.Words.{place_words}
 use Rattle.explaining.proofs.words.place_words.Goals as goal

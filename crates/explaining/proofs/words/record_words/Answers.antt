@@ -1,5 +1,4 @@
 -- `words::record_words` meets its contract. Assumes nothing.
-use borrow.Author.Rules.{rules}
 use Rattle.file.specs.Readers.{ascii}
 use Rattle.access.specs.Checks.{is_passing}
 use Rattle.explaining.specs.Words.{record_words}

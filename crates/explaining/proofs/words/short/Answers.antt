@@ -1,5 +1,4 @@
 -- `words::short` meets its contract. Assumes nothing.
-use borrow.Author.Rules.{rules}
 use Rattle.explaining.specs.Words.{short}
 use Rattle.explaining.proofs.words.short.Goals as goal
 

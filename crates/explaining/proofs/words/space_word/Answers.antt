@@ -1,5 +1,4 @@
 -- `words::space_word` meets its contract. Assumes nothing.
-use borrow.Author.Rules.{rules}
 use Rattle.file.specs.Readers.{ascii}
 use Rattle.explaining.specs.Words.{space_word}
 use Rattle.explaining.proofs.words.space_word.Goals as goal

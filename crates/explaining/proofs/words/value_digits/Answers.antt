@@ -1,5 +1,4 @@
 -- `words::value_digits` meets its contract. Assumes nothing.
-use borrow.Author.Rules.{rules}
 use Rattle.explaining.proofs.words.value_digits.Goals as goal
 
 pub returns : goal.returns

@@ -1,5 +1,4 @@
 -- `words::value_token` meets its contract. Assumes nothing.
-use borrow.Author.Rules.{rules}
 use Rattle.explaining.specs.Words.{value_token}
 use Rattle.explaining.proofs.words.value_token.Goals as goal
 

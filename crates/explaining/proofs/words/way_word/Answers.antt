@@ -1,5 +1,4 @@
 -- `words::way_word` meets its contract. Assumes nothing.
-use borrow.Author.Rules.{rules}
 use Rattle.file.specs.Readers.{ascii}
 use Rattle.access.specs.Checks.{is_write}
 use Rattle.explaining.specs.Words.{way_word}

@@ -1,5 +1,4 @@
 -- `words::width_token` meets its contract. Assumes nothing.
-use borrow.Author.Rules.{rules}
 use Rattle.explaining.specs.Words.{width_token}
 use Rattle.explaining.proofs.words.width_token.Goals as goal
 

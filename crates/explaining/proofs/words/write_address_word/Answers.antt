@@ -1,5 +1,4 @@
 -- `words::write_address_word` meets its contract. Assumes nothing.
-use borrow.Author.Rules.{rules}
 use Rattle.file.specs.Readers.{ascii}
 use Rattle.access.specs.Checks.{is_write}
 use Rattle.explaining.specs.Words.{write_address_word}

@@ -1,6 +1,5 @@
 -- `composed::clock_of` meets its contract. Assumes nothing.
 use mathlib.Core.Path.{refl}
-use borrow.Author.Rules.{rules}
 use Rattle.file.specs.Readers.{ascii}
 use Rattle.modes.specs.Form.{header}
 use Rattle.mode_lines.specs.ClockLine.{clock_line}

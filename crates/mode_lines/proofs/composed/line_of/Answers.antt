@@ -1,5 +1,4 @@
 -- `composed::line_of` meets its contract. Assumes nothing.
-use borrow.Author.Rules.{rules}
 use Rattle.mode_lines.proofs.ClockLines.{wrote-counts}
 use Rattle.mode_lines.proofs.composed.line_of.Goals as goal
 

@@ -1,8 +1,7 @@
 -- `kept::keep` meets its contract: with the rest of what has room stored, the buffer holds it all. Assumes nothing.
 use Prim.Native.Nat.{◌+◌, ◌-◌, ◌≤◌}
 use mathlib.Core.Path.{◌≡◌}
-use borrow.Author.Rules.{rules}
-use lib.ListN.{length, take, drop, set}
+use lib.ListN.{length, take, drop}
 use lib.Seq.{sets}
 use Rattle.mode_lines.proofs.kept.keep.Given as goal
 

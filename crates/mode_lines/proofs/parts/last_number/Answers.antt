@@ -1,6 +1,5 @@
 -- `parts::last_number` meets its contract. Assumes nothing.
 use native.Mathlib.Omega.{arith}
-use borrow.Author.Rules.{rules}
 use Rattle.mode_lines.specs.Parts.{last_number}
 use Rattle.mode_lines.proofs.parts.last_number.Goals as goal
 

@@ -1,7 +1,6 @@
 -- `parts::report_next` meets its contract. Assumes nothing.
 use mathlib.Core.Path.{refl}
 use native.Mathlib.Omega.{arith}
-use borrow.Author.Rules.{rules}
 use borrow.Author.Tests.{not-true, not-false}
 use Rattle.mode_lines.proofs.Reports.{report-done}
 use Rattle.mode_lines.proofs.parts.report_next.Goals as goal

@@ -1,6 +1,5 @@
 -- `parts::report_part` meets its contract: each turn takes some bytes of the part. Assumes nothing.
 use Prim.Native.Nat.{◌-◌}
-use borrow.Author.Rules.{rules}
 use lib.ListN.{length}
 use Rattle.mode_lines.proofs.Going.{Going}
 use Rattle.mode_lines.proofs.parts.report_part.Given as goal

@@ -2,7 +2,6 @@
 use mathlib.Core.Path.{sym}
 use borrow.Author.Tests.{le-ltb, lt-ltb}
 use Rattle.text.specs.Text.{capital as capitalOf}
-use borrow.Author.Rules.{rules}
 use Rattle.mode_lines.proofs.reporting.capital.Goals as goal
 
 pub returns-then-d-lt10 : goal.returns-then-d-lt10

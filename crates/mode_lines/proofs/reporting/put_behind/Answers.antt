@@ -1,7 +1,6 @@
 -- `reporting::put_behind` meets its contract. Assumes nothing.
 use Rattle.text.specs.Text.{space}
 use Rattle.mode_lines.proofs.Laying.{kept_then}
-use borrow.Author.Rules.{rules}
 use Rattle.mode_lines.proofs.reporting.put_behind.Goals as goal
 
 pub returns : goal.returns

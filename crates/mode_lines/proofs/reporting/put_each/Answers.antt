@@ -1,8 +1,5 @@
-use Prim.Native.Nat.{◌-◌}
 use mathlib.Core.Path.{refl, ◌∙◌}
 use native.Mathlib.Omega.{arith}
-use borrow.Author.Rules.{rules}
-use lib.ListN.{length, take}
 use lib.Seq.{take_all}
 use Rattle.text.specs.Text.{spaced}
 use Rattle.mode_lines.proofs.Laying.{kept-length, kept-none, kept_then}

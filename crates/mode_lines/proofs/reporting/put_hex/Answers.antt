@@ -1,7 +1,6 @@
 -- `reporting::put_hex` meets its contract. Assumes nothing.
 use Rattle.text.specs.Text.{space}
 use Rattle.mode_lines.specs.Report.{hex_two}
-use borrow.Author.Rules.{rules}
 use Rattle.mode_lines.proofs.reporting.put_hex.Goals as goal
 
 pub returns : goal.returns

@@ -1,5 +1,4 @@
 -- `reporting::put_mode` meets its contract. Assumes nothing.
-use borrow.Author.Rules.{rules}
 use Rattle.file.specs.File.{register}
 use Rattle.mode_lines.specs.Report.{mode_text}
 use Rattle.mode_lines.proofs.Laying.{kept_then}

@@ -1,6 +1,5 @@
 -- `reporting::put_number` meets its contract. Assumes nothing.
 use Rattle.mode_lines.proofs.Spelling.{fewest-decimal}
-use borrow.Author.Rules.{rules}
 use Rattle.mode_lines.proofs.reporting.put_number.Goals as goal
 
 pub returns : goal.returns

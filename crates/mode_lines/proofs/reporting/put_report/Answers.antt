@@ -1,5 +1,4 @@
 -- `reporting::put_report` meets its contract. Assumes nothing.
-use borrow.Author.Rules.{rules}
 use Rattle.mode_lines.proofs.Laying.{kept_then}
 use Rattle.mode_lines.proofs.Reports.{done-report, refused-report}
 use Rattle.mode_lines.proofs.reporting.put_report.Goals as goal

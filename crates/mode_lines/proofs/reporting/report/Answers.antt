@@ -1,7 +1,6 @@
 -- `reporting::report` meets its contract. Assumes nothing.
 use mathlib.Core.Path.{sym, ◌∙◌}
 use native.Mathlib.Omega.{arith}
-use borrow.Author.Rules.{rules}
 use borrow.Author.Tests.{not-true, not-false}
 use Rattle.mode_lines.specs.Report.{report_line}
 use Rattle.mode_lines.proofs.Reports.{a-report, no-report, report-ends, report-short}

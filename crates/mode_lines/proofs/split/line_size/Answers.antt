@@ -1,4 +1,3 @@
-use Prim.Native.Nat.{◌-◌}
 use native.Mathlib.Omega.{arith}
 use Rattle.mode_lines.proofs.Cut.{up-to-next, up-to-newline, up-to-end}
 use Rattle.mode_lines.proofs.split.line_size.Goals as goal

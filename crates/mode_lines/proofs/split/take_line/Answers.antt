@@ -1,7 +1,6 @@
 -- `split::take_line` meets its contract. Assumes nothing.
 use mathlib.Core.Path.{sym}
 use native.Mathlib.Omega.{arith}
-use borrow.Author.Rules.{rules}
 use lib.Seq.{length-take-le}
 use Rattle.mode_lines.proofs.Cut.{took-begun, took-whole, up-to-most}
 use Rattle.mode_lines.proofs.split.take_line.Goals as goal

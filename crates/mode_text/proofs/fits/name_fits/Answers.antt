@@ -1,7 +1,6 @@
 -- `mode_text::fits::name_fits` meets its contract. Assumes nothing.
 use mathlib.Core.Path.{◌∙◌}
 use native.Mathlib.Omega.{arith}
-use borrow.Author.Rules.{rules}
 use Rattle.mode_text.proofs.Fitting.{name-empty, name-long, name-short}
 use Rattle.mode_text.proofs.fits.name_fits.Goals as goal
 

@@ -1,7 +1,6 @@
 -- `mode_text::fits::named` meets its contract. Assumes nothing.
 use Prim.Native.Nat.{◌-◌, ◌≤◌}
 use mathlib.Core.Path.{◌≡◌}
-use borrow.Author.Rules.{rules}
 use lib.ListN.{length, drop}
 use Rattle.modes.specs.Form.{every, name_byte}
 use Rattle.mode_text.proofs.fits.named.Given as goal

@@ -1,5 +1,4 @@
 -- `mode_text::fits::numbers_out` meets its contract. Assumes nothing.
-use borrow.Author.Rules.{rules}
 use Rattle.mode_text.specs.Out.{numbers_out}
 use Rattle.mode_text.proofs.fits.numbers_out.Goals as goal
 

@@ -1,6 +1,5 @@
 -- `mode_text::put::digit` meets its contract. Assumes nothing.
 use mathlib.Core.Path.{sym}
-use borrow.Author.Rules.{rules}
 use Rattle.mode_text.proofs.Decimals.{last-digit}
 use Rattle.mode_text.proofs.put.digit.Goals as goal
 

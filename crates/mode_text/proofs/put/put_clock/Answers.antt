@@ -1,7 +1,6 @@
 -- `mode_text::put::put_clock` meets its contract. Assumes nothing.
 use mathlib.Core.Path.{ap}
 use native.Mathlib.Omega.{arith}
-use borrow.Author.Rules.{rules}
 use lib.ListN.{length}
 use Rattle.text.proofs.Stores.{then-text}
 use Rattle.mode_text.proofs.Joined.{clock-long, clock-stored, wrote_as}

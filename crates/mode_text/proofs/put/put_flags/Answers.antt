@@ -1,5 +1,4 @@
 -- `mode_text::put::put_flags` meets its contract. Assumes nothing.
-use borrow.Author.Rules.{rules}
 use Rattle.modes.specs.Form.{flags_text, flag_text, sign, letter}
 use Rattle.mode_text.specs.Out.{flags_out}
 use Rattle.mode_text.proofs.put.put_flags.Goals as goal

@@ -1,6 +1,5 @@
 -- `mode_text::put::put_line` meets its contract. Assumes nothing.
 use native.Mathlib.Omega.{arith}
-use borrow.Author.Rules.{rules}
 use Rattle.text.proofs.Stores.{then-text}
 use Rattle.mode_text.proofs.Joined.{name-long, stored-line, stored-long, wrote_as}
 use Rattle.mode_text.proofs.put.put_line.Goals as goal

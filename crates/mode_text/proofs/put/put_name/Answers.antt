@@ -1,5 +1,4 @@
 -- `mode_text::put::put_name` meets its contract. Assumes nothing.
-use borrow.Author.Rules.{rules}
 use Rattle.text.proofs.Stores.{then-text}
 use Rattle.modes.specs.Form.{header}
 use Rattle.mode_text.proofs.put.put_name.Goals as goal

@@ -1,5 +1,4 @@
 -- `mode_text::put::put_numbers` meets its contract. Assumes nothing.
-use borrow.Author.Rules.{rules}
 use Rattle.text.proofs.Stores.{had-room}
 use Rattle.mode_text.proofs.Joined.{spaced-decimals, wrote_as}
 use Rattle.mode_text.proofs.put.put_numbers.Goals as goal

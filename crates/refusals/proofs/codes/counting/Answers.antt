@@ -1,5 +1,4 @@
 -- `codes::counting` meets its contract. Assumes nothing.
-use borrow.Author.Rules.{rules}
 use Rattle.refusals.specs.Counted.{counting_of}
 use Rattle.refusals.proofs.codes.counting.Goals as goal
 

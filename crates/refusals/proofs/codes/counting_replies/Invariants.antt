@@ -1,7 +1,6 @@
 -- `codes::counting_replies` meets its contract: what is counted, and then the codes of the replies that are left, are the counts of all. Assumes nothing.
 use Prim.Native.Nat.{◌-◌, ◌*◌, ◌/◌, ◌≤◌}
 use mathlib.Core.Path.{◌≡◌}
-use borrow.Author.Rules.{rules}
 use lib.ListN.{length, drop}
 use Rattle.refusals.specs.Counted.{codes_counted}
 use Rattle.refusals.proofs.codes.counting_replies.Given as goal

@@ -1,6 +1,5 @@
 -- `codes::more` meets its contract. Assumes nothing.
 use mathlib.Core.Path.{refl}
-use borrow.Author.Rules.{rules}
 use borrow.Author.Tests.{le-ltb, lt-ltb}
 use Rattle.refusals.specs.Counted.{more}
 use Rattle.refusals.proofs.codes.more.Goals as goal

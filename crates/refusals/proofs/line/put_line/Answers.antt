@@ -1,7 +1,6 @@
 -- `line::put_line` meets its contract. Assumes nothing.
 use mathlib.Core.Path.{refl, sym, ◌∙◌}
 use native.Mathlib.Omega.{arith}
-use borrow.Author.Rules.{rules}
 use borrow.Author.Tests.{eq-eqb}
 use Rattle.text.specs.Text.{newline}
 use Rattle.text.proofs.Stores.{then-text}

@@ -1,6 +1,5 @@
 -- `line::refused_line` meets its contract. Assumes nothing.
 use native.Mathlib.Omega.{arith}
-use borrow.Author.Rules.{rules}
 use Rattle.refusals.proofs.Typed.{counts-count}
 use Rattle.refusals.proofs.line.refused_line.Goals as goal
 

@@ -1,7 +1,6 @@
 -- `line::refused_sum` meets its contract: the sum so far, and the counts that are left, are the sum of all. Assumes nothing.
 use Prim.Native.Nat.{◌+◌, ◌-◌, ◌≤◌, min}
 use mathlib.Core.Path.{◌≡◌}
-use borrow.Author.Rules.{rules}
 use lib.ListN.{length, drop}
 use Rattle.refusals.specs.Counted.{most_count}
 use Rattle.refusals.specs.Said.{refused_sum, total}

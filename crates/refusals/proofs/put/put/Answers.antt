@@ -1,5 +1,4 @@
 -- `put::put` meets its contract. Assumes nothing.
-use borrow.Author.Rules.{rules}
 use Rattle.text.proofs.Stores.{had-room}
 use Rattle.refusals.proofs.put.put.Goals as goal
 

@@ -1,7 +1,6 @@
 -- `put::put_code` meets its contract. Assumes nothing.
 use mathlib.Core.Path.{refl}
 use native.Mathlib.Omega.{arith}
-use borrow.Author.Rules.{rules}
 use borrow.Author.Tests.{eq-eqb, ne_eqb}
 use lib.ListN.{length-append}
 use Rattle.text.proofs.Stores.{then-text}

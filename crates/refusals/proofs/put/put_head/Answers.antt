@@ -1,6 +1,5 @@
 -- `put::put_head` meets its contract. Assumes nothing.
 use native.Mathlib.Omega.{arith}
-use borrow.Author.Rules.{rules}
 use Rattle.file.specs.Readers.{ascii}
 use Rattle.text.proofs.Stores.{then-text}
 use Rattle.refusals.specs.Said.{head_text}

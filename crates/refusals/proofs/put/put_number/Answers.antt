@@ -1,6 +1,5 @@
 -- `put::put_number` meets its contract. Assumes nothing.
 use mathlib.Core.Path.{◌≡◌, ◌∙◌}
-use borrow.Author.Rules.{rules}
 use lib.ListN.{take}
 use Rattle.text.specs.Text.{decimal}
 use Rattle.refusals.proofs.Spelling.{fewest-decimal}

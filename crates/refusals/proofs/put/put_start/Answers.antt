@@ -1,5 +1,4 @@
 -- `put::put_start` meets its contract. Assumes nothing.
-use borrow.Author.Rules.{rules}
 use Rattle.file.specs.Readers.{ascii}
 use Rattle.refusals.specs.Said.{start_text}
 use Rattle.refusals.proofs.put.put_start.Goals as goal

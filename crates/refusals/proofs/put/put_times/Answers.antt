@@ -1,6 +1,5 @@
 -- `put::put_times` meets its contract. Assumes nothing.
 use native.Mathlib.Omega.{arith}
-use borrow.Author.Rules.{rules}
 use borrow.Author.Tests.{eq-eqb, ne_eqb}
 use Rattle.file.specs.Readers.{ascii}
 use Rattle.text.specs.Text.{space}

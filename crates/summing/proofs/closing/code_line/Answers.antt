@@ -1,5 +1,4 @@
 -- `closing::code_line` meets its contract. Assumes nothing.
-use borrow.Author.Rules.{rules}
 use Rattle.file.specs.Readers.{ascii}
 use Rattle.summing.specs.Closing.{code_line}
 use Rattle.summing.proofs.closing.code_line.Goals as goal

@@ -1,5 +1,4 @@
 -- `closing::count_line` meets its contract. Assumes nothing.
-use borrow.Author.Rules.{rules}
 use Rattle.summing.specs.Closing.{count_line}
 use Rattle.summing.proofs.closing.count_line.Goals as goal
 

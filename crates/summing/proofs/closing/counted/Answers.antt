@@ -1,5 +1,4 @@
 -- `closing::counted` meets its contract. Assumes nothing.
-use borrow.Author.Rules.{rules}
 use Rattle.summing.specs.Closing.{counted}
 use Rattle.summing.proofs.closing.counted.Goals as goal
 

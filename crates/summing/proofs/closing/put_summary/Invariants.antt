@@ -1,6 +1,5 @@
 -- `closing::put_summary` meets its contract: with the lines that are left stored, the buffer holds them all. Assumes nothing.
 use Prim.Native.Nat.{◌-◌}
-use borrow.Author.Rules.{rules}
 use Rattle.explaining.proofs.PutLines.{Lining}
 use Rattle.summing.specs.Closing.{summary_count, summary_line}
 use Rattle.summing.proofs.closing.put_summary.Given as goal

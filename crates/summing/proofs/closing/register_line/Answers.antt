@@ -1,5 +1,4 @@
 -- `closing::register_line` meets its contract. Assumes nothing.
-use borrow.Author.Rules.{rules}
 use Rattle.file.specs.Readers.{ascii}
 use Rattle.summing.specs.Closing.{register_line}
 use Rattle.summing.proofs.closing.register_line.Goals as goal

@@ -1,5 +1,4 @@
 -- `closing::summary_line` meets its contract. Assumes nothing.
-use borrow.Author.Rules.{rules}
 use borrow.Author.Tests.{le-ltb, lt-ltb}
 use Rattle.summing.specs.Closing.{summary_line}
 use Rattle.summing.proofs.closing.summary_line.Goals as goal

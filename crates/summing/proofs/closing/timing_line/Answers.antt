@@ -1,5 +1,4 @@
 -- `closing::timing_line` meets its contract. Assumes nothing.
-use borrow.Author.Rules.{rules}
 use Rattle.summing.specs.Closing.{timing_line}
 use Rattle.summing.proofs.closing.timing_line.Goals as goal
 

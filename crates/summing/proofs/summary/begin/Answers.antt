@@ -1,5 +1,4 @@
 -- `summary::begin` meets its contract. Assumes nothing.
-use borrow.Author.Rules.{rules}
 use Rattle.summing.specs.Summed.{begun}
 use Rattle.summing.proofs.summary.begin.Goals as goal
 

@@ -1,6 +1,5 @@
 -- `summary::coded` meets its contract. Assumes nothing.
 use mathlib.Core.Path.{refl}
-use borrow.Author.Rules.{rules}
 use Rattle.summing.specs.Summed.{coded}
 use Rattle.summing.proofs.Counts.{no_code}
 use Rattle.summing.proofs.Typed.{codes-count}

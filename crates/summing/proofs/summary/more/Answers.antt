@@ -1,6 +1,5 @@
 -- `summary::more` meets its contract. Assumes nothing.
 use mathlib.Core.Path.{refl}
-use borrow.Author.Rules.{rules}
 use borrow.Author.Tests.{le-ltb, lt-ltb}
 use Rattle.summing.specs.Summed.{more}
 use Rattle.summing.proofs.summary.more.Goals as goal

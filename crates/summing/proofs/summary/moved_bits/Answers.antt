@@ -1,5 +1,4 @@
 -- `summary::moved_bits` meets its contract. Assumes nothing.
-use borrow.Author.Rules.{rules}
 use Rattle.summing.specs.Summed.{moved_bits}
 use Rattle.summing.proofs.summary.moved_bits.Goals as goal
 

@@ -1,6 +1,5 @@
 -- `summary::reached` meets its contract. Assumes nothing.
 use mathlib.Core.Path.{refl}
-use borrow.Author.Rules.{rules}
 use borrow.Author.Tests.{eq-eqb, ne_eqb}
 use Rattle.summing.specs.Summed.{reached}
 use Rattle.summing.proofs.Counts.{no_register}

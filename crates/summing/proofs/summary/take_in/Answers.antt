@@ -1,5 +1,4 @@
 -- `summary::take_in` meets its contract. Assumes nothing.
-use borrow.Author.Rules.{rules}
 use Rattle.summing.specs.Summed.{taken_in}
 use Rattle.summing.proofs.summary.take_in.Goals as goal
 

@@ -1,5 +1,4 @@
 -- `together::is_together` meets its contract. Assumes nothing.
-use borrow.Author.Rules.{rules}
 use Rattle.summing.specs.Together.{together}
 use Rattle.summing.proofs.together.is_together.Goals as goal
 

@@ -1,5 +1,4 @@
 -- `together::moved_at` meets its contract. Assumes nothing.
-use borrow.Author.Rules.{rules}
 use Rattle.summing.specs.Together.{moved_at}
 use Rattle.summing.proofs.together.moved_at.Goals as goal
 

@@ -1,6 +1,4 @@
-use Prim.Native.Nat.{◌-◌}
 use native.Mathlib.Omega.{arith}
-use borrow.Author.Rules.{rules}
 use lib.ListN.{drop, get_or}
 use Rattle.summing.proofs.Counts.{next-moved, none-moved, one_at_most}
 use Rattle.summing.proofs.together.moved_count.Goals as goal

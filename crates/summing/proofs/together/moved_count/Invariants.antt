@@ -1,7 +1,6 @@
 -- `together::moved_count` meets its contract: those so far and those that are left are all. Assumes nothing.
 use Prim.Native.Nat.{◌+◌, ◌-◌, ◌≤◌}
 use mathlib.Core.Path.{◌≡◌}
-use borrow.Author.Rules.{rules}
 use lib.ListN.{drop}
 use Rattle.summing.specs.Together.{moved_count}
 use Rattle.summing.proofs.together.moved_count.Given as goal

@@ -1,5 +1,4 @@
 -- `together::moved_line` meets its contract. Assumes nothing.
-use borrow.Author.Rules.{rules}
 use Rattle.summing.specs.Together.{moved_line}
 use Rattle.summing.proofs.together.moved_line.Goals as goal
 

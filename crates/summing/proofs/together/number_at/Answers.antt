@@ -1,7 +1,6 @@
 -- `together::number_at` meets its contract. Assumes nothing.
 use mathlib.Core.Path.{refl, sym}
 use native.Mathlib.Omega.{arith}
-use borrow.Author.Rules.{rules}
 use lib.ListN.{get_or-eq_default}
 use Rattle.summing.proofs.together.number_at.Goals as goal
 

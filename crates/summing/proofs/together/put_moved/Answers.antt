@@ -1,7 +1,6 @@
 -- `together::put_moved` meets its contract. Assumes nothing.
 use mathlib.Core.Path.{sym, ◌∙◌}
 use native.Mathlib.Omega.{arith}
-use borrow.Author.Rules.{rules}
 use Rattle.summing.proofs.Counts.{moved_told, none_told}
 use Rattle.summing.proofs.together.put_moved.Goals as goal
 

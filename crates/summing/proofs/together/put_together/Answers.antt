@@ -1,6 +1,4 @@
-use Prim.Native.Nat.{◌-◌}
 use native.Mathlib.Omega.{arith}
-use borrow.Author.Rules.{rules}
 use Rattle.explaining.specs.Lines.{line_room, line_text}
 use Rattle.explaining.proofs.PutLines.{line-short, lining-all, lining-next, lining-none}
 use Rattle.explaining.proofs.RoomLined.{had-most}

@@ -1,6 +1,5 @@
 -- `together::put_together` meets its contract: with the lines that are left stored, the buffer holds them all. Assumes nothing.
 use Prim.Native.Nat.{◌-◌}
-use borrow.Author.Rules.{rules}
 use Rattle.explaining.proofs.PutLines.{Lining}
 use Rattle.summing.specs.Together.{together_count, together_line}
 use Rattle.summing.proofs.together.put_together.Given as goal

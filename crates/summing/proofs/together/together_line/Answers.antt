@@ -1,5 +1,4 @@
 -- `together::together_line` meets its contract. Assumes nothing.
-use borrow.Author.Rules.{rules}
 use borrow.Author.Tests.{eq-eqb, ne_eqb}
 use Rattle.summing.specs.Together.{together_line}
 use Rattle.summing.proofs.together.together_line.Goals as goal
