@@ -1,11 +1,10 @@
 -- A course on its way, turn by turn, and how it ends. Assumes nothing.
-use Prim.Native.Nat.{ℕ, ◌+◌, ◌-◌, ◌*◌, ◌^◌, ◌≤◌, ◌<◌}
+use Prim.Native.Nat.{ℕ, ◌+◌, ◌-◌, ◌*◌, ◌≤◌, ◌<◌}
 use mathlib.Core.Bool.{Bool, true, false, cond}
 use mathlib.Core.List.{List, [], ◌++◌}
 use mathlib.Core.Path.{◌≡◌, refl, sym, ap, ap₂, ◌∙◌, subst}
 use native.Mathlib.Omega.{arith}
 use borrow.Author.Tests.{eqb-true}
-use lib.Dec.{eqb}
 use lib.ListN.{length, take}
 use Rattle.bits.proofs.Test.{by-test}
 use Rattle.clock_text.specs.Parts.{Countable}
@@ -97,7 +96,7 @@ module _ {turns : ℕ} {before : Course} (read : Filled) (part lines₀ lines : 
       record {
         input = come.input ++ part;
         text = come.text ++ turn_lines part;
-        turns = rw (e, after) (unwritten part read handed come.led brought (on true unwrote));
+        turns = rw (e ∙ ap failed_after after) (unwritten part read handed come.led brought (on true unwrote));
         ended = rw e refl;
       }
 

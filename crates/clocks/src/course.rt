@@ -7,7 +7,8 @@ ghost use Rattle.clock_text.specs.Report.{summary};
 ghost use Rattle.clocks.specs.Turns.{Came, Turned, beginning, failed_after, over_after};
 
 use clock_text::{Tally, report_part, summary_lines};
-use shell::{Filled, Handed, fill, nothing_handed, nothing_read, tell, tell_failure, write_out};
+use shell::{Filled, Handed, fill, nothing_handed, nothing_read, tell, write_out};
+use std::io::Read;
 
 // So many buffers of 2,048 sets a count of 64 bits has numbers for.
 const TURNS: u64 = u64::MAX / 2048;
@@ -54,27 +55,28 @@ fn failed(before: Course) -> Course
 }
 
 // Where no turn is left and there is more to read, there are more sets than numbers.
-fn over(before: Course) -> Course
+fn over(err: &impl Print, before: Course) -> Course
     ensures { result ≡ over_after before }
 {
     if before.more {
-        tell(b"clocks", b": more sets than there are numbers");
+        tell(err, b"clocks", b": more sets than there are numbers");
         return failed(before);
     }
     before
 }
 
 // The next buffer of the input: whole sets, but for the last. What goes wrong is told.
-fn read_some(before: Filled, input: &mut [u8; 6144]) -> Filled
+fn read_some<I: Read>(
+    from: &mut I,
+    err: &impl Print,
+    before: Filled,
+    input: &mut [u8; 6144],
+) -> Filled
     ensures prefix_len { IsPrefixLen result.count input.new }
     ensures count_bound { result.count ≤ 6144 }
     ensures all_value { result.all ≡ counted before.all result.count }
 {
-    let read = fill(before, input);
-    if read.has_failed() {
-        tell_failure(b"clocks", b": standard input");
-    }
-    read
+    fill(from, err, b"clocks", before, input)
 }
 
 // One turn, a function of the bytes that were read: their sets are counted, and their lines stand from the start of a buffer on.
@@ -100,15 +102,16 @@ fn count_some(before: Course, input: &[u8], lines: &mut [u8; 30720]) -> Turn
 }
 
 // The whole of the input. A proved loop has to end, so this one counts its turns down.
-fn count_input() -> Course
+fn count_input(rt: &(impl Input + Print), err: &impl Print) -> Course
     ensures { Came result }
 {
+    let mut from = rt.reader();
     let mut input = [0u8; 6144];
     let mut lines = [0u8; 30720];
     let mut course = begin();
     let mut turns = TURNS;
     while turns > 0 && course.more {
-        let read = read_some(course.read, &mut input);
+        let read = read_some(&mut from, err, course.read, &mut input);
         course.read = read;
         if read.has_failed() {
             return failed(course);
@@ -117,14 +120,14 @@ fn count_input() -> Course
         let turn = count_some(course, &input[..size], &mut lines);
         let end = turn.end;
         course = turn.course;
-        let handed = write_out(b"clocks", course.handed, &lines[..end]);
+        let handed = write_out(rt, err, b"clocks", course.handed, &lines[..end]);
         course.handed = handed;
         if handed.has_failed() {
             return failed(course);
         }
         turns -= 1;
     }
-    over(course)
+    over(err, course)
 }
 
 // The summary of what was counted, from the start of a buffer on, and where it ends.
@@ -138,12 +141,12 @@ fn summary_end(tally: Tally, lines: &mut [u8]) -> usize
 }
 
 // Counts the sets on standard input, prints a line for each on standard output, and then the summary.
-pub fn count_clocks() {
-    let course = count_input();
+pub fn count_clocks(rt: &(impl Input + Print), err: &impl Print) {
+    let course = count_input(rt, err);
     if course.failed {
         return;
     }
     let mut lines = [0u8; 131];
     let end = summary_end(course.tally, &mut lines);
-    write_out(b"clocks", course.handed, &lines[..end]);
+    write_out(rt, err, b"clocks", course.handed, &lines[..end]);
 }

@@ -3,6 +3,6 @@
 
 mod course;
 
-fn main() {
-    course::count_clocks();
+fn main(rt: HostRuntime) {
+    course::count_clocks(&rt, &rt.stderr());
 }

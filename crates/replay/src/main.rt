@@ -1,6 +1,6 @@
 // Replay: 01's example.
 #![tactic(auto)]
 
-fn main() {
-    shell::replay();
+fn main(rt: HostRuntime) {
+    shell::replay(&rt, &rt.stderr());
 }

@@ -1,5 +1,5 @@
 -- What counts elements of a list; how many records a buffer and a plan have. Assumes nothing.
-use Rattle.std.proofs.Common.{◌≡◌, ℕ, ◌≤◌, List, length, arith, length-take}
+use Rattle.std.proofs.Common.{ℕ, ◌≤◌, List, length, arith, length-take}
 use Rattle.io.specs.Counts.{IsPrefixLen}
 use Rattle.bits.proofs.Test.{by-test}
 use Rattle.file.specs.declared.registers.File.{File}

@@ -16,7 +16,7 @@ use Rattle.trace.specs.declared.running.Ran.{Ran}
 use Rattle.trace.specs.Run.{file_after, replies, run}
 use Rattle.replaying.specs.declared.Part.{Part}
 use Rattle.text.specs.Lent.{behind_by, placed_by}
-use Rattle.replaying.specs.Replay.{PartReplayed, after_part, part_answer, part_lines, part_replies, records_fit, record_lines, replayed, replayed_from}
+use Rattle.replaying.specs.Replay.{PartReplayed, after_part, part_answer, part_lines, records_fit, record_lines, replayed, replayed_from}
 use Rattle.text.specs.Text.{numbers_fit, timing_line}
 use Rattle.replaying.proofs.PartRuns.{all-run, both-fit, done, file-after, filled-with, replies-long}
 use Rattle.replaying.proofs.Pieces.{file-parts, lines-parts, parts-count}
@@ -286,7 +286,7 @@ module _ {chip : Chip} {prints : Bool} {turns : ℕ} {before : Course} (read : F
       record {
         trace = come.trace ++ part;
         text = come.text ++ turn_lines prints before part;
-        turns = rw (e, after) (unwritten part read handed come.led brought (on true unwrote));
+        turns = rw (e ∙ ap failed_after after) (unwritten part read handed come.led brought (on true unwrote));
         ended = rw e refl;
       }
 

@@ -1,6 +1,6 @@
 -- 02, 11/13: a second trace behind a saved file, the file that it leads to and the set of what it touched.
 -- Assumes nothing.
-use Rattle.std.specs.Prelude.{◌≡◌, ℕ, ◌%◌, ◌^◌, Bool, true, false, List, length, ◌==◌}
+use Rattle.std.specs.Prelude.{◌≡◌, ℕ, ◌%◌, ◌^◌, true, false, List, length, ◌==◌}
 use Rattle.file.specs.declared.registers.File.{File}
 use Rattle.trace.specs.Records.{items, item_count}
 use Rattle.touched.specs.declared.set.Touched.{Touched}

@@ -118,16 +118,31 @@ fn run_some(
 }
 
 // The whole of a trace, on a chip, by either engine. A proved loop has to end, so this one counts its turns down, from a number that no run uses up.
-pub fn run_input(program: &[u8], chip: Chip, engine: Engine, prints: bool) -> Course
+pub fn run_input(
+    rt: &(impl Input + Print),
+    err: &impl Print,
+    program: &[u8],
+    chip: Chip,
+    engine: Engine,
+    prints: bool,
+) -> Course
     ensures { Came chip prints result }
 {
+    let mut input = rt.reader();
     let mut trace = [0u8; 8192];
     let mut replies = [0u8; 8192];
     let mut lines = [0u8; 32768];
     let mut course = begin(chip);
     let mut turns = u64::MAX;
     while turns > 0 && course.more {
-        let read = read_some(program, course.number, course.read, &mut trace);
+        let read = read_some(
+            &mut input,
+            err,
+            program,
+            course.number,
+            course.read,
+            &mut trace,
+        );
         course.read = read;
         if read.has_failed() {
             return failed(course);
@@ -143,7 +158,7 @@ pub fn run_input(program: &[u8], chip: Chip, engine: Engine, prints: bool) -> Co
         );
         let end = turn.end;
         course = turn.course;
-        let handed = write_out(program, course.handed, &lines[..end]);
+        let handed = write_out(rt, err, program, course.handed, &lines[..end]);
         course.handed = handed;
         if handed.has_failed() {
             return failed(course);

@@ -8,11 +8,14 @@ use crate::course::run_input;
 use crate::reading::{Filled, nothing_read, read_second};
 use crate::saving::tell_refusal;
 use crate::telling::{Handed, choose_course_behind, tell_failure, write_out};
-use choosing::Chosen;
+use choosing::{Chosen, read_arg};
 use engines::Engine;
 use file::{Chip, File};
 use noting::run_noting;
 use plan::short_plan;
+use std::io::{ErrorKind, Read};
+use std::rt::{Env, Files};
+use std::{fs, io, str};
 use touched::Touched;
 
 // How far the second trace has come: whether there is more to read, whether something failed, what was read, the file after the records, and the set of what they
@@ -70,7 +73,7 @@ fn go_on(before: Onward, read: Filled, part: &[u8], replies: &mut [u8; 8192]) ->
 }
 
 // The whole of it. A proved loop has to end, so this one counts its turns down, from a number that no run uses up.
-fn follow(from: i32, saved: File) -> Onward
+fn follow<I: Read>(from: &mut I, err: &impl Print, saved: File) -> Onward
     requires { T (sound saved) }
     ensures { Ended saved result }
 {
@@ -79,7 +82,7 @@ fn follow(from: i32, saved: File) -> Onward
     let mut onward = set_out(saved);
     let mut turns = u64::MAX;
     while turns > 0 && onward.more {
-        let read = read_second(from, onward.read, &mut part);
+        let read = read_second(from, err, onward.read, &mut part);
         if read.has_failed() {
             return stopped(onward, read);
         }
@@ -91,48 +94,53 @@ fn follow(from: i32, saved: File) -> Onward
 }
 
 // Writes the short plan from the file that the second trace ends in back to the saved one, as bytes, on standard output.
-fn write_back(saved: File, onward: Onward, handed: Handed) {
+fn write_back(rt: &impl Print, err: &impl Print, saved: File, onward: Onward, handed: Handed) {
     let mut buffer = [0u8; 8192];
     let planned = short_plan(onward.file, saved, onward.touched, &mut buffer);
     let answer = planned.answer;
     let code = answer.code();
     if code != 0 {
-        tell_refusal(code);
+        tell_refusal(err, code);
         return;
     }
     let size = 8 * planned.count;
-    write_out(b"snapshot", handed, &buffer[..size]);
+    write_out(rt, err, b"snapshot", handed, &buffer[..size]);
 }
 
 // The second trace, a file by its name: the word behind the program's own.
-fn open_second() -> i32 {
+fn open_second<R: Env + Files>(rt: &R) -> io::Result<R::File> {
     let mut name = [0u8; 4096];
-    let size = os::arg(1, &mut name);
-    os::open_read(&name[..size])
+    let size = read_arg(rt, 1, &mut name);
+    match str::from_utf8(&name[..size]) {
+        Ok(path) => fs::open(rt, path),
+        Err(_) => Err(io::Error::from(ErrorKind::InvalidFilename)),
+    }
 }
 
 // Runs the trace on standard input from a chip's power-on, saves the file that it ends in, goes on with the second trace and writes the short plan back.
-fn since_on(chip: Chip, engine: Engine) {
-    let course = run_input(b"snapshot", chip, engine, false);
+fn since_on(rt: &(impl Env + Files + Input + Print), err: &impl Print, chip: Chip, engine: Engine) {
+    let course = run_input(rt, err, b"snapshot", chip, engine, false);
     if course.failed {
         return;
     }
-    let from = open_second();
-    if from < 0 {
-        tell_failure(b"snapshot", b": the second trace");
-        return;
-    }
-    let onward = follow(from, course.file);
+    let mut from = match open_second(rt) {
+        Ok(from) => from,
+        Err(why) => {
+            tell_failure(err, b"snapshot", b": the second trace", why);
+            return;
+        }
+    };
+    let onward = follow(&mut from, err, course.file);
     if onward.failed {
         return;
     }
-    write_back(course.file, onward, course.handed);
+    write_back(rt, err, course.file, onward, course.handed);
 }
 
 // The same on the chip and by the engine that the program's words choose; the second trace, of which the set is kept, the quick engine runs.
-pub fn since() {
-    let chosen = choose_course_behind(b"snapshot");
+pub fn since(rt: &(impl Env + Files + Input + Print), err: &impl Print) {
+    let chosen = choose_course_behind(rt, err, b"snapshot");
     if let Chosen::On(chip, engine) = chosen {
-        since_on(chip, engine);
+        since_on(rt, err, chip, engine);
     }
 }

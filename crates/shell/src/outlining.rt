@@ -7,6 +7,7 @@ use choosing::Chosen;
 use engines::Engine;
 use file::Chip;
 use geometry::{Capture, Cursor, Window, magnitude, read_geometry};
+use std::rt::Env;
 use text::{capture_line, cursor_line, window2_line};
 
 // A mark as 0 or 1.
@@ -64,16 +65,16 @@ fn put_capture(capture: Capture, lines: &mut [u8], at: usize) -> usize {
 }
 
 // So many bytes from the start of a buffer on, which has them.
-fn write_first(before: Handed, lines: &[u8], end: usize) {
+fn write_first(rt: &impl Print, err: &impl Print, before: Handed, lines: &[u8], end: usize) {
     if end <= lines.len() {
-        write_out(b"geometry", before, &lines[..end]);
+        write_out(rt, err, b"geometry", before, &lines[..end]);
     }
 }
 
 // Runs the trace on standard input from a chip's power-on and prints the cursor, window 2 and the capture window of the file that it ends in
 // on standard output.
-fn outline_on(chip: Chip, engine: Engine) {
-    let course = run_input(b"geometry", chip, engine, false);
+fn outline_on(rt: &(impl Input + Print), err: &impl Print, chip: Chip, engine: Engine) {
+    let course = run_input(rt, err, b"geometry", chip, engine, false);
     if course.failed {
         return;
     }
@@ -82,13 +83,13 @@ fn outline_on(chip: Chip, engine: Engine) {
     let at = put_cursor(read.cursor, &mut lines);
     let at = put_window(read.window, &mut lines, at);
     let end = put_capture(read.capture, &mut lines, at);
-    write_first(course.handed, &lines, end);
+    write_first(rt, err, course.handed, &lines, end);
 }
 
 // The same on the chip and by the engine that the program's words choose.
-pub fn outline() {
-    let chosen = choose_course(b"geometry");
+pub fn outline(rt: &(impl Env + Input + Print), err: &impl Print) {
+    let chosen = choose_course(rt, err, b"geometry");
     if let Chosen::On(chip, engine) = chosen {
-        outline_on(chip, engine);
+        outline_on(rt, err, chip, engine);
     }
 }

@@ -12,6 +12,7 @@ use choosing::Chosen;
 use engines::Engine;
 use file::{Chip, File};
 use replaying::TIMING_MOST;
+use std::rt::Env;
 
 // The timing line of a file, from the start of a buffer on, and where it ends.
 fn timing_end(file: File, line: &mut [u8]) -> usize
@@ -25,20 +26,20 @@ fn timing_end(file: File, line: &mut [u8]) -> usize
 }
 
 // Runs the trace on standard input from a chip's power-on and prints what 01 says on standard output.
-fn replay_on(chip: Chip, engine: Engine) {
-    let course = run_input(b"replay", chip, engine, true);
+fn replay_on(rt: &(impl Input + Print), err: &impl Print, chip: Chip, engine: Engine) {
+    let course = run_input(rt, err, b"replay", chip, engine, true);
     if course.failed {
         return;
     }
     let mut line = [0u8; TIMING_MOST];
     let end = timing_end(course.file, &mut line);
-    write_out(b"replay", course.handed, &line[..end]);
+    write_out(rt, err, b"replay", course.handed, &line[..end]);
 }
 
 // The same on the chip and by the engine that the program's words choose.
-pub fn replay() {
-    let chosen = choose_course(b"replay");
+pub fn replay(rt: &(impl Env + Input + Print), err: &impl Print) {
+    let chosen = choose_course(rt, err, b"replay");
     if let Chosen::On(chip, engine) = chosen {
-        replay_on(chip, engine);
+        replay_on(rt, err, chip, engine);
     }
 }

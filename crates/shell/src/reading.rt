@@ -4,7 +4,7 @@ ghost use Rattle.io.specs.Counts.{IsPrefixLen};
 ghost use Rattle.shell.specs.Parts.{counted};
 
 use crate::telling::{tell, tell_failure};
-use libc::STDIN_FILENO;
+use std::io::Read;
 use std::num::wrapping_add_u64;
 
 // The last number at which a whole buffer of records still has numbers.
@@ -62,29 +62,50 @@ fn filled_with(before: Filled, count: usize, failed: bool) -> Filled
     }
 }
 
-// One read into what is left of a buffer from a place on; no bytes where the input ends or the read fails. What stands before the place stays.
-fn read_on(from: i32, buffer: &mut [u8], at: usize) -> Got
+// One read into what is left of a buffer from a place on; no bytes where the input ends or the read fails, which is told. What stands before the place
+// stays.
+fn read_on<I: Read>(
+    from: &mut I,
+    err: &impl Print,
+    program: &[u8],
+    what: &[u8],
+    buffer: &mut [u8],
+    at: usize,
+) -> Got
     requires { at ≤ length buffer.old }
     ensures count_in_bounds { at + result.count ≤ length buffer.new }
     ensures buffer_unchanged { take at buffer.new ≡ take at buffer.old }
 {
-    let rest = &mut buffer[at..];
-    let got = libc::read(from, rest);
-    let count = io::count(got, rest);
-    Got {
-        count,
-        failed: got < 0,
+    match from.read(&mut buffer[at..]) {
+        Ok(count) => Got {
+            count,
+            failed: false,
+        },
+        Err(why) => {
+            tell_failure(err, program, what, why);
+            Got {
+                count: 0,
+                failed: true,
+            }
+        }
     }
 }
 
-// Reads from a file that is open until the buffer is full, the file ends or a read fails.
-pub fn fill_from(from: i32, before: Filled, buffer: &mut [u8]) -> Filled
+// Reads from a file that is open until the buffer is full, the file ends or a read fails, which is told with the words for what is read.
+pub fn fill_from<I: Read>(
+    from: &mut I,
+    err: &impl Print,
+    program: &[u8],
+    what: &[u8],
+    before: Filled,
+    buffer: &mut [u8],
+) -> Filled
     ensures prefix_len { IsPrefixLen result.count buffer.new }
     ensures all_value { result.all ≡ counted before.all result.count }
 {
     let mut at = 0;
     while at < buffer.len() {
-        let more = read_on(from, buffer, at);
+        let more = read_on(from, err, program, what, buffer, at);
         if more.count == 0 {
             return filled_with(before, at, more.failed);
         }
@@ -94,45 +115,55 @@ pub fn fill_from(from: i32, before: Filled, buffer: &mut [u8]) -> Filled
 }
 
 // The same of standard input.
-pub fn fill(before: Filled, buffer: &mut [u8]) -> Filled
+pub fn fill<I: Read>(
+    input: &mut I,
+    err: &impl Print,
+    program: &[u8],
+    before: Filled,
+    buffer: &mut [u8],
+) -> Filled
     ensures prefix_len { IsPrefixLen result.count buffer.new }
     ensures all_value { result.all ≡ counted before.all result.count }
 {
-    fill_from(STDIN_FILENO, before, buffer)
+    fill_from(input, err, program, b": standard input", before, buffer)
 }
 
 // The next buffer of a trace, of which so many records came before; what goes wrong is told.
-pub fn read_some(program: &[u8], number: u64, before: Filled, trace: &mut [u8; 8192]) -> Filled
+pub fn read_some<I: Read>(
+    input: &mut I,
+    err: &impl Print,
+    program: &[u8],
+    number: u64,
+    before: Filled,
+    trace: &mut [u8; 8192],
+) -> Filled
     ensures prefix_len { IsPrefixLen result.count trace.new }
     ensures count_bound { result.count ≤ 8192 }
     ensures all_value { result.all ≡ counted before.all result.count }
     ensures number_bound { result.failed ≡ false → number + 1024 < 2 ^ 64 }
 {
     if number > LAST {
-        tell(program, b": more records than there are numbers");
+        tell(err, program, b": more records than there are numbers");
         return filled_with(before, 0, true);
     }
-    let read = fill(before, trace);
-    if read.failed {
-        tell_failure(program, b": standard input");
-    }
-    read
+    fill(input, err, program, before, trace)
 }
 
 // The next buffer of a second trace, a file that is open; what goes wrong is told.
-pub fn read_second(from: i32, before: Filled, part: &mut [u8; 8192]) -> Filled
+pub fn read_second<I: Read>(
+    from: &mut I,
+    err: &impl Print,
+    before: Filled,
+    part: &mut [u8; 8192],
+) -> Filled
     ensures prefix_len { IsPrefixLen result.count part.new }
     ensures count_bound { result.count ≤ 8192 }
     ensures all_value { result.all ≡ counted before.all result.count }
     ensures all_bound { result.failed ≡ false → before.all + 8192 < 2 ^ 64 }
 {
     if before.all > LAST_BYTE {
-        tell(b"snapshot", b": the second trace has no end");
+        tell(err, b"snapshot", b": the second trace has no end");
         return filled_with(before, 0, true);
     }
-    let read = fill_from(from, before, part);
-    if read.failed {
-        tell_failure(b"snapshot", b": the second trace");
-    }
-    read
+    fill_from(from, err, b"snapshot", b": the second trace", before, part)
 }

@@ -4,24 +4,21 @@ use crate::telling::{choose_course, write_out};
 use choosing::Chosen;
 use engines::Engine;
 use file::Chip;
-use libc::STDERR_FILENO;
+use std::rt::Env;
 
 // A refusal in words, with its code.
-pub fn tell_refusal(code: u8) {
-    io::write_all(STDERR_FILENO, b"snapshot: no plan, code ");
-    io::print_decimal(STDERR_FILENO, code as u64);
+pub fn tell_refusal(err: &impl Print, code: u8) {
+    let _ = err.write_all(b"snapshot: no plan, code ");
+    let _ = err.print(code);
     if code == 13 {
-        io::write_all(
-            STDERR_FILENO,
-            b": the palette pointer doesn't rest before red",
-        );
+        let _ = err.write_all(b": the palette pointer doesn't rest before red");
     }
-    io::write_all(STDERR_FILENO, b"\n");
+    let _ = err.write_all(b"\n");
 }
 
 // Runs the trace on standard input from a chip's power-on and writes the plan of the file that it ends in, as bytes, on standard output.
-fn snapshot_on(chip: Chip, engine: Engine) {
-    let course = run_input(b"snapshot", chip, engine, false);
+fn snapshot_on(rt: &(impl Input + Print), err: &impl Print, chip: Chip, engine: Engine) {
+    let course = run_input(rt, err, b"snapshot", chip, engine, false);
     if course.failed {
         return;
     }
@@ -30,17 +27,17 @@ fn snapshot_on(chip: Chip, engine: Engine) {
     let answer = planned.answer;
     let code = answer.code();
     if code != 0 {
-        tell_refusal(code);
+        tell_refusal(err, code);
         return;
     }
     let size = 8 * planned.count;
-    write_out(b"snapshot", course.handed, &buffer[..size]);
+    write_out(rt, err, b"snapshot", course.handed, &buffer[..size]);
 }
 
 // The same on the chip and by the engine that the program's words choose.
-pub fn snapshot() {
-    let chosen = choose_course(b"snapshot");
+pub fn snapshot(rt: &(impl Env + Input + Print), err: &impl Print) {
+    let chosen = choose_course(rt, err, b"snapshot");
     if let Chosen::On(chip, engine) = chosen {
-        snapshot_on(chip, engine);
+        snapshot_on(rt, err, chip, engine);
     }
 }

@@ -3,20 +3,23 @@ ghost use Rattle.std.specs.Prelude.{◌≡◌, false, length};
 ghost use Rattle.shell.specs.Parts.{counted};
 
 use choosing::{Choice, Chosen, choose, choose_behind};
-use libc::{STDERR_FILENO, STDOUT_FILENO};
+use std::io;
 use std::num::wrapping_add_u64;
+use std::rt::Env;
 
-// A failed call: the program's name, what failed, and why.
-pub fn tell_failure(program: &[u8], what: &[u8]) {
-    io::write_all(STDERR_FILENO, program);
-    os::fail(what);
+// A failed call: the program's name, what failed, and why. What standard error doesn't take is lost.
+pub fn tell_failure(err: &impl Print, program: &[u8], what: &[u8], why: io::Error) {
+    let _ = err.write_all(program);
+    let _ = err.write_all(what);
+    let _ = err.write_all(b": ");
+    let _ = err.println(why);
 }
 
 // Anything else, as a line.
-pub fn tell(program: &[u8], what: &[u8]) {
-    io::write_all(STDERR_FILENO, program);
-    io::write_all(STDERR_FILENO, what);
-    io::write_all(STDERR_FILENO, b"\n");
+pub fn tell(err: &impl Print, program: &[u8], what: &[u8]) {
+    let _ = err.write_all(program);
+    let _ = err.write_all(what);
+    let _ = err.write_all(b"\n");
 }
 
 // How many bytes were handed to be written in all, as far as 64 bits count, and whether writing the last of them failed. It is made here
@@ -38,16 +41,22 @@ pub fn nothing_handed() -> Handed
 }
 
 // Writes bytes behind those before, and tells it if that fails.
-pub fn write_out(program: &[u8], before: Handed, bytes: &[u8]) -> Handed
+pub fn write_out(
+    rt: &impl Print,
+    err: &impl Print,
+    program: &[u8],
+    before: Handed,
+    bytes: &[u8],
+) -> Handed
     ensures { result.all ≡ counted before.all (length bytes.now) }
 {
-    let is_written = io::write_all(STDOUT_FILENO, bytes);
-    if !is_written {
-        tell_failure(program, b": standard output");
-    }
-    Handed {
-        all: wrapping_add_u64(before.all, bytes.len() as u64),
-        failed: !is_written,
+    let all = wrapping_add_u64(before.all, bytes.len() as u64);
+    match rt.write_all(bytes) {
+        Ok(()) => Handed { all, failed: false },
+        Err(why) => {
+            tell_failure(err, program, b": standard output", why);
+            Handed { all, failed: true }
+        }
     }
 }
 
@@ -61,12 +70,13 @@ impl Handed {
 }
 
 // What was chosen; where the words name none, that is told.
-pub fn tell_choice(program: &[u8], choice: Choice) -> Chosen
+pub fn tell_choice(err: &impl Print, program: &[u8], choice: Choice) -> Chosen
     ensures { result ≡ choice.chosen }
 {
     let chosen = choice.chosen;
     if let Chosen::Unknown = chosen {
         tell(
+            err,
             program,
             b": unknown option or name: --chip is 5462 or 5464, --engine is quick or plain",
         );
@@ -75,11 +85,11 @@ pub fn tell_choice(program: &[u8], choice: Choice) -> Chosen
 }
 
 // The chip and the engine that a program is started for.
-pub fn choose_course(program: &[u8]) -> Chosen {
-    tell_choice(program, choose())
+pub fn choose_course(rt: &impl Env, err: &impl Print, program: &[u8]) -> Chosen {
+    tell_choice(err, program, choose(rt))
 }
 
 // The same by the words behind the first.
-pub fn choose_course_behind(program: &[u8]) -> Chosen {
-    tell_choice(program, choose_behind())
+pub fn choose_course_behind(rt: &impl Env, err: &impl Print, program: &[u8]) -> Chosen {
+    tell_choice(err, program, choose_behind(rt))
 }

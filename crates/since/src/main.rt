@@ -1,6 +1,6 @@
 // Since: the short plan back to mode 12h, after a few accesses more.
 #![tactic(auto)]
 
-fn main() {
-    shell::since();
+fn main(rt: HostRuntime) {
+    shell::since(&rt, &rt.stderr());
 }

@@ -1,6 +1,6 @@
 // Snapshot: the plan of mode 12h with colours, cursor and indices.
 #![tactic(auto)]
 
-fn main() {
-    shell::snapshot();
+fn main(rt: HostRuntime) {
+    shell::snapshot(&rt, &rt.stderr());
 }
