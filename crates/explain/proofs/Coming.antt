@@ -90,7 +90,7 @@ module _ {chip : Chip} {sums : Bool} {turns : ℕ} {before : Course} (read : Fil
       record {
         trace = come.trace ++ part;
         text = come.text ++ turn_lines sums before part;
-        turns = rw (e, after) (unwritten part read handed come.led brought (on true unwrote));
+        turns = rw (e ∙ ap failed_after after) (unwritten part read handed come.led brought (on true unwrote));
         ended = rw e refl;
       }
 

@@ -10,7 +10,8 @@ ghost use Rattle.explain.specs.Turns.{Came, Closed, Finished, Turned, beginning,
 use access::Item;
 use explaining::record_lines;
 use file::{Chip, File};
-use shell::{Filled, Handed, fill, nothing_handed, nothing_read, tell, tell_failure, write_out};
+use shell::{Filled, Handed, fill, nothing_handed, nothing_read, tell, write_out};
+use std::io::Read;
 use summing::{Summary, summary_lines, take_in, together_lines};
 use trace::item_of;
 
@@ -61,27 +62,28 @@ fn failed(before: Course) -> Course
 }
 
 // Where no turn is left and there is more to read, there are more records than numbers.
-fn over(before: Course) -> Course
+fn over(err: &impl Print, before: Course) -> Course
     ensures { result ≡ over_after before }
 {
     if before.more {
-        tell(b"explain", b": more records than there are numbers");
+        tell(err, b"explain", b": more records than there are numbers");
         return failed(before);
     }
     before
 }
 
 // The bytes of the next record; fewer where the trace ends. What goes wrong is told.
-fn read_record(before: Filled, bytes: &mut [u8; 8]) -> Filled
+fn read_record<I: Read>(
+    input: &mut I,
+    err: &impl Print,
+    before: Filled,
+    bytes: &mut [u8; 8],
+) -> Filled
     ensures prefix_len { IsPrefixLen result.count bytes.new }
     ensures count_bound { result.count ≤ 8 }
     ensures all_value { result.all ≡ counted before.all result.count }
 {
-    let read = fill(before, bytes);
-    if read.has_failed() {
-        tell_failure(b"explain", b": standard input");
-    }
-    read
+    fill(input, err, b"explain", before, bytes)
 }
 
 // What is told of a record, from the start of a buffer on, and where it ends.
@@ -131,15 +133,16 @@ fn tell_some(sums: bool, before: Course, bytes: &[u8], lines: &mut [u8; 3360]) -
 }
 
 // The whole of a trace, on a chip. A proved loop has to end, so this one counts its turns down.
-fn tell_input(chip: Chip, sums: bool) -> Course
+fn tell_input(rt: &(impl Input + Print), err: &impl Print, chip: Chip, sums: bool) -> Course
     ensures { Came chip sums result }
 {
+    let mut input = rt.reader();
     let mut bytes = [0u8; 8];
     let mut lines = [0u8; 3360];
     let mut course = begin(chip);
     let mut turns = u64::MAX;
     while turns > 0 && course.more {
-        let read = read_record(course.read, &mut bytes);
+        let read = read_record(&mut input, err, course.read, &mut bytes);
         course.read = read;
         if read.has_failed() {
             return failed(course);
@@ -148,14 +151,14 @@ fn tell_input(chip: Chip, sums: bool) -> Course
         let turn = tell_some(sums, course, &bytes[..size], &mut lines);
         let end = turn.end;
         course = turn.course;
-        let handed = write_out(b"explain", course.handed, &lines[..end]);
+        let handed = write_out(rt, err, b"explain", course.handed, &lines[..end]);
         course.handed = handed;
         if handed.has_failed() {
             return failed(course);
         }
         turns -= 1;
     }
-    over(course)
+    over(err, course)
 }
 
 // The summary, from the start of a buffer on, and where it ends.
@@ -169,7 +172,7 @@ fn summary_end(summary: Summary, lines: &mut [u8]) -> usize
 }
 
 // The end of a course: where records are summed and nothing failed, the summary is written.
-fn close(sums: bool, before: Course) -> Course
+fn close(rt: &impl Print, err: &impl Print, sums: bool, before: Course) -> Course
     ensures { Closed sums before result }
 {
     if before.failed {
@@ -180,7 +183,7 @@ fn close(sums: bool, before: Course) -> Course
     }
     let mut lines = [0u8; 23040];
     let end = summary_end(before.summary, &mut lines);
-    let handed = write_out(b"explain", before.handed, &lines[..end]);
+    let handed = write_out(rt, err, b"explain", before.handed, &lines[..end]);
     let mut course = before;
     course.failed = handed.has_failed();
     course.handed = handed;
@@ -188,8 +191,8 @@ fn close(sums: bool, before: Course) -> Course
 }
 
 // Explains the trace on standard input, or sums it, from a chip's power-on on standard output.
-pub fn explain(chip: Chip, sums: bool) -> Course
+pub fn explain(rt: &(impl Input + Print), err: &impl Print, chip: Chip, sums: bool) -> Course
     ensures { Finished chip sums result }
 {
-    close(sums, tell_input(chip, sums))
+    close(rt, err, sums, tell_input(rt, err, chip, sums))
 }

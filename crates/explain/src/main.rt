@@ -3,28 +3,30 @@
 
 mod course;
 
-use choosing::{Choice, Chosen, choose, choose_behind};
+use choosing::{Choice, Chosen, choose, choose_behind, read_arg};
 use shell::tell_choice;
+use std::rt::Env;
 
 // The first word behind the program's name asks for the summary.
-fn asks_summary() -> bool {
+fn asks_summary(rt: &impl Env) -> bool {
     let mut word = [0u8; 16];
-    let size = os::arg(1, &mut word);
+    let size = read_arg(rt, 1, &mut word);
     check::same(&word[..size], b"--summary")
 }
 
 // The words behind it choose the chip; which engine they name makes no difference.
-fn choice_by(sums: bool) -> Choice {
+fn choice_by(rt: &impl Env, sums: bool) -> Choice {
     if sums {
-        return choose_behind();
+        return choose_behind(rt);
     }
-    choose()
+    choose(rt)
 }
 
-fn main() {
-    let sums = asks_summary();
-    let chosen = tell_choice(b"explain", choice_by(sums));
+fn main(rt: HostRuntime) {
+    let err = rt.stderr();
+    let sums = asks_summary(&rt);
+    let chosen = tell_choice(&err, b"explain", choice_by(&rt, sums));
     if let Chosen::On(chip, _) = chosen {
-        course::explain(chip, sums);
+        course::explain(&rt, &err, chip, sums);
     }
 }
