@@ -1,7 +1,7 @@
 /*
  * The register file of the CL-GD5462 and CL-GD5464 for a host in C: the proved library behind a
- * plain struct. C99, usable from C++; link target/staticlib/libhost.a ('rt staticlib host'), which
- * is x86-64.
+ * plain struct. C99, usable from C++; link crates/host/out/libhost.a, which 'rt lib' in crates/host
+ * proves and makes, and which is x86-64.
  *
  * A file is a struct that the host owns and lends. Nothing is allocated and nothing is global, so
  * two files never touch, and threads need a lock only where they share one.

@@ -13,12 +13,14 @@ import pathlib
 import random
 import re
 import sys
+import textwrap
 
 ROOT = pathlib.Path(__file__).resolve().parent.parent
 CELLS = ROOT / "crates" / "places" / "src" / "decode.rt"
 FILE = ROOT / "crates" / "quick" / "src" / "slots.rt"
 SLOTS = 512
 SHIFT = 21
+WIDTH = 99
 FIRST_PORT, PORTS, CONFIG_SPACE, CONFIG, MMIO = 0x3B0, 48, 288, 6, 0x110
 CONFIG_IN_MMIO = 0x300
 NOTHING = 0x7D
@@ -78,7 +80,8 @@ def multiplier_for(keys, first):
 
 
 def numbers(name, form, values):
-    rows = (f"    {form % value if value else 0}," for value in values)
+    row = " ".join(f"{form % value if value else 0}," for value in values)
+    rows = textwrap.wrap(row, WIDTH, initial_indent="    ", subsequent_indent="    ")
     return f"const {name}: [u32; SLOTS] = [\n" + "\n".join(rows) + "\n];\n"
 
 
@@ -102,11 +105,10 @@ def written(before):
 
 HEAD = r"""// Written by tools/quick_table.py: a slot for each kind, width and address that is held, found by a record's first four bytes as one number, its key.
 // The limit is the first value that doesn't fit, and 0 where no key has the slot; the class is what may refuse; the cell is the place's.
-ghost use lib.Dec.{T};
-ghost use Prim.Native.Nat.{_<_};
-ghost use Rattle·file.specs.declared.chip.Chip.the-variants.{Gd5462, Gd5464};
-ghost use Rattle·places.specs.EngineCells.{cellTable};
-ghost use Rattle·quick·specs.specs.Slots.{slotsTrue};
+ghost use Rattle.std.specs.Prelude.{T, ◌<◌};
+ghost use Rattle.file.specs.declared.chip.Chip.TheVariants.{Gd5462, Gd5464};
+ghost use Rattle.places.specs.EngineCells.{cell_table};
+ghost use Rattle.quick.specs.Slots.{slots_true};
 
 pub const SLOTS: usize = 512;
 
@@ -115,7 +117,8 @@ const MULTIPLIER: u64 = @;
 const DIVISOR: u64 = 2_097_152;
 """
 
-TAIL = """pub struct Slots {
+TAIL = """#[derive(Clone, Copy)]
+pub struct Slots {
     pub keys: [u32; SLOTS],
     pub limits: [u32; SLOTS],
     pub classes: [u8; SLOTS],
@@ -124,7 +127,7 @@ TAIL = """pub struct Slots {
 
 // The slots of both chips.
 pub fn all_slots() -> Slots
-    ensures { λ r. ⌜ T (slotsTrue (cellTable Gd5462) (r .keys) (r .limits) (r .classes) (r .named)) × T (slotsTrue (cellTable Gd5464) (r .keys) (r .limits) (r .classes) (r .named)) ⌝ }
+    ensures { T (slots_true (cell_table Gd5462) result.keys result.limits result.classes result.named) × T (slots_true (cell_table Gd5464) result.keys result.limits result.classes result.named) }
 {
     Slots {
         keys: KEYS,
@@ -136,7 +139,7 @@ pub fn all_slots() -> Slots
 
 // Where a key may stand.
 pub fn slot_of(key: u32) -> usize
-    ensures { λ r. ⌜ r < 512 ⌝ }
+    ensures { result < 512 }
 {
     (key as u64 * MULTIPLIER / DIVISOR % 512) as usize
 }
