@@ -3,7 +3,8 @@ ghost use Rattle.std.specs.Prelude.{◌≤◌, length};
 
 use file::{CR1B, Chip, Effect, File};
 use mode_lines::report_part;
-use shell::{fill, nothing_handed, nothing_read, tell, tell_failure, write_out};
+use shell::{fill, nothing_handed, nothing_read, tell, write_out};
+use std::io::Read;
 
 // How far the reading has come: the number of the line at hand, how many of its bytes are kept, and whether there is more to read.
 #[derive(Clone, Copy)]
@@ -43,6 +44,8 @@ fn ended(before: Course) -> Course {
 
 // Some lines of a part, and what is reported of them, written. What fails ends the course, and so does a line that no number is left for.
 fn take_some(
+    rt: &impl Print,
+    err: &impl Print,
     before: Course,
     file: File,
     part: &[u8],
@@ -55,14 +58,14 @@ fn take_some(
     let end = done.end;
     let used = done.used;
     if used == 0 {
-        tell(b"modeline", b": more lines than there are numbers");
+        tell(err, b"modeline", b": more lines than there are numbers");
         return Turn {
             used: 0,
             course: ended(before),
         };
     }
     let reports: &[u8] = reports;
-    let handed = write_out(b"modeline", nothing_handed(), &reports[..end]);
+    let handed = write_out(rt, err, b"modeline", nothing_handed(), &reports[..end]);
     if handed.has_failed() {
         return Turn {
             used: 0,
@@ -81,6 +84,8 @@ fn take_some(
 
 // All lines that end in a part.
 fn take_part(
+    rt: &impl Print,
+    err: &impl Print,
     before: Course,
     file: File,
     part: &[u8],
@@ -90,7 +95,7 @@ fn take_part(
     let mut course = before;
     let mut at: usize = 0;
     while at < part.len() {
-        let turn = take_some(course, file, &part[at..], kept, reports);
+        let turn = take_some(rt, err, course, file, &part[at..], kept, reports);
         course = turn.course;
         if turn.used == 0 {
             return course;
@@ -101,38 +106,48 @@ fn take_part(
 }
 
 // A last line that no newline ends counts too.
-fn finish(before: Course, file: File, kept: &mut [u8; 256], reports: &mut [u8; 8192]) -> Course {
+fn finish(
+    rt: &impl Print,
+    err: &impl Print,
+    before: Course,
+    file: File,
+    kept: &mut [u8; 256],
+    reports: &mut [u8; 8192],
+) -> Course {
     if before.more && before.count > 0 {
-        return ended(take_part(before, file, b"\n", kept, reports));
+        return ended(take_part(rt, err, before, file, b"\n", kept, reports));
     }
     ended(before)
 }
 
 // The next buffer of the input.
-fn take_more(
+fn take_more<I: Read>(
+    from: &mut I,
+    rt: &impl Print,
+    err: &impl Print,
     before: Course,
     file: File,
     input: &mut [u8; 8192],
     kept: &mut [u8; 256],
     reports: &mut [u8; 8192],
 ) -> Course {
-    let read = fill(nothing_read(), input);
+    let read = fill(from, err, b"modeline", nothing_read(), input);
     if read.has_failed() {
-        tell_failure(b"modeline", b": standard input");
         return ended(before);
     }
     let size = read.count;
     let input: &[u8] = input;
-    let course = take_part(before, file, &input[..size], kept, reports);
+    let course = take_part(rt, err, before, file, &input[..size], kept, reports);
     if size == 8192 {
         return course;
     }
-    finish(course, file, kept, reports)
+    finish(rt, err, course, file, kept, reports)
 }
 
 // Reads the lines on standard input and prints what is reported of each on standard output. A proved loop has to end, so this one counts its turns down,
 // from a number that no run uses up.
-pub fn report_input(wide: bool) {
+pub fn report_input(rt: &(impl Input + Print), err: &impl Print, wide: bool) {
+    let mut from = rt.reader();
     let file = start(wide);
     let mut input = [0u8; 8192];
     let mut kept = [0u8; 256];
@@ -144,7 +159,16 @@ pub fn report_input(wide: bool) {
     };
     let mut turns = u64::MAX;
     while turns > 0 && course.more {
-        course = take_more(course, file, &mut input, &mut kept, &mut reports);
+        course = take_more(
+            &mut from,
+            rt,
+            err,
+            course,
+            file,
+            &mut input,
+            &mut kept,
+            &mut reports,
+        );
         turns -= 1;
     }
 }

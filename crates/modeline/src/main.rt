@@ -7,10 +7,11 @@ mod words;
 
 use words::is_word;
 
-fn main() {
-    if is_word(1, b"--of") {
-        out::write_line();
+fn main(rt: HostRuntime) {
+    let err = rt.stderr();
+    if is_word(&rt, 1, b"--of") {
+        out::write_line(&rt, &err);
         return;
     }
-    lines::report_input(is_word(1, b"--wide"));
+    lines::report_input(&rt, &err, is_word(&rt, 1, b"--wide"));
 }

@@ -1,8 +1,11 @@
 // The words that the program was started with.
 
+use choosing::read_arg;
+use std::rt::Env;
+
 // The word of this number is this one.
-pub fn is_word(number: usize, word: &[u8]) -> bool {
+pub fn is_word(rt: &impl Env, number: usize, word: &[u8]) -> bool {
     let mut found = [0u8; 16];
-    let size = os::arg(number, &mut found);
+    let size = read_arg(rt, number, &mut found);
     check::same(&found[..size], word)
 }
