@@ -1,6 +1,6 @@
 -- What is told of a record has so many bytes at most, since a line has: every line has room for 159, and a newline. Assumes nothing.
 use Prim.Native.Nat.{ℕ, zero, suc, ◌*◌, ◌≤◌, ◌-◌}
-use mathlib.Core.Bool.{Bool, true, false, cond, ◌||◌, not}
+use mathlib.Core.Bool.{Bool, true, false, cond}
 use mathlib.Core.List.{List, [], ◌∷◌}
 use mathlib.Core.Path.{◌≡◌, refl, ◌∙◌}
 use native.Mathlib.Omega.{arith}
@@ -14,7 +14,7 @@ use Rattle.explaining.specs.declared.line.Line.{Line}
 use Rattle.explaining.specs.declared.token.Token.{Token}
 use Rattle.explaining.specs.Explained.{beam_line, case_of, changed, entry_line, explained, first_line, head_line, line_at, line_count, marks_line}
 use Rattle.explaining.specs.Explained.{number_line, part_line, pointer_line, record_most, register_part, toggle_line}
-use Rattle.explaining.specs.Lines.{behind, blank, byte_behind, line_most, line_room, line_text, lines_of}
+use Rattle.explaining.specs.Lines.{behind, blank, byte_behind, line_most, line_room, lines_of}
 use Rattle.explaining.proofs.PutLines.{line-short}
 use Rattle.job_explain.specs.Told.{record_told}
 use Rattle.summing.specs.Together.{moved_at, moved_line, moved_together, together, together_count, together_line, together_most, together_text}
@@ -30,8 +30,8 @@ byte-size l b = by-test (ltb l.end line_most) (λ e. rw (e, length-set) refl) (�
 -- text after what stands in a line leaves its room
 put : {l : Line} (text : List ℕ) → Roomy l → Roomy (behind l text)
 unfolding behind
-put [] h = h
-put {l} (b ∷ bs) h = put bs (record { size = byte-size l b ∙ h.size })
+put {l} [] h = h
+put {l} (b ∷ bs) h = put {l = byte_behind l b} bs (record { size = byte-size l b ∙ h.size })
 
 none : Roomy blank
 none = record { size = length-replicate {A = ℕ} line_most 0 }

@@ -1,13 +1,11 @@
 -- The loop of a step: what it holds after each record, and that one record more keeps it. Assumes nothing.
 use Prim.Native.Nat.{ℕ, ◌+◌, ◌-◌, ◌*◌, ◌/◌, ◌%◌, ◌^◌, ◌≤◌, ◌<◌, min}
-use mathlib.Core.Bool.{Bool, true, false}
-use mathlib.Core.List.{List, [], ◌++◌}
+use mathlib.Core.Bool.{Bool}
+use mathlib.Core.List.{List, ◌++◌}
 use mathlib.Core.Path.{◌≡◌, refl, sym, ap, ◌∙◌}
 use native.Mathlib.Omega.{arith}
-use lib.ListN.{length, take, drop, length-drop, length-take}
+use lib.ListN.{length, take, drop, length-drop}
 use lib.Seq.{length-sets, length-take-le, sets-eq, take-add}
-use Rattle.file.specs.declared.registers.File.{File}
-use Rattle.access.specs.declared.record.Item.{Item}
 use Rattle.trace.specs.Records.{item_count, item_of}
 use Rattle.text.specs.Lent.{Wrote}
 use Rattle.text.proofs.Stores.{then-text}
@@ -16,7 +14,7 @@ use Rattle.feeding.specs.Feeding.{Fed, bytes_of}
 use Rattle.job_explain.specs.declared.job.ExplainJob.{ExplainJob}
 use Rattle.job_explain.specs.declared.turn.Turn.{Turn}
 use Rattle.job_explain.specs.Told.{record_told}
-use Rattle.job_explain.specs.Job.{Turned, WholeRecords, after_bytes, bytes_taken, job_told, number_most, record_after, records_taken}
+use Rattle.job_explain.specs.Job.{Turned, WholeRecords, after_bytes, bytes_taken, job_told, number_most, records_taken}
 use Rattle.job_explain.proofs.JobInParts.{job-none, job-parts, job-told-parts, nothing-told, one-job, one-job-told}
 use Rattle.job_explain.proofs.RecordsShort.{record-short}
 

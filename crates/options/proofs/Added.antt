@@ -1,11 +1,10 @@
 -- Text added to a line, and that it stands there whole where it has room. Assumes nothing.
-use Prim.Native.Nat.{ℕ, suc, ◌+◌, ◌≤◌, ◌<◌}
+use Prim.Native.Nat.{ℕ, ◌+◌, ◌≤◌, ◌<◌}
 use mathlib.Core.List.{List, [], ◌∷◌, ◌++◌, append_assoc, append-nil}
 use mathlib.Core.Path.{◌≡◌, refl, sym, ap, ◌∙◌}
 use native.Mathlib.Numerals.{add-one}
 use native.Mathlib.Omega.{arith}
 use borrow.Author.Tests.{lt-ltb}
-use lib.Dec.{ltb}
 use lib.ListN.{get_or, length, drop, take, set, length-set, drop_of_length-le}
 use lib.Seq.{drop-cons, take-suc-set}
 use Rattle.options.specs.declared.line.Line.{Line}

@@ -1,10 +1,9 @@
 -- Worked examples, in one computed test: some words, what is said of them, what was asked for, and FILE. Assumes nothing.
 use Prim.Native.Nat.{ℕ}
 use Prim.Native.String.{String}
-use mathlib.Core.Bool.{Bool, true, false, cond, ◌&&◌, ◌||◌, not}
+use mathlib.Core.Bool.{Bool, true, cond, ◌&&◌}
 use mathlib.Core.List.{List, [], ◌∷◌, ◌++◌}
 use lib.Dec.{T}
-use lib.ListN.{length, take, drop, get_or}
 use Rattle.file.specs.declared.chip.Chip.{Chip}
 use Rattle.file.specs.declared.chip.Chip.TheVariants.{Gd5462, Gd5464}
 use Rattle.file.specs.Readers.{ascii, same}

@@ -1,8 +1,8 @@
 -- Every span of what is asked for is within the slice of the words. Assumes nothing.
-use Prim.Native.Nat.{ℕ, zero, suc, ◌+◌, ◌-◌, ◌≤◌, ◌<◌, min}
+use Prim.Native.Nat.{ℕ, zero, suc, ◌+◌, ◌≤◌, ◌<◌}
 use mathlib.Core.Bool.{Bool, true, false, cond}
-use mathlib.Core.List.{List, [], ◌∷◌, ◌++◌}
-use mathlib.Core.Path.{◌≡◌, refl, sym, ap, ◌∙◌}
+use mathlib.Core.List.{List, [], ◌∷◌}
+use mathlib.Core.Path.{◌≡◌, refl, sym, ◌∙◌}
 use native.Mathlib.Omega.{arith}
 use borrow.Author.Tests.{eqb-true, eqb-false, ltb-true, ltb-false}
 use lib.Dec.{eqb, ltb}
@@ -15,7 +15,7 @@ use Rattle.options.specs.declared.types.Reading.{Reading}
 use Rattle.options.specs.declared.types.Span.{Span}
 use Rattle.options.specs.declared.types.Wrong.{Wrong}
 use Rattle.options.specs.declared.types.Wrong.TheVariants.{TooLong}
-use Rattle.options.specs.Words.{is_option, name_in, name_span, part, span, words_from}
+use Rattle.options.specs.Words.{is_option, name_span, part, span, words_from}
 use Rattle.options.specs.Table.{command_word, has_option, of_option, option_word, since_option, value_count, write_option}
 use Rattle.options.specs.Slots.{awaiting, begun, counted, ended_options, file_slot, filled, is_taken}
 use Rattle.options.specs.Slots.{mhz_slot, named, no_span, put_slot, slot_count, span_at, wronged}

@@ -5,9 +5,8 @@ use mathlib.Core.List.{List}
 use mathlib.Core.Path.{◌≡◌, refl}
 use lib.Dec.{T, eqb}
 use lib.ListN.{get_or}
-use borrow.Author.Tests.{eqb-true}
 use Rattle.bits.specs.Every.{every_below}
-use Rattle.bits.proofs.Test.{below, is_true}
+use Rattle.bits.proofs.Test.{below}
 use Rattle.file.specs.Readers.{ascii, same}
 use Rattle.options.specs.Table.{has_option}
 

@@ -1,6 +1,6 @@
 -- What the words ask for: they are read one after the other, then it is tested what can be tested after the last alone.
 -- Assumes nothing.
-use Rattle.std.specs.Prelude.{ℕ, ◌-◌, Bool, true, false, cond, ◌&&◌, List, [], ◌∷◌, eqb, ltb, length, get_or}
+use Rattle.std.specs.Prelude.{ℕ, ◌-◌, Bool, cond, ◌&&◌, List, [], ◌∷◌, eqb, ltb, length, get_or}
 use Rattle.file.specs.declared.chip.Chip.{Chip}
 use Rattle.file.specs.declared.chip.Chip.TheVariants.{Gd5462, Gd5464}
 use Rattle.file.specs.Readers.{ascii, same}

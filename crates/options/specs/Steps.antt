@@ -1,6 +1,6 @@
 -- One word further. A word is wrong by the first of these that it fails, and after a wrong word no other is read.
 -- Assumes nothing.
-use Rattle.std.specs.Prelude.{ℕ, suc, ◌+◌, Bool, true, false, cond, not, List, [], ◌∷◌, eqb, ltb}
+use Rattle.std.specs.Prelude.{ℕ, ◌+◌, Bool, false, cond, not, List, [], eqb, ltb}
 use Rattle.file.specs.Readers.{ascii, same}
 use Rattle.options.specs.declared.types.Reading.{Reading}
 use Rattle.options.specs.declared.types.Span.{Span}

@@ -1,0 +1,12 @@
+-- `taking::records_in` meets its contract. Assumes nothing.
+use native.Mathlib.Omega.{arith}
+use Rattle.feeding.specs.Feeding.{units_in}
+use Rattle.job_replay.proofs.taking.records_in.Goals as goal
+
+pub returns-then-last : goal.returns-then-last
+unfolding units_in
+returns-then-last c = rw c.if-last.true (omega arith)
+
+pub returns : goal.returns
+unfolding units_in
+returns c = rw c.if-last.false (omega arith)

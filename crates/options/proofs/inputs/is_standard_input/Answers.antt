@@ -1,0 +1,7 @@
+-- `inputs::is_standard_input` meets its contract. Assumes nothing.
+use Rattle.options.specs.Inputs.{is_standard_input}
+use Rattle.options.proofs.inputs.is_standard_input.Goals as goal
+
+pub returns : goal.returns
+unfolding is_standard_input
+returns c = rw c.part.ensures at c.is_same.ensures
