@@ -608,8 +608,7 @@ def main():
             print(f"left: {old}: {type(why).__name__} {why}")
             left += 1
             continue
-        os.makedirs("/tmp/port-old/" + name, exist_ok=True)
-        os.rename(old, f"/tmp/port-old/{name}/{path}.antt")
+        os.remove(old)
         for file, text in out.items():
             with open(os.path.join(folder, file), "w", encoding="utf-8") as to:
                 to.write(text)
