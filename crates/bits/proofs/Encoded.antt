@@ -1,15 +1,16 @@
 -- Pieces and rows as plain numbers: a piece lies in the 16 bits of its register, and what a turn of a loop over the pieces does. Assumes nothing.
-use Rattle.std.proofs.Common.{◌≡◌, ℕ, ◌+◌, ◌-◌, ◌*◌, ◌/◌, ◌%◌, ◌^◌, ◌<◌, ◌≤◌, min, Bool, cond, List, [], ◌∷◌, map, length, get_or, drop, set, sym, ap, ◌∙◌, ap₂, lt_of_lt_of_le, mod-lt, mod-eq_of_lt, mul_assoc, mul_comm, add-mul, one-mul, div-add-mod', zero-mul, add-one, arith, lit<, drop_of_length-le, drop-cons, pow_pos, pow_mono, pow-add, shl_lt, shl_exact, eq-eqb, ne_eqb}
+use Rattle.std.proofs.Common.{◌≡◌, ℕ, ◌+◌, ◌-◌, ◌*◌, ◌/◌, ◌%◌, ◌^◌, ◌<◌, ◌≤◌, min, List, [], ◌∷◌, map, length, get_or, drop, set, refl, sym, ap, ◌∙◌, ap₂, lt_of_lt_of_le, mod-lt, mod-eq_of_lt, mul_assoc, mul_comm, add-mul, one-mul, div-add-mod', zero-mul, add-one, arith, lit<, drop_of_length-le, drop-cons, pow_pos, pow_mono, pow-add, shl_lt, shl_exact}
 use native.Mathlib.Nat.{mod-add-mod, add-mul-mod_self_right, zero-div, zero-mod}
 use lib.Bits.{bit_and, and_mask}
 use lib.ListN.{get_or-eq_default}
 use lib.Pow.{ones_lt}
 use lib.Seq.{set_out}
-use Rattle.bits.specs.Encoded.{piece_of, meaning_of, row_of, table_of}
-use Rattle.bits.specs.Numbers.{plus, end_of_last}
+use Rattle.std.specs.Prelude.{Option, Some, None, unwrap_or}
+use Rattle.std.specs.Option.{SomeIff}
+use Rattle.bits.specs.Encoded.{piece_of}
 use Rattle.bits.specs.Pieces.{Piece, width, held, gather, piece_reach, put, scatter}
 use Rattle.bits.specs.Store.{store}
-use Rattle.bits.proofs.Enough.{shift-enough}
+use Rattle.bits.proofs.Enough.{shift-enough, shifted-out}
 
 pub in-register : (n : ℕ) → (piece_of n).width + (piece_of n).low ≤ 16
 unfolding piece_of
@@ -131,37 +132,25 @@ pub width-last : (pieces : List ℕ) (k : ℕ) → length pieces ≤ k → width
 unfolding width
 width-last pieces k h = ap width (none_left pieces k h)
 
--- the pieces from k on set to a number, one piece at a time
-pub scatter-next : (pieces registers : List ℕ) (number k below part : ℕ) (next : List ℕ) → number < 2 ^ 32 → k < length pieces
-    → below ≡ min 32 (width (map piece_of (drop (k + 1) pieces))) → part ≡ number / 2 ^ below
-    → next ≡ put (piece_of (get_or pieces k 0)) part registers
-    → scatter (map piece_of (drop (k + 1) pieces)) number next ≡ scatter (map piece_of (drop k pieces)) number registers
+-- a number without its lowest bits, as code shifts it: nothing is left where there are 32 of them
+shifted : (number below : ℕ) (by-code : Option ℕ) → number < 2 ^ 32 → SomeIff by-code (below < 32) (number / 2 ^ below)
+    → unwrap_or by-code 0 ≡ number / 2 ^ below
+shifted number below None h none = let past : 32 ≤ below = omega arith in sym (shifted-out number below h past)
+shifted number below (Some x) h some = some.1
+
+-- the pieces set to a number, one piece at a time
+pub scatter-next : (number piece : ℕ) (below registers next : List ℕ) (bits : ℕ) (by-code : Option ℕ) (part : ℕ) → number < 2 ^ 32
+    → bits ≡ min 32 (width (map piece_of below)) → SomeIff by-code (bits < 32) (number / 2 ^ bits) → part ≡ unwrap_or by-code 0
+    → next ≡ put (piece_of piece) part registers
+    → scatter (map piece_of below) number next ≡ scatter (map piece_of (piece ∷ below)) number registers
 unfolding scatter
-scatter-next pieces registers number k below part next h l b p e =
-    rw (next-piece pieces k l)
-    (ap (scatter (map piece_of (drop (k + 1) pieces)) number)
-    (e ∙ ap (λ (x : ℕ). put (piece_of (get_or pieces k 0)) x registers)
-    (p ∙ ap (λ (x : ℕ). number / 2 ^ x) b ∙ shift-enough number (width (map piece_of (drop (k + 1) pieces))) h)))
+scatter-next number piece below registers next bits by-code part h b s p e =
+    ap (scatter (map piece_of below) number)
+    (e ∙ ap (λ (x : ℕ). put (piece_of piece) x registers)
+    (p ∙ shifted number bits by-code h s ∙ ap (λ (x : ℕ). number / 2 ^ x) b ∙ shift-enough number (width (map piece_of below)) h))
 
-pub scatter-last : (pieces registers : List ℕ) (number k : ℕ) → length pieces ≤ k
-    → scatter (map piece_of (drop k pieces)) number registers ≡ registers
+-- and none is left in the end
+pub scatter-last : (pieces registers : List ℕ) (number : ℕ) → length pieces ≡ 0 → scatter (map piece_of pieces) number registers ≡ registers
 unfolding scatter
-scatter-last pieces registers number k h = ap (λ (ps : List Piece). scatter ps number registers) (none_left pieces k h)
-
-pub meaning-end : (k : ℕ) → k ≡ 15 → meaning_of k ≡ end_of_last
-unfolding meaning_of
-meaning-end k e = ap (λ (b : Bool). cond b end_of_last (plus k)) (eq-eqb k 15 e)
-
-pub meaning-plus : (k : ℕ) → (k ≡ 15 → ⊥) → meaning_of k ≡ plus k
-unfolding meaning_of
-meaning-plus k n = ap (λ (b : Bool). cond b end_of_last (plus k)) (ne_eqb k 15 n)
-
--- the rows from one on: that one, and those behind it
-pub next_row : (rows pieces : List ℕ) (k : ℕ) → k < length rows
-    → table_of (drop k rows) pieces ≡ row_of pieces (get_or rows k 0) ∷ table_of (drop (k + 1) rows) pieces
-unfolding table_of
-next_row rows pieces k h = ap (map (row_of pieces)) (from_next rows k h)
-
-pub no_row : (rows pieces : List ℕ) (k : ℕ) → length rows ≤ k → table_of (drop k rows) pieces ≡ []
-unfolding table_of
-no_row rows pieces k h = ap (map (row_of pieces)) (drop_of_length-le rows h)
+scatter-last [] registers number e = refl
+scatter-last (p ∷ ps) registers number e = absurd (omega arith)

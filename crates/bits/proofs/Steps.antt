@@ -1,10 +1,11 @@
 -- A table of numbers as straight code goes through it, a call for each number: what the calls told, one beside the other, and what that makes of the
 -- whole table. Assumes nothing.
-use Rattle.std.proofs.Common.{◌≡◌, ℕ, ◌+◌, ◌≤◌, Bool, true, ◌&&◌, List, [], ◌∷◌, length, get_or, drop, sym, refl, ap, ◌∙◌, arith, drop_of_length-le}
+use Rattle.std.proofs.Common.{◌≡◌, ℕ, ◌+◌, ◌≤◌, Bool, ◌&&◌, List, [], ◌∷◌, length, get_or, drop, sym, refl, ap, ◌∙◌, arith, drop_of_length-le}
 use Rattle.bits.specs.Numbers.{Number, stored_for, in_range, ranges_from, write_numbers}
 use Rattle.bits.specs.Pieces.{width, scatter}
 use Rattle.bits.specs.Words.{word, read_words}
 use Rattle.bits.proofs.Encoded.{from_next}
+use Rattle.bits.proofs.Test.{and-true, and_assoc}
 
 -- each number was read after the one before it
 unfoldable pub Reads : ℕ → List Number → List ℕ → List ℕ → Type 0
@@ -20,29 +21,30 @@ reads-words last (n ∷ ns) registers [] e = absurd e
 reads-words last (n ∷ ns) registers (v ∷ vs) (e, r) =
     ap (λ (l : List ℕ). v ∷ l) (reads-words v ns registers vs r) ∙ ap (λ (x : ℕ). x ∷ read_words x ns registers vs) e
 
-unfoldable pub first : List Bool → Bool
-first [] = true
-first (b ∷ bs) = b
+-- all that are told so far, and those that follow
+unfoldable pub all_so_far : Bool → List Bool → Bool
+all_so_far so [] = so
+all_so_far so (g ∷ gs) = all_so_far (so && g) gs
 
--- each number from k on is in its range, and so are those behind it
+-- each number from k on was held to its range
 unfoldable pub Ranged : ℕ → ℕ → List Number → List ℕ → List Bool → Type 0
 Ranged k last [] numbers goods = goods ≡ []
 Ranged k last (n ∷ ns) numbers [] = ⊥
 Ranged k last (n ∷ ns) numbers (g ∷ gs) =
-    (g ≡ (in_range n.meaning (width n.pieces) last (get_or numbers k 0) && first gs)) × Ranged (k + 1) (get_or numbers k 0) ns numbers gs
+    (g ≡ in_range n.meaning (width n.pieces) last (get_or numbers k 0)) × Ranged (k + 1) (get_or numbers k 0) ns numbers gs
 
-pub ranged-from : (k last : ℕ) (table : List Number) (numbers : List ℕ) (goods : List Bool) → length numbers ≡ k + length table
-    → Ranged k last table numbers goods → first goods ≡ ranges_from last table (drop k numbers)
-unfolding Ranged first ranges_from
-ranged-from k last [] numbers goods count e =
+pub ranged-from : (so : Bool) (k last : ℕ) (table : List Number) (numbers : List ℕ) (goods : List Bool) → length numbers ≡ k + length table
+    → Ranged k last table numbers goods → all_so_far so goods ≡ (so && ranges_from last table (drop k numbers))
+unfolding Ranged all_so_far ranges_from
+ranged-from so k last [] numbers goods count e =
     let none : length numbers ≤ k = omega arith in
-    ap first e ∙ sym (ap (ranges_from last []) (drop_of_length-le numbers none))
-ranged-from k last (n ∷ ns) numbers [] count e = absurd e
-ranged-from k last (n ∷ ns) numbers (g ∷ gs) count (e, r) =
-    e
-    ∙ ap (λ (b : Bool). in_range n.meaning (width n.pieces) last (get_or numbers k 0) && b)
-    (ranged-from (k + 1) (get_or numbers k 0) ns numbers gs (omega arith) r)
-    ∙ ap (ranges_from last (n ∷ ns)) (sym (from_next numbers k (omega arith)))
+    ap (all_so_far so) e ∙ sym (ap (λ (l : List ℕ). so && ranges_from last [] l) (drop_of_length-le numbers none) ∙ and-true so)
+ranged-from so k last (n ∷ ns) numbers [] count e = absurd e
+ranged-from so k last (n ∷ ns) numbers (g ∷ gs) count (e, r) =
+    ranged-from (so && g) (k + 1) (get_or numbers k 0) ns numbers gs (omega arith) r
+    ∙ and_assoc so g (ranges_from (get_or numbers k 0) ns (drop (k + 1) numbers))
+    ∙ ap (λ (b : Bool). so && (b && ranges_from (get_or numbers k 0) ns (drop (k + 1) numbers))) e
+    ∙ ap (λ (l : List ℕ). so && ranges_from last (n ∷ ns) l) (sym (from_next numbers k (omega arith)))
 
 unfoldable pub last_of : List ℕ → List (List ℕ) → List ℕ
 last_of registers [] = registers

@@ -1,6 +1,9 @@
--- A table of numbers as plain numbers, the form that code takes it in: a piece and a row of the table are one number each.
+-- A table of numbers as code has it: a piece is one number, a number its meaning and its pieces.
 -- Assumes nothing.
-use Rattle.std.specs.Prelude.{ℕ, ◌/◌, ◌%◌, cond, List, map, take, drop, ◌==◌}
+use Rattle.std.specs.Prelude.{ℕ, ◌/◌, ◌%◌, List, map}
+use Rattle.bits.specs.declared.numbers.Meaning.{Meaning as DeclaredMeaning}
+use Rattle.bits.specs.declared.numbers.Meaning.TheVariants.{Plus, EndOfLast}
+use Rattle.bits.specs.declared.numbers.Number.{Number as DeclaredNumber}
 use Rattle.bits.specs.Numbers.{Meaning, plus, end_of_last, Number}
 use Rattle.bits.specs.Pieces.{Piece, piece}
 
@@ -8,17 +11,13 @@ use Rattle.bits.specs.Pieces.{Piece, piece}
 unfoldable pub piece_of : ℕ → Piece
 piece_of n = piece (n / 256) (n / 16 % 16) (n % 16)
 
--- Fh is an end, any other digit k 'value+k'
-unfoldable pub meaning_of : ℕ → Meaning
-meaning_of k = cond (k == 15) end_of_last (plus k)
+unfoldable pub meaning_of : DeclaredMeaning → Meaning
+meaning_of (Plus k) = plus k
+meaning_of EndOfLast = end_of_last
 
 -- a number by its meaning and its pieces
-abbrev pub number_of : ℕ → List ℕ → Number
-number_of meaning pieces = record { pieces = map piece_of pieces; meaning = meaning_of meaning }
+abbrev pub number_of : DeclaredNumber → Number
+number_of n = record { pieces = map piece_of n.pieces.now; meaning = meaning_of n.meaning }
 
--- SSMCh is a number with meaning M and the C pieces from number SS on
-unfoldable pub row_of : List ℕ → ℕ → Number
-row_of pieces row = number_of (row / 16 % 16) (take (row % 16) (drop (row / 256) pieces))
-
-unfoldable pub table_of : List ℕ → List ℕ → List Number
-table_of rows pieces = map (row_of pieces) rows
+unfoldable pub table_of : List DeclaredNumber → List Number
+table_of table = map number_of table

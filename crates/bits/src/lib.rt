@@ -3,13 +3,12 @@
 
 mod numbers;
 mod pieces;
+mod size;
 
 ghost use Rattle.std.specs.Prelude.{◌≡◌, bit_xor};
 ghost use Rattle.bits.specs.Store.{store as storeBits};
 
-pub use numbers::{
-    all_in_range, number_in_range, read_number, read_numbers, write_number, write_numbers,
-};
+pub use numbers::{Meaning, Number, all_in_range, read_numbers, write_numbers};
 pub use pieces::{gather, scatter, width};
 
 // The old bits outside the reach, the value's inside it.

@@ -1,25 +1,24 @@
-use Rattle.std.proofs.Common.{sym, refl, ◌∙◌, arith}
-use Rattle.bits.proofs.Rows.{Turn, write-next, write-last}
+use Rattle.std.proofs.Common.{◌≡◌, sym, refl, ◌∙◌, rules}
+use mathlib.Core.Logic.{inl, inr}
+use Rattle.bits.specs.Encoded.{table_of}
+use Rattle.bits.specs.Numbers.{write_numbers}
+use Rattle.bits.proofs.Rows.{write-over}
 use Rattle.bits.proofs.numbers.write_numbers.Goals as goal
 
-pub loop-k-init : goal.loop-k-init
-loop-k-init c = (refl, refl)
+pub loop-number-init : goal.loop-number-init
+loop-number-init c =
+    let a : c.into_iter-number-iterator.result.a.rest.now ≡ c.args.table.now = search rules in
+    let b : c.into_iter-number-iterator.result.b.rest.now ≡ c.args.numbers.now = search rules in
+    rw (a, b) refl
 
--- the row of this turn
-turn : (c : goal.After-slice_known-in-loop-k-1) → Turn c.args.rows.now c.args.pieces.now c.loop-k.k c.row_pieces-part.result.now
-turn c = record { inside = omega arith; is-part = c.row_pieces-part.ensures }
-
-pub loop-k-preserved : goal.loop-k-preserved
-loop-k-preserved c = (
-  c.write_number.auto.registers ∙ c.loop-k.invariant.0,
-  write-next (turn c) c.args.numbers.now c.loop-k.registers c.write_number.new.registers (omega arith) c.write_number.ensures
-      ∙ c.loop-k.invariant.1,
-)
-
-pub shape_of-registers : goal.shape_of-registers
-shape_of-registers c = c.loop-k.invariant.0
+pub loop-number-preserved : goal.loop-number-preserved
+unfolding write_numbers table_of
+loop-number-preserved c =
+    let h = c.in-Some.ensures.steps in
+    rw c.write.ensures (rw (h.0, h.1) at c.loop-number.invariant)
 
 pub returns : goal.returns
 returns c =
-    sym (write-last c.args.rows.now c.args.pieces.now c.args.numbers.now c.loop-k.registers c.loop-k.k (omega arith))
-    ∙ c.loop-k.invariant.1
+    sym (write-over c.loop-number.number-iterator.a.rest.now c.loop-number.number-iterator.b.rest.now c.loop-number.registers
+    (elim c.in-None.ensures.steps [ inl t ↦ inl t.1.0 | inr t ↦ inr t.1.0 ]))
+    ∙ c.loop-number.invariant

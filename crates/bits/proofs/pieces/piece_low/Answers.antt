@@ -4,4 +4,4 @@ use Rattle.bits.proofs.pieces.piece_low.Goals as goal
 
 pub returns : goal.returns
 unfolding piece_of
-returns c = c.to_u32.ensures
+returns c = c.from.ensures

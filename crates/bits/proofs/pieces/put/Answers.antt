@@ -19,8 +19,8 @@ overflow_cast-value c =
 
 pub returns-then-register-registers : goal.returns-then-register-registers
 returns-then-register-registers c =
-    rw (c.store.ensures, c.piece_mask-mask.ensures, c.piece_low-low.ensures)
+    rw (c.store.ensures, c.from-register.ensures, c.piece_mask-mask.ensures, c.piece_low-low.ensures)
     (put-shifted c.args.registers.now c.args.piece c.args.number)
 
 pub returns-else-register-registers : goal.returns-else-register-registers
-returns-else-register-registers c = sym (put-absent c.args.registers.now c.args.piece c.args.number c.if-register-registers.false)
+returns-else-register-registers c = sym (put-absent c.args.registers.now c.args.piece c.args.number (omega (arith, c.from-register.ensures, c.if-register-registers.false)))

@@ -1,21 +1,18 @@
-use Rattle.std.proofs.Common.{sym, refl, ◌∙◌}
+use Rattle.std.proofs.Common.{sym, refl, ◌∙◌, arith}
 use Rattle.bits.proofs.Encoded.{scatter-next, scatter-last}
 use Rattle.bits.proofs.pieces.scatter.Goals as goal
 
-pub loop-k-init : goal.loop-k-init
-loop-k-init c = (refl, refl)
+pub loop-piece-init : goal.loop-piece-init
+loop-piece-init c = refl
 
-pub loop-k-preserved : goal.loop-k-preserved
-loop-k-preserved c = (
-  c.put.auto.registers ∙ c.loop-k.invariant.0,
-  scatter-next c.args.pieces.now c.loop-k.registers c.args.number c.loop-k.k c.width-below.result c.from_bit.result c.put.new.registers
-      c.ranges.number.fits c.loop-k-test.true c.width-below.ensures c.from_bit.ensures c.put.ensures
-      ∙ c.loop-k.invariant.1,
-)
+pub loop-piece-smaller : goal.loop-piece-smaller
+loop-piece-smaller c = omega (arith, c.in-Some.ensures.cases.1)
 
-pub shape_of-registers : goal.shape_of-registers
-shape_of-registers c = c.loop-k.invariant.0
+pub loop-piece-preserved : goal.loop-piece-preserved
+loop-piece-preserved c =
+    scatter-next c.args.number c.in-Some.piece.now c.in-Some.below.now c.loop-piece.registers c.put.new.registers c.width.result c.checked_shr.result c.unwrap_or.result
+    c.ranges.number.fits c.width.ensures c.checked_shr.ensures c.unwrap_or.ensures c.put.ensures
+    ∙ rw c.in-Some.ensures.cases.0 at c.loop-piece.invariant
 
 pub returns : goal.returns
-returns c =
-    sym (scatter-last c.args.pieces.now c.loop-k.registers c.args.number c.loop-k.k c.loop-k-test.false) ∙ c.loop-k.invariant.1
+returns c = sym (scatter-last c.loop-piece.rest.now c.loop-piece.registers c.args.number c.in_default.ensures.cases) ∙ c.loop-piece.invariant
