@@ -4,6 +4,6 @@ pub mod Soundness
 pub mod Reached
 pub mod Typed
 pub mod Colours
-pub mod Named
-pub mod NameBytes
 pub mod Codes
+pub mod NameBytes
+pub mod Looked

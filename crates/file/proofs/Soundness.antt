@@ -4,6 +4,7 @@ use Prim.Native.Nat.{ℕ, zero, suc, ◌+◌, ◌/◌, ◌%◌, ◌<◌, ◌≤�
 use mathlib.Core.Path.{◌≡◌, refl, sym, ap, ap₂, ◌∙◌, subst}
 use mathlib.Core.Bool.{Bool, true, false, cond, not, ◌&&◌}
 use mathlib.Core.List.{List, [], ◌∷◌}
+use mathlib.Core.Logic.{◌⊎◌, inl, inr}
 use native.Mathlib.Numerals.{add-one}
 use native.Mathlib.Omega.{arith}
 use borrow.Author.Tests.{eqb-true, eqb-false}
@@ -68,6 +69,23 @@ unfolding all_within
 stray-last table values number stray t v =
     ap₂ (λ (rows registers : List ℕ). eqb stray 0 && all_within rows registers) (drop_of_length-le table t) (drop_of_length-le values v)
     ∙ and-true (eqb stray 0)
+
+-- the same of what is left of both: a register more
+pub stray-more : (stored value stray more : ℕ) (table values : List ℕ) → more ≡ bit_xor value (store stored 0 value)
+    → (eqb (bit_or stray more) 0 && all_within table values) ≡ (eqb stray 0 && all_within (stored ∷ table) (value ∷ values))
+unfolding all_within
+stray-more stored value stray more table values e =
+    ap (λ (b : Bool). b && all_within table values) (none_or stray more ∙ ap (λ (b : Bool). eqb stray 0 && b) (none-stray stored value more e))
+    ∙ and_assoc (eqb stray 0) (within stored value) (all_within table values)
+
+-- and nothing left of either
+pub stray-over : (table values : List ℕ) → length table ≡ length values → (length table ≡ 0) ⊎ (length values ≡ 0) → all_within table values ≡ true
+unfolding all_within
+stray-over [] [] e over = refl
+stray-over [] (value ∷ values) e over = absurd (omega arith)
+stray-over (stored ∷ table) [] e over = absurd (omega arith)
+stray-over (stored ∷ table) (value ∷ values) e (inl z) = absurd (omega arith)
+stray-over (stored ∷ table) (value ∷ values) e (inr z) = absurd (omega arith)
 
 -- and may take another value that is
 pub set-within : (table values : List ℕ) (number new : ℕ)

@@ -1,4 +1,4 @@
--- What it tells of a value that it is a Rattle `File`: how many registers and entries there are. `Is` is what a proof has of a parameter, as `c.good.0`.
+-- What it tells of a value that it is a Rattle `File`: how many registers and entries there are. `Is` is what a proof has of a parameter, as `c.well_formed.0`.
 -- Assumes nothing.
 use Prim.Native.Nat.{◌<◌}
 use mathlib.Core.Path.{◌≡◌}

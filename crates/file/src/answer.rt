@@ -2,7 +2,7 @@ ghost use Rattle.std.specs.Prelude.{◌≡◌};
 ghost use Rattle.file.specs.Answers.{code_of, value_of};
 
 // 01's table of codes, and 02's: what an access, a reader, a writer, a plan or a restore answers.
-#[derive(Clone, Copy)]
+#[derive(Clone, Copy, Debug, PartialEq, Eq)]
 pub enum Answer {
     // 0, with what a read gave
     Done(u16),
@@ -41,7 +41,7 @@ pub enum Answer {
 }
 
 impl Answer {
-    // The answer's number in 01's table.
+    // The answer's number in 01's table, which has a gap at 14; `code_of` (`file/specs/Answers.antt`) is the definition with the numbers.
     pub fn code(self) -> u8
         ensures { result ≡ code_of self }
     {

@@ -6,12 +6,13 @@ ghost use Rattle.file.specs.Registers.{stored_bits};
 use crate::groups::v_port;
 
 // The chip that a file is of, chosen when it is made. No access changes it.
-#[derive(Clone, Copy)]
+#[derive(Clone, Copy, Debug, PartialEq, Eq)]
 pub enum Chip {
     Gd5462,
     Gd5464,
 }
 
+// Each function is one fact that the rules tell of a chip, with a definition of its own (`file/specs/Chips.antt`).
 impl Chip {
     // What PCI02 reads.
     pub fn device_id(self) -> u16

@@ -1,4 +1,4 @@
-ghost use Rattle.std.specs.Prelude.{◌≡◌, true, false};
+ghost use Rattle.std.specs.Prelude.{◌≡◌};
 ghost use Rattle.file.specs.declared.effect.Effect.TheVariants.{Nothing};
 ghost use Rattle.file.specs.Effects.{store_in, paint_in, apply as applyTo, reach_of};
 ghost use Rattle.file.specs.File.{with_state};
@@ -8,7 +8,7 @@ use crate::registers::{BANK, File, PALETTE, REGISTERS};
 use crate::state::State;
 
 // What an access does to the file.
-#[derive(Clone, Copy)]
+#[derive(Clone, Copy, Debug, PartialEq, Eq)]
 pub enum Effect {
     Nothing,
     // the register takes the value inside the reach; a write of 3C0h flips the toggle too
@@ -40,7 +40,7 @@ pub enum Effect {
 }
 
 // What an access may change: bits of one register, the toggle, the pointer, the marks, the line, an entry of the bank or the palette.
-#[derive(Clone, Copy)]
+#[derive(Clone, Copy, Debug, PartialEq, Eq)]
 pub struct Reach {
     pub register: usize,
     pub bits: u16,
@@ -54,40 +54,34 @@ pub struct Reach {
 }
 
 // One register stored: the old bits outside the reach, the value's inside it.
-fn stored(file: File, number: usize, reach: u16, value: u16) -> File
+fn stored(mut file: File, number: usize, reach: u16, value: u16) -> File
     ensures { result ≡ store_in number reach value file }
 {
-    let mut after = file;
     if number < REGISTERS {
-        let old = after.registers[number];
-        after.registers[number] = bits::store(reach, old, value);
+        file.registers[number] = bits::store(reach, file.registers[number], value);
     }
-    after
+    file
 }
 
 // One entry stored, in the bank or the palette.
-fn painted(file: File, bank: bool, entry: usize, colour: Colour) -> File
+fn painted(mut file: File, bank: bool, entry: usize, colour: Colour) -> File
     ensures { result ≡ paint_in bank entry colour file }
 {
-    let mut after = file;
     if bank {
         if entry < BANK {
-            after.bank[entry] = colour;
+            file.bank[entry] = colour;
         }
-    } else {
-        if entry < PALETTE {
-            after.palette[entry] = colour;
-        }
+    } else if entry < PALETTE {
+        file.palette[entry] = colour;
     }
-    after
+    file
 }
 
+#[tactic(auto, unfolding(crate::specs::File::with_state))]
 fn stated(file: File, state: State) -> File
     ensures { result ≡ with_state state file }
 {
-    let mut after = file;
-    after.state = state;
-    after
+    File { state, ..file }
 }
 
 impl Effect {
@@ -102,10 +96,10 @@ impl Effect {
                 reach,
                 value,
                 flips,
-            } => {
-                let after = stored(file, register, reach, value);
-                stated(after, file.state.flipped(flips))
-            }
+            } => stated(
+                stored(file, register, reach, value),
+                file.state.flipped(flips),
+            ),
             Effect::Toggle(toggle) => stated(file, file.state.toggling(toggle)),
             Effect::Move(pointer) => stated(file, file.state.pointing(pointer)),
             Effect::Step { pointer, marks } => stated(file, file.state.stepping(pointer, marks)),
@@ -124,6 +118,7 @@ impl Effect {
     }
 
     // What the effect may change.
+    #[tactic(auto, unfolding(crate::specs::Effects::reach_of))]
     pub fn reach(self) -> Reach
         ensures { result ≡ reach_of self }
     {
@@ -134,81 +129,66 @@ impl Effect {
                 reach,
                 value: _,
                 flips,
-            } => Reach::bits_of(register, reach, flips),
-            Effect::Toggle(_) => Reach::bits_of(0, 0, true),
-            Effect::Move(_) => Reach::colours(false, false, false, 0),
+            } => Reach {
+                register,
+                bits: reach,
+                toggle: flips,
+                ..Reach::none()
+            },
+            Effect::Toggle(_) => Reach {
+                toggle: true,
+                ..Reach::none()
+            },
+            Effect::Move(_) => Reach {
+                pointer: true,
+                ..Reach::none()
+            },
             Effect::Step {
                 pointer: _,
                 marks: _,
-            } => Reach::colours(true, false, false, 0),
+            } => Reach {
+                pointer: true,
+                marks: true,
+                ..Reach::none()
+            },
             Effect::Paint {
                 bank,
                 entry,
                 pointer: _,
                 colour: _,
                 marks: _,
-            } => Reach::colours(true, !bank, bank, entry),
-            Effect::Pass(_) => Reach::of_line(),
+            } => Reach {
+                pointer: true,
+                marks: true,
+                palette: !bank,
+                bank,
+                entry,
+                ..Reach::none()
+            },
+            Effect::Pass(_) => Reach {
+                line: true,
+                ..Reach::none()
+            },
         }
     }
 }
 
 impl Reach {
     // Nothing at all.
+    #[tactic(auto, unfolding(crate::specs::Effects::reach_of))]
     pub fn none() -> Reach
         ensures { result ≡ reach_of Nothing }
     {
-        Reach::bits_of(0, 0, false)
-    }
-
-    // Bits of a register, and perhaps the toggle.
-    fn bits_of(register: usize, bits: u16, toggle: bool) -> Reach
-        ensures { result ≡ record { register = register; bits = bits; toggle = toggle; pointer = false; marks = false; line = false; palette = false; bank = false; entry = 0 } }
-    {
-        Reach {
-            register,
-            bits,
-            toggle,
-            pointer: false,
-            marks: false,
-            line: false,
-            palette: false,
-            bank: false,
-            entry: 0,
-        }
-    }
-
-    // The line alone.
-    fn of_line() -> Reach
-        ensures { result ≡ record { register = 0; bits = 0; toggle = false; pointer = false; marks = false; line = true; palette = false; bank = false; entry = 0 } }
-    {
         Reach {
             register: 0,
             bits: 0,
             toggle: false,
             pointer: false,
             marks: false,
-            line: true,
+            line: false,
             palette: false,
             bank: false,
             entry: 0,
-        }
-    }
-
-    // The pointer, and perhaps the marks and an entry.
-    fn colours(marks: bool, palette: bool, bank: bool, entry: usize) -> Reach
-        ensures { result ≡ record { register = 0; bits = 0; toggle = false; pointer = true; marks = marks; line = false; palette = palette; bank = bank; entry = entry } }
-    {
-        Reach {
-            register: 0,
-            bits: 0,
-            toggle: false,
-            pointer: true,
-            marks,
-            line: false,
-            palette,
-            bank,
-            entry,
         }
     }
 }

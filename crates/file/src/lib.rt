@@ -23,7 +23,7 @@ pub use numbered::{
 };
 pub use palette::{Colour, Pointer};
 pub use pointer::{read_pixel, write_address, write_pixel};
-pub use readers::{EntryRead, MarksRead, NumberRead, PointerRead, ToggleRead};
+pub use readers::Marks;
 pub use registers::{BANK, File, PALETTE, REGISTERS};
 pub use sound::{are_sound, is_sound, state_sound};
 pub use state::State;

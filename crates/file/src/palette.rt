@@ -1,8 +1,8 @@
-ghost use Rattle.std.specs.Prelude.{◌≡◌, ◌+◌, ◌%◌, ◌≤◌};
-ghost use Rattle.file.specs.Palette.{by_colour, component as componentOf, addressed as addressedAt, after_write, after_read, stores as storesNow, mixed as mixedWith, dac_state, marks_from};
+ghost use Rattle.std.specs.Prelude.{◌≡◌};
+ghost use Rattle.file.specs.Palette.{component as componentOf, addressed as addressedAt, after_write, after_read, stores as storesNow, mixed as mixedWith, dac_state, marks_from};
 
 // An entry of the palette or of the bank: three whole bytes.
-#[derive(Clone, Copy)]
+#[derive(Clone, Copy, Debug, Default, PartialEq, Eq)]
 pub struct Colour {
     pub red: u8,
     pub green: u8,
@@ -10,7 +10,7 @@ pub struct Colour {
 }
 
 // The palette pointer. `next` is the next colour: 0 red, 1 green, 2 blue; `red` and `green` are the held bytes.
-#[derive(Clone, Copy)]
+#[derive(Clone, Copy, Debug, PartialEq, Eq)]
 pub struct Pointer {
     pub address: u8,
     pub reading: bool,
@@ -50,23 +50,18 @@ impl Pointer {
     pub fn after_write(self, byte: u8) -> Pointer
         ensures { result ≡ after_write self byte }
     {
-        let next = self.next;
-        match next {
+        match self.next {
             0 => Pointer {
-                address: self.address,
-                reading: self.reading,
                 next: 1,
                 red: byte,
-                green: self.green,
+                ..self
             },
             1 => Pointer {
-                address: self.address,
-                reading: self.reading,
                 next: 2,
-                red: self.red,
                 green: byte,
+                ..self
             },
-            _ => Pointer::addressed(self.reading, risen(self.address)),
+            _ => Pointer::addressed(self.reading, self.address.wrapping_add(1)),
         }
     }
 
@@ -74,23 +69,10 @@ impl Pointer {
     pub fn after_read(self) -> Pointer
         ensures { result ≡ after_read self }
     {
-        let next = self.next;
-        match next {
-            0 => Pointer {
-                address: self.address,
-                reading: self.reading,
-                next: 1,
-                red: self.red,
-                green: self.green,
-            },
-            1 => Pointer {
-                address: self.address,
-                reading: self.reading,
-                next: 2,
-                red: self.red,
-                green: self.green,
-            },
-            _ => Pointer::addressed(self.reading, risen(self.address)),
+        match self.next {
+            0 => Pointer { next: 1, ..self },
+            1 => Pointer { next: 2, ..self },
+            _ => Pointer::addressed(self.reading, self.address.wrapping_add(1)),
         }
     }
 
@@ -123,21 +105,7 @@ impl Pointer {
     pub fn marks(self, reading: bool) -> u8
         ensures { result ≡ marks_from reading self }
     {
-        let colour = colour_of(self.next);
+        let colour = self.next.min(2);
         if reading { 4 + colour } else { colour }
     }
-}
-
-// The colour that is next: what is neither red nor green is blue.
-fn colour_of(next: u8) -> u8
-    ensures { (result ≡ by_colour next 0 1 2) × (result ≤ 2) }
-{
-    if next < 2 { next } else { 2 }
-}
-
-// An address one higher, modulo 256.
-fn risen(address: u8) -> u8
-    ensures { result ≡ (address + 1) % 256 }
-{
-    if address == 255 { 0 } else { address + 1 }
 }

@@ -1,366 +1,238 @@
-// A host looks into a file without an access.
-ghost use Rattle.std.specs.Prelude.{◌≡◌, [], ◌<◌, eqb, get_or, length};
-ghost use Rattle.file.specs.Registers.{register_count};
-ghost use Rattle.file.specs.Readers.{name_table, number_of, same, read_register, read_named, read_number, read_palette, read_bank, read_pointer, read_marks, read_toggle, no_entry, entry_told};
+// A host looks into a file without an access. A file that is not sound is refused with 12, a register or an entry that there is not with 1.
+ghost use Rattle.std.specs.Prelude.{◌≡◌, Ok, map, ok_or, option_map, position, slice_get};
+ghost use Rattle.file.specs.declared.answer.Answer.TheVariants.{NoRegister};
+ghost use Rattle.file.specs.Readers.{name_table, same, if_sound, read_register, read_named, read_number, read_palette, read_bank, read_pointer, read_marks, read_toggle};
 
 use crate::answer::Answer;
 use crate::palette::{Colour, Pointer};
-use crate::registers::{BANK, File, PALETTE, REGISTERS};
+use crate::registers::{File, REGISTERS};
 use crate::sound::is_sound;
 
-// An entry of the palette or the bank; black where the answer is not 0.
-#[derive(Clone, Copy)]
-pub struct EntryRead {
-    pub answer: Answer,
-    pub colour: Colour,
-}
-
-// The palette pointer; as at power-on where the answer is not 0.
-#[derive(Clone, Copy)]
-pub struct PointerRead {
-    pub answer: Answer,
-    pub pointer: Pointer,
-}
-
-// The last pixel data access: whether it was a read, and the colour that was next before it; write, red where the answer is not 0.
-#[derive(Clone, Copy)]
-pub struct MarksRead {
-    pub answer: Answer,
+// The last pixel data access: whether it was a read, and the colour that was next before it.
+#[derive(Clone, Copy, Debug, PartialEq, Eq)]
+pub struct Marks {
     pub reading: bool,
     pub colour: u8,
 }
 
-// The toggle; off where the answer is not 0.
-#[derive(Clone, Copy)]
-pub struct ToggleRead {
-    pub answer: Answer,
-    pub toggle: bool,
-}
+// The registers' names, by their numbers.
+static NAMES: [&[u8]; REGISTERS] = [
+    b"MISC",
+    b"SRX",
+    b"CRX",
+    b"GRX",
+    b"ARX",
+    b"pixel mask",
+    b"PCI04",
+    b"SR0",
+    b"SR1",
+    b"SR2",
+    b"SR3",
+    b"SR4",
+    b"SR7",
+    b"SR9",
+    b"SRA",
+    b"SR0B",
+    b"SR0C",
+    b"SR0D",
+    b"SR0E",
+    b"SR14",
+    b"SR15",
+    b"SR1B",
+    b"SR1C",
+    b"SR1D",
+    b"SR1E",
+    b"CR0",
+    b"CR1",
+    b"CR2",
+    b"CR3",
+    b"CR4",
+    b"CR5",
+    b"CR6",
+    b"CR7",
+    b"CR8",
+    b"CR9",
+    b"CRA",
+    b"CRB",
+    b"CRC",
+    b"CRD",
+    b"CRE",
+    b"CRF",
+    b"CR10",
+    b"CR11",
+    b"CR12",
+    b"CR13",
+    b"CR14",
+    b"CR15",
+    b"CR16",
+    b"CR17",
+    b"CR18",
+    b"CR19",
+    b"CR1A",
+    b"CR1B",
+    b"CR1D",
+    b"CR1E",
+    b"GR0",
+    b"GR1",
+    b"GR2",
+    b"GR3",
+    b"GR4",
+    b"GR5",
+    b"GR6",
+    b"GR7",
+    b"GR8",
+    b"AR0",
+    b"AR1",
+    b"AR2",
+    b"AR3",
+    b"AR4",
+    b"AR5",
+    b"AR6",
+    b"AR7",
+    b"AR8",
+    b"AR9",
+    b"ARA",
+    b"ARB",
+    b"ARC",
+    b"ARD",
+    b"ARE",
+    b"ARF",
+    b"AR10",
+    b"AR11",
+    b"AR12",
+    b"AR13",
+    b"AR14",
+    b"B0",
+    b"B8",
+    b"BC",
+    b"C0",
+    b"CC",
+    b"CE",
+    b"D0",
+    b"D2",
+    b"D4",
+    b"D5",
+    b"E0",
+    b"E2",
+    b"E4",
+    b"E6",
+    b"E8",
+    b"100",
+    b"102",
+    b"104",
+    b"106",
+    b"108",
+    b"10A",
+    b"10C",
+    b"10E",
+];
 
-// A register's number; 0 where the answer is not 0.
-#[derive(Clone, Copy)]
-pub struct NumberRead {
-    pub answer: Answer,
-    pub number: usize,
-}
-
-// The registers' names, each between dots, twelve bytes to a row.
-const NAMES: [u8; 1296] = *b"\
-    .MISC.......\
-    .SRX........\
-    .CRX........\
-    .GRX........\
-    .ARX........\
-    .pixel mask.\
-    .PCI04......\
-    .SR0........\
-    .SR1........\
-    .SR2........\
-    .SR3........\
-    .SR4........\
-    .SR7........\
-    .SR9........\
-    .SRA........\
-    .SR0B.......\
-    .SR0C.......\
-    .SR0D.......\
-    .SR0E.......\
-    .SR14.......\
-    .SR15.......\
-    .SR1B.......\
-    .SR1C.......\
-    .SR1D.......\
-    .SR1E.......\
-    .CR0........\
-    .CR1........\
-    .CR2........\
-    .CR3........\
-    .CR4........\
-    .CR5........\
-    .CR6........\
-    .CR7........\
-    .CR8........\
-    .CR9........\
-    .CRA........\
-    .CRB........\
-    .CRC........\
-    .CRD........\
-    .CRE........\
-    .CRF........\
-    .CR10.......\
-    .CR11.......\
-    .CR12.......\
-    .CR13.......\
-    .CR14.......\
-    .CR15.......\
-    .CR16.......\
-    .CR17.......\
-    .CR18.......\
-    .CR19.......\
-    .CR1A.......\
-    .CR1B.......\
-    .CR1D.......\
-    .CR1E.......\
-    .GR0........\
-    .GR1........\
-    .GR2........\
-    .GR3........\
-    .GR4........\
-    .GR5........\
-    .GR6........\
-    .GR7........\
-    .GR8........\
-    .AR0........\
-    .AR1........\
-    .AR2........\
-    .AR3........\
-    .AR4........\
-    .AR5........\
-    .AR6........\
-    .AR7........\
-    .AR8........\
-    .AR9........\
-    .ARA........\
-    .ARB........\
-    .ARC........\
-    .ARD........\
-    .ARE........\
-    .ARF........\
-    .AR10.......\
-    .AR11.......\
-    .AR12.......\
-    .AR13.......\
-    .AR14.......\
-    .B0.........\
-    .B8.........\
-    .BC.........\
-    .C0.........\
-    .CC.........\
-    .CE.........\
-    .D0.........\
-    .D2.........\
-    .D4.........\
-    .D5.........\
-    .E0.........\
-    .E2.........\
-    .E4.........\
-    .E6.........\
-    .E8.........\
-    .100........\
-    .102........\
-    .104........\
-    .106........\
-    .108........\
-    .10A........\
-    .10C........\
-    .10E........";
-
-// Whether a register's name has this many bytes: the dots begin behind its last.
-fn ends_at(number: usize, count: usize) -> bool
-    requires { number < register_count }
-    ensures { result ≡ eqb (length (get_or name_table number [])) count }
+// What stands at a place of a list.
+fn told<T: Copy>(items: &[T], place: usize) -> Result<T, Answer>
+    ensures { result ≡ ok_or (slice_get items.now place) NoRegister }
 {
-    if 10 < count {
-        return false;
-    }
-    let last = 12 * number + count;
-    if NAMES[last] == b'.' {
-        return false;
-    }
-    NAMES[last + 1] == b'.'
+    items.get(place).copied().ok_or(Answer::NoRegister)
 }
 
-// Whether a register has this name.
-fn is_name(number: usize, name: &[u8]) -> bool
-    requires { number < register_count }
-    ensures { result ≡ same (get_or name_table number []) name.now }
+// The text at a place.
+fn text_at(texts: &[&'static [u8]], place: usize) -> Option<&'static [u8]>
+    ensures { option_map (λ text. text.now) result ≡ slice_get (map (λ text. text.now) texts.now) place }
 {
-    if !ends_at(number, name.len()) {
-        return false;
-    }
-    let mut i = 0;
-    while i < name.len() {
-        let at = i + 1;
-        if NAMES[12 * number + at] != name[i] {
-            return false;
-        }
-        i = at;
-    }
-    true
+    told(texts, place).ok()
 }
 
-// The number of the register of a name; that of none if there is none.
-fn number_of(name: &[u8]) -> usize
-    ensures { result ≡ number_of name.now }
+// The place of a name among names.
+#[tactic(auto, unfolding(crate::specs::Readers::same))]
+fn place_of(names: &[&[u8]], name: &[u8]) -> Option<usize>
+    ensures { result ≡ position (λ own. same own.now name.now) names.now }
 {
-    let mut number = 0;
-    while number < REGISTERS {
-        if is_name(number, name) {
-            return number;
-        }
-        number += 1;
-    }
-    REGISTERS
-}
-
-impl EntryRead {
-    // No entry, and why.
-    fn none(answer: Answer) -> EntryRead
-        ensures { result ≡ no_entry answer }
-    {
-        EntryRead {
-            answer,
-            colour: Colour {
-                red: 0,
-                green: 0,
-                blue: 0,
-            },
-        }
-    }
-
-    // An entry's colour, if the file is sound and there is the entry.
-    fn told(sound: bool, there: bool, colour: Colour) -> EntryRead
-        ensures { result ≡ entry_told sound there colour }
-    {
-        if sound {
-            if there {
-                EntryRead {
-                    answer: Answer::Done(0),
-                    colour,
-                }
-            } else {
-                EntryRead::none(Answer::NoRegister)
-            }
-        } else {
-            EntryRead::none(Answer::NotSound)
-        }
-    }
+    names.iter().position(|own| *own == name)
 }
 
 impl File {
+    // Whether the file may be looked into.
+    fn looked_into(self) -> Result<(), Answer>
+        ensures { result ≡ if_sound self (Ok tt) }
+    {
+        if is_sound(self) {
+            Ok(())
+        } else {
+            Err(Answer::NotSound)
+        }
+    }
+
     // What a register holds, by its number in the table of stored bits.
-    pub fn register(self, number: usize) -> Answer
+    pub fn register(self, number: usize) -> Result<u16, Answer>
         ensures { result ≡ read_register self number }
     {
-        if !is_sound(self) {
-            return Answer::NotSound;
-        }
-        if number < REGISTERS {
-            Answer::Done(self.registers[number])
-        } else {
-            Answer::NoRegister
-        }
+        self.looked_into()?;
+        told(&self.registers, number)
     }
 
     // What a register holds, by its name in the table of stored bits.
-    pub fn register_named(self, name: &[u8]) -> Answer
+    pub fn register_named(self, name: &[u8]) -> Result<u16, Answer>
         ensures { result ≡ read_named self name.now }
     {
-        self.register(number_of(name))
+        self.looked_into()?;
+        let number = File::number_named(name)?;
+        self.register(number)
     }
 
-    // A register's number in the table of stored bits, by its name. It asks no file, so it never answers 12.
-    pub fn number_named(name: &[u8]) -> NumberRead
+    // A register's number in the table of stored bits, by its name. It asks no file, so it never refuses with 12.
+    pub fn number_named(name: &[u8]) -> Result<usize, Answer>
         ensures { result ≡ read_number name.now }
     {
-        let number = number_of(name);
-        if number < REGISTERS {
-            NumberRead {
-                answer: Answer::Done(0),
-                number,
-            }
-        } else {
-            NumberRead {
-                answer: Answer::NoRegister,
-                number: 0,
-            }
-        }
+        place_of(&NAMES, name).ok_or(Answer::NoRegister)
     }
 
-    // A byte of a register's name in the table of stored bits, by its number; 0 behind the name, and where no register has the number.
-    pub fn name_byte(number: usize, place: usize) -> u8
-        ensures { result ≡ get_or (get_or name_table number []) place 0 }
+    // A register's name in the table of stored bits, by its number.
+    pub fn name(number: usize) -> Option<&'static [u8]>
+        ensures { option_map (λ own. own.now) result ≡ slice_get name_table number }
     {
-        if number >= REGISTERS {
-            return 0;
-        }
-        if place >= 10 {
-            return 0;
-        }
-        let byte = NAMES[12 * number + place + 1];
-        if byte == b'.' { 0 } else { byte }
+        text_at(&NAMES, number)
     }
 
-    // An entry of the palette. Past the last one another is looked up, and not told.
-    pub fn palette_entry(self, entry: usize) -> EntryRead
+    // An entry of the palette.
+    pub fn palette_entry(self, entry: usize) -> Result<Colour, Answer>
         ensures { result ≡ read_palette self entry }
     {
-        let at = entry % PALETTE;
-        let colour = self.palette[at];
-        EntryRead::told(is_sound(self), entry < PALETTE, colour)
+        self.looked_into()?;
+        told(&self.palette, entry)
     }
 
-    // The same for the bank.
-    pub fn bank_entry(self, entry: usize) -> EntryRead
+    // An entry of the bank.
+    pub fn bank_entry(self, entry: usize) -> Result<Colour, Answer>
         ensures { result ≡ read_bank self entry }
     {
-        let at = entry % BANK;
-        let colour = self.bank[at];
-        EntryRead::told(is_sound(self), entry < BANK, colour)
+        self.looked_into()?;
+        told(&self.bank, entry)
     }
 
     // The palette pointer.
-    pub fn pointer_now(self) -> PointerRead
+    pub fn pointer_now(self) -> Result<Pointer, Answer>
         ensures { result ≡ read_pointer self }
     {
-        if is_sound(self) {
-            let pointer = self.state.pointer;
-            PointerRead {
-                answer: Answer::Done(0),
-                pointer,
-            }
-        } else {
-            PointerRead {
-                answer: Answer::NotSound,
-                pointer: Pointer::addressed(false, 0),
-            }
-        }
+        self.looked_into()?;
+        Ok(self.state.pointer)
     }
 
     // The marks of the last pixel data access.
-    pub fn marks_now(self) -> MarksRead
+    pub fn marks_now(self) -> Result<Marks, Answer>
         ensures { result ≡ read_marks self }
     {
-        if is_sound(self) {
-            let marks = self.state.marks;
-            MarksRead {
-                answer: Answer::Done(0),
-                reading: marks / 4 == 1,
-                colour: marks % 4,
-            }
-        } else {
-            MarksRead {
-                answer: Answer::NotSound,
-                reading: false,
-                colour: 0,
-            }
-        }
+        self.looked_into()?;
+        let marks = self.state.marks;
+        Ok(Marks {
+            reading: marks / 4 == 1,
+            colour: marks % 4,
+        })
     }
 
     // The toggle: whether the next 3C0h write is data.
-    pub fn toggle_now(self) -> ToggleRead
+    pub fn toggle_now(self) -> Result<bool, Answer>
         ensures { result ≡ read_toggle self }
     {
-        if is_sound(self) {
-            ToggleRead {
-                answer: Answer::Done(0),
-                toggle: self.state.toggle,
-            }
-        } else {
-            ToggleRead {
-                answer: Answer::NotSound,
-                toggle: false,
-            }
-        }
+        self.looked_into()?;
+        Ok(self.state.toggle)
     }
 }

@@ -19,7 +19,7 @@ pub const PALETTE: usize = 256;
 pub const BANK: usize = 16;
 
 // The register file. The registers are those of 01's list of stored bits and then 02's V-Port registers, by their numbers; the state is everything else but the colours.
-#[derive(Clone, Copy)]
+#[derive(Clone, Copy, Debug, PartialEq, Eq)]
 pub struct File {
     pub registers: [u16; REGISTERS],
     pub palette: [Colour; PALETTE],
@@ -172,11 +172,6 @@ impl File {
     pub fn stored_bits(chip: Chip, number: usize) -> u16
         ensures { result ≡ stored_bits chip number }
     {
-        let stored = File::stored(chip);
-        if number < REGISTERS {
-            stored[number]
-        } else {
-            0
-        }
+        File::stored(chip).get(number).copied().unwrap_or(0)
     }
 }

@@ -20,60 +20,38 @@ pub fn is_sound(file: File) -> bool
 pub fn are_sound(registers: [u16; REGISTERS], state: State) -> bool
     ensures { result ≡ sound (seen registers state) }
 {
-    let chip = state.chip;
-    let stored = File::stored(chip);
+    let table = File::stored(state.chip);
     let mut stray: u16 = 0;
-    let mut i = 0;
-    while i < REGISTERS {
-        stray = stray | bits::stray(stored[i], registers[i]);
-        i += 1;
+    for (stored, value) in table.iter().zip(&registers) {
+        stray |= bits::stray(*stored, *value);
     }
-    if stray == 0 {
-        state_sound(state)
-    } else {
-        false
-    }
+    stray == 0 && state_sound(state)
 }
 
 // The marks name a direction and a colour, the pointer is one that its steps can reach, and the line one that lines pass to.
+#[tactic(auto, unfolding(crate::specs::State::state_sound, crate::specs::State::last_line))]
 pub fn state_sound(state: State) -> bool
     ensures { result ≡ state_sound state }
 {
-    if !marks_sound(state.marks) {
-        return false;
-    }
-    if !pointer_sound(state.pointer) {
-        return false;
-    }
-    state.line <= 2048
+    marks_sound(state.marks) && pointer_sound(state.pointer) && state.line <= 2048
 }
 
 // Direction 0 or 1, colour 0 to 2.
+#[tactic(auto, unfolding(crate::specs::Palette::marks_sound))]
 fn marks_sound(marks: u8) -> bool
     ensures { result ≡ marks_sound marks }
 {
-    if 1 < marks / 4 {
-        return false;
-    }
-    marks % 4 <= 2
+    marks / 4 <= 1 && marks % 4 <= 2
 }
 
 // The next colour is 0 to 2, green is held before blue only, and red after red only.
+#[tactic(auto, unfolding(crate::specs::Palette::pointer_sound, crate::specs::Palette::by_colour))]
 fn pointer_sound(pointer: Pointer) -> bool
     ensures { result ≡ pointer_sound pointer }
 {
-    let next = pointer.next;
-    if 2 < next {
-        return false;
+    match pointer.next {
+        0 => pointer.red == 0 && pointer.green == 0,
+        1 => pointer.green == 0,
+        next => next == 2,
     }
-    if 2 <= next {
-        return true;
-    }
-    if pointer.green != 0 {
-        return false;
-    }
-    if 1 <= next {
-        return true;
-    }
-    pointer.red == 0
 }

@@ -6,7 +6,7 @@ use crate::palette::Pointer;
 
 // The small parts of a file beside its registers and colours. The toggle says whether the next 3C0h write is data; the marks of the last pixel
 // data access are what B0[2:0] reads; the chip stays what it was made; the line is the one that the display is at.
-#[derive(Clone, Copy)]
+#[derive(Clone, Copy, Debug, PartialEq, Eq)]
 pub struct State {
     pub line: u16,
     pub pointer: Pointer,
@@ -15,6 +15,7 @@ pub struct State {
     pub chip: Chip,
 }
 
+// Each part is set anew by a function of its own, as in `file/specs/State.antt`, since accesses and plans name the part that they move.
 impl State {
     // The pointer at address 0, write mode, red, nothing held; the toggle at index; the marks at write, blue; line 0.
     pub fn power_on(chip: Chip) -> State
@@ -30,36 +31,39 @@ impl State {
     }
 
     // The state with another pointer.
-    pub fn pointing(mut self, pointer: Pointer) -> State
+    #[tactic(auto, unfolding(crate::specs::State::pointing))]
+    pub fn pointing(self, pointer: Pointer) -> State
         ensures { result ≡ pointingTo pointer self }
     {
-        self.pointer = pointer;
-        self
+        State { pointer, ..self }
     }
 
     // The state after a pixel data access: another pointer, and its marks.
-    pub fn stepping(mut self, next: Pointer, marks: u8) -> State
+    #[tactic(auto, unfolding(crate::specs::State::stepping))]
+    pub fn stepping(self, next: Pointer, marks: u8) -> State
         ensures { result ≡ steppingTo next marks self }
     {
-        self.pointer = next;
-        self.marks = marks;
-        self
+        State {
+            pointer: next,
+            marks,
+            ..self
+        }
     }
 
     // The state with the toggle as given.
-    pub fn toggling(mut self, toggle: bool) -> State
+    #[tactic(auto, unfolding(crate::specs::State::toggling))]
+    pub fn toggling(self, toggle: bool) -> State
         ensures { result ≡ togglingTo toggle self }
     {
-        self.toggle = toggle;
-        self
+        State { toggle, ..self }
     }
 
     // The state after lines have passed: another line.
-    pub fn passing(mut self, line: u16) -> State
+    #[tactic(auto, unfolding(crate::specs::State::passing))]
+    pub fn passing(self, line: u16) -> State
         ensures { result ≡ passingTo line self }
     {
-        self.line = line;
-        self
+        State { line, ..self }
     }
 
     // The state with the toggle flipped, where it flips.

@@ -1,24 +1,14 @@
--- `Answer::value` meets its contract: only `Done`, the variant of tag 0, has a value. Assumes nothing.
-use mathlib.Core.Path.{◌≡◌, refl}
-use mathlib.Core.List.{List, [], ◌∷◌}
+-- `Answer::value` meets its contract: only `Done` has a value. Assumes nothing.
 use Prim.Native.Nat.{ℕ}
-use denote.Enum.Declared.{tag_of}
-use borrow.Enum.Refused.{opened}
-use types.Run.{OneOf, miss}
+use mathlib.Core.Path.{◌≡◌, refl}
 use Rattle.file.specs.declared.answer.Answer.{Answer}
 use Rattle.file.specs.declared.answer.Answer.TheVariants.{Done, NoRegister, Malformed, SpaceOff, NotHeld, OtherHalf, WrongWidth, ReadOnly, Locked, PaletteDown, OutOfRange, ShortBuffer, NotSound, NotBeforeRed, OtherChip, OtherDirection, InsideWider}
 use Rattle.file.specs.Answers.{value_of}
-use Rattle.file.specs.contracts.answer.Answer.{the_type}
 use Rattle.file.proofs.answer.Answer.value.Goals as goal
 
--- the tags of the others
-others : List ℕ
-others = 1 ∷ 2 ∷ 3 ∷ 4 ∷ 5 ∷ 6 ∷ 7 ∷ 8 ∷ 9 ∷ 10 ∷ 11 ∷ 12 ∷ 13 ∷ 14 ∷ 15 ∷ 16 ∷ []
-
--- an answer whose tag is not 0 has no value
-no_value : (a : Answer) → OneOf others (tag_of the_type a) → 0 ≡ value_of a
-unfolding value_of others
-no_value (Done value) k = absurd (miss others 0 tt k)
+no_value : (a : Answer) → ((x : ℕ) → a ≡ Done x → ⊥) → 0 ≡ value_of a
+unfolding value_of
+no_value (Done value) k = absurd (k value refl)
 no_value NoRegister k = refl
 no_value Malformed k = refl
 no_value SpaceOff k = refl
@@ -41,5 +31,4 @@ unfolding value_of
 returns-in-Done c = rw c.in-Done.is
 
 pub returns-in_default : goal.returns-in_default
-unfolding others
-returns-in_default c = no_value c.args.self (opened c.in_default.in_default-own.keys2)
+returns-in_default c = no_value c.args.self c.in_default.not-Done

@@ -11,7 +11,7 @@ returns-in-Nothing c = sym (ap (λ (e : Effect). apply e c.args.file) c.in-Nothi
 
 pub returns-in-Store : goal.returns-in-Store
 unfolding apply
-returns-in-Store c = c.stated.ensures ∙ ap₂ with_state c.flipped.ensures c.stored-after.ensures ∙ sym (ap (λ (e : Effect). apply e c.args.file) c.in-Store.is)
+returns-in-Store c = c.stated.ensures ∙ ap₂ with_state c.flipped.ensures c.stored.ensures ∙ sym (ap (λ (e : Effect). apply e c.args.file) c.in-Store.is)
 
 pub returns-in-Toggle : goal.returns-in-Toggle
 unfolding apply

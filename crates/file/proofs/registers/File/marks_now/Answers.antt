@@ -1,12 +1,16 @@
 -- `File::marks_now` meets its contract. Assumes nothing.
 use mathlib.Core.Path.{sym, ◌∙◌}
+use Rattle.std.proofs.lemmas.Result.{err_from_is_err_and}
 use Rattle.file.specs.Readers.{read_marks}
+use Rattle.file.proofs.Looked.{refused-look, looked}
 use Rattle.file.proofs.registers.File.marks_now.Goals as goal
 
-pub returns-then-is_sound : goal.returns-then-is_sound
+pub returns-in_err-looked_into : goal.returns-in_err-looked_into
 unfolding read_marks
-returns-then-is_sound c = rw (sym c.is_sound.ensures ∙ c.if-is_sound.true)
+returns-in_err-looked_into c =
+    let p = err_from_is_err_and c.from_residual.result c.from_residual.ensures.1 in
+    rw (p.1, p.2) (refused-look _ _ _ (sym c.in_err-looked_into.was ∙ c.looked_into.ensures))
 
-pub returns-else-is_sound : goal.returns-else-is_sound
+pub returns : goal.returns
 unfolding read_marks
-returns-else-is_sound c = rw (sym c.is_sound.ensures ∙ c.if-is_sound.false)
+returns c = looked _ _ (sym c.in_ok-looked_into.was ∙ c.looked_into.ensures)

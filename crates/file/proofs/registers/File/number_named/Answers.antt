@@ -1,12 +1,11 @@
 -- `File::number_named` meets its contract. Assumes nothing.
-use borrow.Author.Tests.{lt-ltb, le-ltb}
-use Rattle.file.specs.Readers.{read_number}
+use mathlib.Core.Path.{ap, ◌∙◌}
+use Rattle.std.specs.Prelude.{ok_or}
+use Rattle.file.specs.declared.answer.Answer.TheVariants.{NoRegister}
+use Rattle.file.specs.Readers.{ascii, read_number, name_table}
+use Rattle.file.specs.Registers.{registers}
 use Rattle.file.proofs.registers.File.number_named.Goals as goal
 
-pub returns-then-number-lt-REGISTERS : goal.returns-then-number-lt-REGISTERS
-unfolding read_number
-returns-then-number-lt-REGISTERS c = rw (← c.number_of-number.ensures, lt-ltb _ _ c.if-number-lt-REGISTERS.true)
-
-pub returns-else-number-lt-REGISTERS : goal.returns-else-number-lt-REGISTERS
-unfolding read_number
-returns-else-number-lt-REGISTERS c = rw (← c.number_of-number.ensures, le-ltb _ _ c.if-number-lt-REGISTERS.false)
+pub returns : goal.returns
+unfolding read_number name_table registers ascii
+returns c = c.ok_or.ensures.value ∙ ap (λ found. ok_or found NoRegister) c.place_of.ensures

@@ -1,13 +1,16 @@
 -- `File::pointer_now` meets its contract. Assumes nothing.
 use mathlib.Core.Path.{sym, ◌∙◌}
+use Rattle.std.proofs.lemmas.Result.{err_from_is_err_and}
 use Rattle.file.specs.Readers.{read_pointer}
-use Rattle.file.specs.State.{initial}
+use Rattle.file.proofs.Looked.{refused-look, looked}
 use Rattle.file.proofs.registers.File.pointer_now.Goals as goal
 
-pub returns-then-is_sound : goal.returns-then-is_sound
+pub returns-in_err-looked_into : goal.returns-in_err-looked_into
 unfolding read_pointer
-returns-then-is_sound c = rw (sym c.is_sound.ensures ∙ c.if-is_sound.true)
+returns-in_err-looked_into c =
+    let p = err_from_is_err_and c.from_residual.result c.from_residual.ensures.1 in
+    rw (p.1, p.2) (refused-look _ _ _ (sym c.in_err-looked_into.was ∙ c.looked_into.ensures))
 
-pub returns-else-is_sound : goal.returns-else-is_sound
-unfolding read_pointer initial
-returns-else-is_sound c = rw (sym c.is_sound.ensures ∙ c.if-is_sound.false, c.addressed.ensures)
+pub returns : goal.returns
+unfolding read_pointer
+returns c = looked _ _ (sym c.in_ok-looked_into.was ∙ c.looked_into.ensures)

@@ -1,18 +1,16 @@
 -- `File::register` meets its contract. Assumes nothing.
 use mathlib.Core.Path.{sym, ◌∙◌}
-use borrow.Author.Tests.{lt-ltb, le-ltb, not-true, not-false}
-use Rattle.file.specs.File.{register}
+use Rattle.std.proofs.lemmas.Result.{err_from_is_err_and}
 use Rattle.file.specs.Readers.{read_register}
+use Rattle.file.proofs.Looked.{refused-look, looked}
 use Rattle.file.proofs.registers.File.register.Goals as goal
 
-pub returns-then-not-is_sound : goal.returns-then-not-is_sound
+pub returns-in_err-looked_into : goal.returns-in_err-looked_into
 unfolding read_register
-returns-then-not-is_sound c = rw (sym c.is_sound.ensures ∙ not-true _ c.if-not-is_sound.true-raw)
+returns-in_err-looked_into c =
+    let p = err_from_is_err_and c.from_residual.result c.from_residual.ensures.1 in
+    rw (p.1, p.2) (refused-look _ _ _ (sym c.in_err-looked_into.was ∙ c.looked_into.ensures))
 
-pub returns-then-number-lt-REGISTERS : goal.returns-then-number-lt-REGISTERS
-unfolding read_register register
-returns-then-number-lt-REGISTERS c = rw (sym c.is_sound.ensures ∙ not-false _ c.if-not-is_sound.false-raw, lt-ltb _ _ c.if-number-lt-REGISTERS.true)
-
-pub returns-else-number-lt-REGISTERS : goal.returns-else-number-lt-REGISTERS
+pub returns : goal.returns
 unfolding read_register
-returns-else-number-lt-REGISTERS c = rw (sym c.is_sound.ensures ∙ not-false _ c.if-not-is_sound.false-raw, le-ltb _ _ c.if-number-lt-REGISTERS.false)
+returns c = c.told.ensures ∙ looked _ _ (sym c.in_ok-looked_into.was ∙ c.looked_into.ensures)
