@@ -1,5 +1,4 @@
 pub mod Signed
-pub mod FarFromZero
 pub mod StoredBelow
 pub mod CursorRange
 pub mod CaptureRange

@@ -10,24 +10,24 @@ use file::Answer;
 pub use reader::read_geometry;
 use timing::Scanlines;
 
-#[derive(Clone, Copy)]
+#[derive(Clone, Copy, Debug, PartialEq, Eq, PartialOrd, Ord)]
 pub struct Pixels(pub u16);
 
-#[derive(Clone, Copy)]
+#[derive(Clone, Copy, Debug, PartialEq, Eq, PartialOrd, Ord)]
 pub struct SignedPixels(pub i16);
 
-#[derive(Clone, Copy)]
+#[derive(Clone, Copy, Debug, PartialEq, Eq, PartialOrd, Ord)]
 pub struct SignedScanlines(pub i16);
 
 // The pixel clocks that incoming video is counted in, and its scanlines.
-#[derive(Clone, Copy)]
+#[derive(Clone, Copy, Debug, PartialEq, Eq, PartialOrd, Ord)]
 pub struct PixelClocks(pub u16);
 
-#[derive(Clone, Copy)]
+#[derive(Clone, Copy, Debug, PartialEq, Eq, PartialOrd, Ord)]
 pub struct IncomingScanlines(pub u16);
 
 // The cursor: left and top may be negative, as 01 has them.
-#[derive(Clone, Copy)]
+#[derive(Clone, Copy, Debug, PartialEq, Eq)]
 pub struct Cursor {
     pub enabled: bool,
     pub left: SignedPixels,
@@ -38,7 +38,7 @@ pub struct Cursor {
 }
 
 // Window 2: right and bottom are not included.
-#[derive(Clone, Copy)]
+#[derive(Clone, Copy, Debug, PartialEq, Eq)]
 pub struct Window {
     pub enabled: bool,
     pub video: bool,
@@ -53,7 +53,7 @@ pub struct Window {
 }
 
 // The V-Port's capture window: start and stop, across and down.
-#[derive(Clone, Copy)]
+#[derive(Clone, Copy, Debug, PartialEq, Eq)]
 pub struct Capture {
     pub xstart: PixelClocks,
     pub xstop: PixelClocks,
@@ -61,7 +61,9 @@ pub struct Capture {
     pub ystop: IncomingScanlines,
 }
 
-#[derive(Clone, Copy)]
+// What the reader answers: every number 0 and every mark off where it refuses, but for `empty`. A struct with its answer beside, and no Result: the rules
+// promise those numbers (docs/DECISIONS.md, 31).
+#[derive(Clone, Copy, Debug, PartialEq, Eq)]
 pub struct Geometry {
     pub answer: Answer,
     pub cursor: Cursor,

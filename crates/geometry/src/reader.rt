@@ -4,7 +4,7 @@ ghost use Rattle.file.specs.Sound.{sound};
 ghost use Rattle.geometry.specs.Geometry.{capture_in, cursor_in, no_capture, no_cursor, no_window, read_geometry, vertical_start, window_in};
 ghost use Rattle.timing.specs.Timing.{timing_in};
 
-use crate::edge::{is_empty, less_preset, shown, smaller};
+use crate::edge::{is_empty, less_preset};
 use crate::{
     Capture, Cursor, Geometry, IncomingScanlines, PixelClocks, Pixels, SignedPixels,
     SignedScanlines, Window,
@@ -47,9 +47,9 @@ fn cursor_in(file: File) -> Cursor
         enabled: file.registers[E6] % 2 == 1,
         left: SignedPixels(less_preset(file.registers[E0], across)),
         top: SignedScanlines(less_preset(file.registers[E2], down)),
-        width: Pixels(shown(across)),
-        height: Scanlines(shown(down)),
-        address: (file.registers[E8] / 4 % 8192) as u32 * 1024,
+        width: Pixels(64u16.saturating_sub(across)),
+        height: Scanlines(64u16.saturating_sub(down)),
+        address: u32::from(file.registers[E8] / 4 % 8192) * 1024,
     }
 }
 
@@ -77,7 +77,7 @@ fn window_in(file: File, total: u16, display: u16) -> Window
     let right = file.registers[D0];
     let last = file.registers[D2];
     let marks = file.registers[D4];
-    let bottom = smaller(last, display);
+    let bottom = last.min(display);
     Window {
         enabled: marks / 128 % 2 == 1,
         video: marks / 64 % 2 == 1,

@@ -145,18 +145,13 @@ fn with_line() -> [u8; CELLS]
 pub fn cell_at(cells: &[u8; CELLS], kind: u8, address: u16) -> u8
     ensures { result ≡ cell_in cells.now kind address }
 {
-    let at = to_usize(address);
-    let space = kind / 2;
-    if space == 0 {
-        return config_cell(cells, at);
+    let at = usize::from(address);
+    match kind / 2 {
+        0 => config_cell(cells, at),
+        1 => port_cell(cells, kind % 2 == 1, at),
+        2 => mmio_cell(cells, kind % 2 == 1, at),
+        _ => NOTHING,
     }
-    if space == 1 {
-        return port_cell(cells, kind % 2 == 1, at);
-    }
-    if space == 2 {
-        return mmio_cell(cells, kind % 2 == 1, at);
-    }
-    NOTHING
 }
 
 fn port_cell(cells: &[u8; CELLS], write: bool, at: usize) -> u8
@@ -231,7 +226,7 @@ pub fn width_of(cell: u8) -> u8
 pub fn plain(cell: u8) -> Place
     ensures { result ≡ plain_place cell }
 {
-    let number = cell as usize;
+    let number = usize::from(cell);
     if number < REGISTERS {
         return Place::Register(number);
     }
@@ -259,18 +254,12 @@ fn attribute(toggle: bool, cell: u8) -> Place
     if !toggle {
         return Place::Attribute(ARX);
     }
-    let number = cell as usize;
+    let number = usize::from(cell);
     if number < REGISTERS {
         Place::Attribute(number)
     } else {
         Place::UnnamedAttribute
     }
-}
-
-fn to_usize(x: u16) -> usize
-    ensures { result ≡ x }
-{
-    x as usize
 }
 
 // The cell that the index registers choose behind an indexed port's; any other's is itself.
@@ -280,16 +269,12 @@ pub fn behind(cells: &[u8; CELLS], registers: &[u16; REGISTERS], cell: u8) -> u8
     if cell < FIRST_INDEXED {
         return cell;
     }
-    if cell == 0x79 {
-        return cells[BEHIND_CRX + to_usize(registers[CRX] % CRX_NUMBERS)];
+    match cell {
+        0x78 => cells[BEHIND_SRX + usize::from(registers[SRX] % SRX_NUMBERS)],
+        0x79 => cells[BEHIND_CRX + usize::from(registers[CRX] % CRX_NUMBERS)],
+        0x7A => cells[BEHIND_GRX + usize::from(registers[GRX] % GRX_NUMBERS)],
+        _ => cells[BEHIND_ARX + usize::from(registers[ARX] % ARX_NUMBERS)],
     }
-    if cell == 0x78 {
-        return cells[BEHIND_SRX + to_usize(registers[SRX] % SRX_NUMBERS)];
-    }
-    if cell == 0x7A {
-        return cells[BEHIND_GRX + to_usize(registers[GRX] % GRX_NUMBERS)];
-    }
-    cells[BEHIND_ARX + to_usize(registers[ARX] % ARX_NUMBERS)]
 }
 
 // What a cell names in a file of these registers and this state.
@@ -301,13 +286,13 @@ pub fn place_of(cells: &[u8; CELLS], registers: &[u16; REGISTERS], state: State,
         return plain(kind);
     }
     match kind {
-        0x78 => plain(cells[BEHIND_SRX + to_usize(registers[SRX] % SRX_NUMBERS)]),
-        0x79 => plain(cells[BEHIND_CRX + to_usize(registers[CRX] % CRX_NUMBERS)]),
-        0x7A => plain(cells[BEHIND_GRX + to_usize(registers[GRX] % GRX_NUMBERS)]),
-        0x7B => plain(cells[BEHIND_ARX + to_usize(registers[ARX] % ARX_NUMBERS)]),
+        0x78 => plain(cells[BEHIND_SRX + usize::from(registers[SRX] % SRX_NUMBERS)]),
+        0x79 => plain(cells[BEHIND_CRX + usize::from(registers[CRX] % CRX_NUMBERS)]),
+        0x7A => plain(cells[BEHIND_GRX + usize::from(registers[GRX] % GRX_NUMBERS)]),
+        0x7B => plain(cells[BEHIND_ARX + usize::from(registers[ARX] % ARX_NUMBERS)]),
         0x7C => attribute(
             state.toggle,
-            cells[BEHIND_ARX + to_usize(registers[ARX] % ARX_NUMBERS)],
+            cells[BEHIND_ARX + usize::from(registers[ARX] % ARX_NUMBERS)],
         ),
         _ => Place::Unnamed,
     }

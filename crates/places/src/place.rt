@@ -1,5 +1,5 @@
 // What an address, and an index, of a space and a direction names.
-#[derive(Clone, Copy)]
+#[derive(Clone, Copy, Debug, PartialEq, Eq)]
 pub enum Place {
     // a register of the file, by its number
     Register(usize),

@@ -6,10 +6,8 @@ pub fn widen(bytes: &[u8], registers: &mut [u16])
     requires { length registers.old ≡ length bytes.now }
     ensures { registers.new ≡ bytes.now }
 {
-    let mut i = 0;
-    while i < bytes.len() {
-        registers[i] = bytes[i] as u16;
-        i += 1;
+    for (i, byte) in bytes.iter().enumerate() {
+        registers[i] = u16::from(*byte);
     }
 }
 
@@ -19,9 +17,7 @@ pub fn narrow(registers: &[u16], bytes: &mut [u8])
     requires by_index { (k : ℕ) → get_or registers.now k 0 < 256 }
     ensures { bytes.new ≡ registers.now }
 {
-    let mut i = 0;
-    while i < registers.len() {
-        bytes[i] = registers[i] as u8;
-        i += 1;
+    for (i, register) in registers.iter().enumerate() {
+        bytes[i] = *register as u8;
     }
 }

@@ -15,7 +15,7 @@ use timing::{Clocks, Scanlines};
 const COUNT: usize = 28;
 
 // The fourteen numbers, in the order of 01's table: the register file's, without the screen start.
-#[derive(Clone, Copy)]
+#[derive(Clone, Copy, Debug, PartialEq, Eq)]
 pub struct Timing {
     pub h_total: Clocks,
     pub h_display: Clocks,
@@ -33,8 +33,9 @@ pub struct Timing {
     pub offset: u16,
 }
 
-// What the reader answers: the numbers are 0 where it refuses.
-#[derive(Clone, Copy)]
+// What the reader answers: every number is 0 where it refuses. A struct with its answer beside, and no Result: the README promises those zeros ('The
+// portable sibling').
+#[derive(Clone, Copy, Debug, PartialEq, Eq)]
 pub struct Read {
     pub answer: Answer,
     pub timing: Timing,
@@ -63,39 +64,25 @@ impl Timing {
         }
     }
 
-    // A timing's numbers, in table order. A cast of a local needs no proof that it fits.
+    // A timing's numbers, in table order.
     pub fn numbers(self) -> [u32; 14]
         ensures { result ≡ numbers_of self }
     {
-        let h_total = self.h_total.0;
-        let h_display = self.h_display.0;
-        let h_blank_start = self.h_blank_start.0;
-        let h_blank_end = self.h_blank_end.0;
-        let h_sync_start = self.h_sync_start.0;
-        let h_sync_end = self.h_sync_end.0;
-        let v_total = self.v_total.0;
-        let v_display = self.v_display.0;
-        let v_blank_start = self.v_blank_start.0;
-        let v_blank_end = self.v_blank_end.0;
-        let v_sync_start = self.v_sync_start.0;
-        let v_sync_end = self.v_sync_end.0;
-        let line_compare = self.line_compare.0;
-        let offset = self.offset;
         [
-            h_total as u32,
-            h_display as u32,
-            h_blank_start as u32,
-            h_blank_end as u32,
-            h_sync_start as u32,
-            h_sync_end as u32,
-            v_total as u32,
-            v_display as u32,
-            v_blank_start as u32,
-            v_blank_end as u32,
-            v_sync_start as u32,
-            v_sync_end as u32,
-            line_compare as u32,
-            offset as u32,
+            u32::from(self.h_total.0),
+            u32::from(self.h_display.0),
+            u32::from(self.h_blank_start.0),
+            u32::from(self.h_blank_end.0),
+            u32::from(self.h_sync_start.0),
+            u32::from(self.h_sync_end.0),
+            u32::from(self.v_total.0),
+            u32::from(self.v_display.0),
+            u32::from(self.v_blank_start.0),
+            u32::from(self.v_blank_end.0),
+            u32::from(self.v_sync_start.0),
+            u32::from(self.v_sync_end.0),
+            u32::from(self.line_compare.0),
+            u32::from(self.offset),
         ]
     }
 }

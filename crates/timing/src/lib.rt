@@ -12,14 +12,14 @@ use file::{Answer, CR1B, CR11, File};
 pub use vertical::{v_display, v_sync_end, v_sync_start, v_total};
 
 // Character clocks.
-#[derive(Clone, Copy)]
+#[derive(Clone, Copy, Debug, PartialEq, Eq, PartialOrd, Ord)]
 pub struct Clocks(pub u16);
 
-#[derive(Clone, Copy)]
+#[derive(Clone, Copy, Debug, PartialEq, Eq, PartialOrd, Ord)]
 pub struct Scanlines(pub u16);
 
 // The fifteen numbers, in the order of 01's table.
-#[derive(Clone, Copy)]
+#[derive(Clone, Copy, Debug, PartialEq, Eq)]
 pub struct Timing {
     pub h_total: Clocks,
     pub h_display: Clocks,
@@ -38,15 +38,16 @@ pub struct Timing {
     pub screen_start: u32,
 }
 
-// What the reader answers: the numbers are 0 where it refuses.
-#[derive(Clone, Copy)]
+// What the reader answers: every number is 0 where it refuses. A struct with its answer beside, and no Result: the rules promise those zeros
+// (docs/DECISIONS.md, 31).
+#[derive(Clone, Copy, Debug, PartialEq, Eq)]
 pub struct Read {
     pub answer: Answer,
     pub timing: Timing,
 }
 
-// What the writer answers: the file is as given where it refuses.
-#[derive(Clone, Copy)]
+// What the writer answers. No Result: the file counts either way, and is as given where it refuses, as every access hands back the file with its reply.
+#[derive(Clone, Copy, Debug, PartialEq, Eq)]
 pub struct Written {
     pub answer: Answer,
     pub file: File,
@@ -105,20 +106,20 @@ impl Timing {
         ensures { result ≡ numbers_of self }
     {
         [
-            self.h_total.0 as u32,
-            self.h_display.0 as u32,
-            self.h_blank_start.0 as u32,
-            self.h_blank_end.0 as u32,
-            self.h_sync_start.0 as u32,
-            self.h_sync_end.0 as u32,
-            self.v_total.0 as u32,
-            self.v_display.0 as u32,
-            self.v_blank_start.0 as u32,
-            self.v_blank_end.0 as u32,
-            self.v_sync_start.0 as u32,
-            self.v_sync_end.0 as u32,
-            self.line_compare.0 as u32,
-            self.offset as u32,
+            u32::from(self.h_total.0),
+            u32::from(self.h_display.0),
+            u32::from(self.h_blank_start.0),
+            u32::from(self.h_blank_end.0),
+            u32::from(self.h_sync_start.0),
+            u32::from(self.h_sync_end.0),
+            u32::from(self.v_total.0),
+            u32::from(self.v_display.0),
+            u32::from(self.v_blank_start.0),
+            u32::from(self.v_blank_end.0),
+            u32::from(self.v_sync_start.0),
+            u32::from(self.v_sync_end.0),
+            u32::from(self.line_compare.0),
+            u32::from(self.offset),
             self.screen_start,
         ]
     }
@@ -174,14 +175,14 @@ pub fn write_timing(file: File, timing: Timing) -> Written
     }
     let wide = is_wide(file.registers[CR1B]);
     let numbers = timing.numbers();
-    if !table::in_range(wide, numbers) {
+    if !table::in_range(wide, &numbers) {
         return Written {
             answer: Answer::OutOfRange,
             file,
         };
     }
     let mut registers = file.registers;
-    table::write(wide, &mut registers, numbers);
+    table::write(wide, &mut registers, &numbers);
     let mut written = file;
     written.registers = registers;
     Written {

@@ -1,6 +1,5 @@
 -- `portable::write_timing` meets its contract, by what its tests and calls found. Assumes nothing.
 use mathlib.Core.Path.{sym, ap, ◌∙◌}
-use borrow.Author.Tests.{not-true, not-false}
 use Rattle.bits.specs.Numbers.{all_in_range, write_numbers}
 use Rattle.portable.specs.Table.{table}
 use Rattle.portable.specs.Timing.{locked}
@@ -21,12 +20,12 @@ unfolding locked
 returns-then-not-in_range c =
     let args = c.args in
     write-outside args.bytes.now args.timing c.if-bytes-ne-COUNT.false (sym c.is_locked.ensures ∙ c.if-is_locked.false)
-    (ap (all_in_range table) (sym c.numbers-numbers.ensures) ∙ sym c.in_range.ensures ∙ not-true _ c.if-not-in_range.true-raw)
+    (ap (all_in_range table) (sym c.numbers-numbers.ensures) ∙ sym c.in_range.ensures ∙ c.if-not-in_range.true)
 
 pub returns : goal.returns
 unfolding locked
 returns c =
     let args = c.args in
     write_done args.bytes.now args.timing _ c.if-bytes-ne-COUNT.false (sym c.is_locked.ensures ∙ c.if-is_locked.false)
-    (ap (all_in_range table) (sym c.numbers-numbers.ensures) ∙ sym c.in_range.ensures ∙ not-false _ c.if-not-in_range.false-raw)
+    (ap (all_in_range table) (sym c.numbers-numbers.ensures) ∙ sym c.in_range.ensures ∙ c.if-not-in_range.false)
     (c.write.ensures ∙ ap (λ ns. write_numbers table ns args.bytes.now) c.numbers-numbers.ensures)

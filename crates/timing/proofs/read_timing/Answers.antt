@@ -2,7 +2,6 @@
 use Prim.Native.Nat.{ℕ, ◌^◌, ◌<◌}
 use mathlib.Core.Path.{sym, subst, ◌∙◌}
 use mathlib.Core.List.{List}
-use borrow.Author.Tests.{not-true, not-false}
 use lib.ListN.{get_or}
 use Rattle.file.specs.File.{register}
 use Rattle.timing.specs.Table.{wide}
@@ -11,7 +10,7 @@ use Rattle.timing.proofs.Computed.{numbers-below}
 use Rattle.timing.proofs.read_timing.Goals as goal
 
 pub returns-then-not-is_sound : goal.returns-then-not-is_sound
-returns-then-not-is_sound c = read-unsound c.args.file c.none.result (sym c.is_sound.ensures ∙ not-true c.is_sound.result c.if-not-is_sound.true-raw) c.none.ensures
+returns-then-not-is_sound c = read-unsound c.args.file c.none.result (sym c.is_sound.ensures ∙ c.if-not-is_sound.true) c.none.ensures
 
 pub of-requires : goal.of-requires
 of-requires c =
@@ -20,4 +19,4 @@ of-requires c =
 pub returns : goal.returns
 unfolding wide register
 returns c =
-    read_done c.args.file c.of.result c.is_wide.result c.read-numbers.result (sym c.is_sound.ensures ∙ not-false c.is_sound.result c.if-not-is_sound.false-raw) c.is_wide.ensures c.read-numbers.ensures c.of.ensures
+    read_done c.args.file c.of.result c.is_wide.result c.read-numbers.result (sym c.is_sound.ensures ∙ c.if-not-is_sound.false) c.is_wide.ensures c.read-numbers.ensures c.of.ensures

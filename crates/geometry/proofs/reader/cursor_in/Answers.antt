@@ -25,5 +25,5 @@ unfolding cursor_in register mark bit bits
 returns c =
     let left = c.less_preset in
     let top = c.less_preset-2 in
-    rw (to_z-of_z w16 left.result (record { sfits = left.type_inv }), to_z-of_z w16 top.result (record { sfits = top.type_inv }), left.ensures, top.ensures, c.shown.ensures, c.shown-2.ensures)
+    rw (to_z-of_z w16 left.result (record { sfits = left.type_inv }), to_z-of_z w16 top.result (record { sfits = top.type_inv }), left.ensures, top.ensures, c.saturating_sub.ensures, c.saturating_sub-2.ensures, c.from.ensures)
     (simp div-one)

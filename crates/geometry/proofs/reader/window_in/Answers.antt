@@ -9,4 +9,4 @@ pub returns : goal.returns
 unfolding window_in bottom register mark bit bits
 returns c =
     let given = c.requires in
-    rw (c.is_empty.ensures, c.smaller-bottom.ensures, ← given.0, ← given.1) (simp div-one)
+    rw (c.is_empty.ensures, c.min-bottom.ensures, ← given.0, ← given.1) (simp div-one)

@@ -21,23 +21,23 @@ returns-then-kind-lt-FIRST_INDEXED c = rw (lt-ltb _ _ c.if-kind-lt-FIRST_INDEXED
 
 pub returns-in-120 : goal.returns-in-120
 unfolding cell_place seen
-returns-in-120 c = rw c.in-120.is (c.plain-in-120.ensures ∙ ap (λ (n : ℕ). plain_place (get_or c.args.cells.now (behind_srx + n) 0)) c.to_usize.ensures)
+returns-in-120 c = rw c.in-120.is (c.plain-in-120.ensures ∙ ap (λ (n : ℕ). plain_place (get_or c.args.cells.now (behind_srx + n) 0)) c.from.ensures)
 
 pub returns-in-121 : goal.returns-in-121
 unfolding cell_place seen
-returns-in-121 c = rw c.in-121.is (c.plain-in-121.ensures ∙ ap (λ (n : ℕ). plain_place (get_or c.args.cells.now (behind_crx + n) 0)) c.to_usize-in-121.ensures)
+returns-in-121 c = rw c.in-121.is (c.plain-in-121.ensures ∙ ap (λ (n : ℕ). plain_place (get_or c.args.cells.now (behind_crx + n) 0)) c.from-in-121.ensures)
 
 pub returns-in-122 : goal.returns-in-122
 unfolding cell_place seen
-returns-in-122 c = rw c.in-122.is (c.plain-in-122.ensures ∙ ap (λ (n : ℕ). plain_place (get_or c.args.cells.now (behind_grx + n) 0)) c.to_usize-in-122.ensures)
+returns-in-122 c = rw c.in-122.is (c.plain-in-122.ensures ∙ ap (λ (n : ℕ). plain_place (get_or c.args.cells.now (behind_grx + n) 0)) c.from-in-122.ensures)
 
 pub returns-in-123 : goal.returns-in-123
 unfolding cell_place seen
-returns-in-123 c = rw c.in-123.is (c.plain-in-123.ensures ∙ ap (λ (n : ℕ). plain_place (get_or c.args.cells.now (behind_arx + n) 0)) (c.to_usize-in-123.ensures ∙ five-bits _))
+returns-in-123 c = rw c.in-123.is (c.plain-in-123.ensures ∙ ap (λ (n : ℕ). plain_place (get_or c.args.cells.now (behind_arx + n) 0)) (c.from-in-123.ensures ∙ five-bits _))
 
 pub returns-in-124 : goal.returns-in-124
 unfolding cell_place seen
-returns-in-124 c = rw c.in-124.is (c.attribute.ensures ∙ ap (λ (n : ℕ). attribute_place c.args.state.toggle (get_or c.args.cells.now (behind_arx + n) 0)) (c.to_usize-in-124.ensures ∙ five-bits _))
+returns-in-124 c = rw c.in-124.is (c.attribute.ensures ∙ ap (λ (n : ℕ). attribute_place c.args.state.toggle (get_or c.args.cells.now (behind_arx + n) 0)) (c.from-in-124.ensures ∙ five-bits _))
 
 pub returns-in_default : goal.returns-in_default
 unfolding cell_place

@@ -8,10 +8,6 @@ use borrow.Author.Tests.{le-ltb, lt-ltb}
 use Rattle.places.specs.EngineCells.{first_alone, alone, plain_place}
 use Rattle.places.proofs.decode.plain.Goals as goal
 
--- at least a number and not that number
-above : (n a : ℕ) → n ≤ a → (a ≡ n → ⊥) → suc n ≤ a
-above n a h other = omega (arith, other)
-
 -- behind the places that stand alone
 last : (cell : ℕ) → 0x78 ≤ cell → cell - first_alone ≡ suc (suc (suc (suc (suc (suc (suc (suc (suc (suc (suc (suc (cell - 0x78))))))))))))
 last cell h = omega arith
@@ -22,7 +18,7 @@ alone-ends k = refl
 
 pub returns-then-number-lt-REGISTERS : goal.returns-then-number-lt-REGISTERS
 unfolding plain_place
-returns-then-number-lt-REGISTERS c = rw (lt-ltb _ _ c.if-number-lt-REGISTERS.true)
+returns-then-number-lt-REGISTERS c = rw (← c.from-number.ensures, lt-ltb _ _ c.if-number-lt-REGISTERS.true)
 
 pub returns-in-108 : goal.returns-in-108
 unfolding plain_place
@@ -75,17 +71,6 @@ returns-in-119 c = rw c.in-119.is
 pub returns-in_default : goal.returns-in_default
 unfolding plain_place
 returns-in_default c =
-    let cell = c.args.cell in
-    let h1 = above 0x6C cell c.if-number-lt-REGISTERS.false c.in_default.in_default-own.rest.0.0.0.0.0.0.0.0.0.0.0.1 in
-    let h2 = above 0x6D cell h1 c.in_default.in_default-own.rest.0.0.0.0.0.0.0.0.0.0.1 in
-    let h3 = above 0x6E cell h2 c.in_default.in_default-own.rest.0.0.0.0.0.0.0.0.0.1 in
-    let h4 = above 0x6F cell h3 c.in_default.in_default-own.rest.0.0.0.0.0.0.0.0.1 in
-    let h5 = above 0x70 cell h4 c.in_default.in_default-own.rest.0.0.0.0.0.0.0.1 in
-    let h6 = above 0x71 cell h5 c.in_default.in_default-own.rest.0.0.0.0.0.0.1 in
-    let h7 = above 0x72 cell h6 c.in_default.in_default-own.rest.0.0.0.0.0.1 in
-    let h8 = above 0x73 cell h7 c.in_default.in_default-own.rest.0.0.0.0.1 in
-    let h9 = above 0x74 cell h8 c.in_default.in_default-own.rest.0.0.0.1 in
-    let h10 = above 0x75 cell h9 c.in_default.in_default-own.rest.0.0.1 in
-    let h11 = above 0x76 cell h10 c.in_default.in_default-own.rest.0.1 in
-    let h12 = above 0x77 cell h11 c.in_default.in_default-own.rest.1 in
-    rw (le-ltb _ _ c.if-number-lt-REGISTERS.false) (sym (ap (λ (n : ℕ). get_or alone n Unnamed) (last cell h12) ∙ alone-ends (cell - 0x78)))
+    let past : 0x78 ≤ c.args.cell = omega (arith, c.from-number.ensures) in
+    let other : 108 ≤ c.args.cell = omega arith in
+    rw (le-ltb _ _ other) (sym (ap (λ (n : ℕ). get_or alone n Unnamed) (last c.args.cell past) ∙ alone-ends (c.args.cell - 0x78)))

@@ -1,11 +1,6 @@
 -- `portable::lent::narrow` meets its contract, by what is copied so far. Assumes nothing.
-use Prim.Native.Nat.{◌-◌}
-use lib.ListN.{length}
 use Rattle.portable.proofs.Copied.{Copying}
 use Rattle.portable.proofs.lent.narrow.Given as goal
 
 abbrev pub invariant-loop-i : goal.invariant-loop-i
 invariant-loop-i l = Copying l.registers l.bytes l.i
-
-abbrev pub decreases-loop-i : goal.decreases-loop-i
-decreases-loop-i l = length l.registers - l.i
