@@ -17,8 +17,9 @@ use Rattle.places.proofs.CellsOfRows.{Outcome, nothing, held, outcome, some-held
 use Rattle.places.proofs.NotHeld.{other-kind, nothing-there, cell-nothing, cell-spoken, something-held, cell-held}
 use Rattle.places.proofs.RulesOfPlaces.{halves}
 use Rattle.places.proofs.TableOfCells.{cell-true}
-use Rattle.access.specs.declared.engine.Looked.{Looked}
-use Rattle.access.specs.declared.engine.Looked.TheVariants.{Refused, At, Lines}
+use Rattle.access.specs.declared.engine.Meant.{Meant}
+use Rattle.std.specs.Prelude.{Result, Err, Ok}
+use Rattle.access.specs.declared.engine.Meant.TheVariants.{At, Lines}
 use Rattle.access.specs.declared.record.Record.{Record}
 use Rattle.access.specs.Access.{place_of}
 use Rattle.access.specs.Checks.{checks, first_refusal, not_sound, space_off, not_held, no_row, other_direction, inside_wider, is_port, is_mmio, of_other_half, other_width, wrong_width}
@@ -86,10 +87,10 @@ module _ (f : File) (r : Record) (low : r.kind < 6) where
         (λ p. rw p)
 
 -- the answer where the checks refuse, else another
-unfoldable pub settled : Looked → Answer → Answer
-settled (Refused a) otherwise = a
-settled (At cell) otherwise = otherwise
-settled Lines otherwise = otherwise
+unfoldable pub settled : Result Meant Answer → Answer → Answer
+settled (Err a) otherwise = a
+settled (Ok (At cell)) otherwise = otherwise
+settled (Ok Lines) otherwise = otherwise
 
 -- 02, 10/13: kind 6 finds its row, whatever the file
 passing-row : (f : File) → row_at f 6 0 ≡ some (record { kind = 6; address = 0; index = any; width = 2; place = PassingPlace })

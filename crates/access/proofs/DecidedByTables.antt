@@ -29,8 +29,9 @@ use Rattle.places.proofs.NotHeld.{something-held, cell-held}
 use Rattle.places.proofs.Rows.{Passes, row-passes}
 use Rattle.places.proofs.RulesOfPlaces.{narrow, all-narrow}
 use Rattle.places.proofs.TableOfCells.{cell-true}
-use Rattle.access.specs.declared.engine.Looked.{Looked}
-use Rattle.access.specs.declared.engine.Looked.TheVariants.{Refused, At, Lines}
+use Rattle.access.specs.declared.engine.Meant.{Meant}
+use Rattle.std.specs.Prelude.{Result, Err, Ok}
+use Rattle.access.specs.declared.engine.Meant.TheVariants.{At, Lines}
 use Rattle.access.specs.declared.record.Record.{Record}
 use Rattle.access.specs.Access.{place_of, palette_up, reach_in, answer_of_read, write_answer, answer_at, write_effect, read_effect, effect_at, answer, effect}
 use Rattle.access.specs.Checks.{is_write, is_passing, carries, space_off}
@@ -51,12 +52,12 @@ indices f s (suc (suc (suc (suc zero)))) h = omega arith
 indices f s (suc (suc (suc (suc (suc c))))) h = absurd (omega arith)
 
 -- a refusal of the checks is one
-refuses : Looked → Bool
-refuses (Refused a) = refused a
-refuses (At cell) = true
-refuses Lines = true
+refuses : Result Meant Answer → Bool
+refuses (Err a) = refused a
+refuses (Ok (At cell)) = true
+refuses (Ok Lines) = true
 
-told-refuses : (cell : ℕ) → T (refuses (Refused (nothing_told cell)))
+told-refuses : (cell : ℕ) → T (refuses (Err (nothing_told cell)))
 unfolding nothing_told refuses refused code_of
 told-refuses cell =
     chosen refused (eqb cell other_way_held) OtherDirection _ tt (chosen refused (eqb cell wider_held) InsideWider NotHeld tt tt)
@@ -64,11 +65,11 @@ told-refuses cell =
 looked-refuses : (cells : List ℕ) (f : File) (r : Record) → T (refuses (looked_by cells f r))
 unfolding looked_by refuses refused code_of
 looked-refuses cells f r =
-    chosen refuses (no_access r) _ _ (chosen refuses (lines_pass r) Lines (Refused Malformed) tt tt)
-    (chosen refuses (space_off f r) (Refused SpaceOff) _ tt
-    (chosen refuses (is_nothing (cell_in cells r.kind r.address)) (Refused (nothing_told (cell_in cells r.kind r.address))) _ (told-refuses (cell_in cells r.kind r.address))
-    (chosen refuses (other_row f r) (Refused OtherHalf) _ tt
-    (chosen refuses (eqb (cell_width (cell_in cells r.kind r.address)) r.width) (At (cell_in cells r.kind r.address)) (Refused WrongWidth) tt tt))))
+    chosen refuses (no_access r) _ _ (chosen refuses (lines_pass r) (Ok Lines) (Err Malformed) tt tt)
+    (chosen refuses (space_off f r) (Err SpaceOff) _ tt
+    (chosen refuses (is_nothing (cell_in cells r.kind r.address)) (Err (nothing_told (cell_in cells r.kind r.address))) _ (told-refuses (cell_in cells r.kind r.address))
+    (chosen refuses (other_row f r) (Err OtherHalf) _ tt
+    (chosen refuses (eqb (cell_width (cell_in cells r.kind r.address)) r.width) (Ok (At (cell_in cells r.kind r.address))) (Err WrongWidth) tt tt))))
 
 -- what a write takes of a byte is the byte
 taken-byte : (writing : Writing) (value : ℕ) → value < 256 → taken writing value ≡ value
@@ -114,21 +115,21 @@ module _ (f : File) (s : T (sound f)) (r : Record) where
   Stored = stored_table f.state.chip
 
   -- the checks' refusal is the answer, and does nothing
-  module _ (a : Answer) (e : looked_by Cells f r ≡ Refused a) where
+  module _ (a : Answer) (e : looked_by Cells f r ≡ Err a) where
     answer-refused : answer f r ≡ a
     unfolding answer settled
-    answer-refused = in_order f r (answer_at (carries r) f (place_of f r)) s ∙ ap (λ (l : Looked). settled l (answer_at (carries r) f (place_of f r))) e
+    answer-refused = in_order f r (answer_at (carries r) f (place_of f r)) s ∙ ap (λ (l : Result Meant Answer). settled l (answer_at (carries r) f (place_of f r))) e
 
     is-refused : refused (answer f r) ≡ true
     unfolding refuses
-    is-refused = ap refused answer-refused ∙ is_true (refused a) (subst (λ (l : Looked). T (refuses l)) e (looked-refuses Cells f r))
+    is-refused = ap refused answer-refused ∙ is_true (refused a) (subst (λ (l : Result Meant Answer). T (refuses l)) e (looked-refuses Cells f r))
 
     refused-decision : decided_by Cells Stored f r ≡ decision f r
     unfolding decision effect asks_pixel
     refused-decision = decided-refused Cells Stored f r a e ∙ same-decision (sym answer-refused) (sym (rw is-refused refl)) (sym (rw is-refused refl))
 
   -- past them the place is the cell's, and it answers
-  module _ (cell : ℕ) (e : looked_by Cells f r ≡ At cell) where
+  module _ (cell : ℕ) (e : looked_by Cells f r ≡ Ok (At cell)) where
     through : Passed Cells f r cell
     through = passed Cells f r cell e
 
@@ -149,7 +150,7 @@ module _ (f : File) (s : T (sound f)) (r : Record) where
 
     answer-there : answer f r ≡ answer_at (carries r) f (place_of f r)
     unfolding answer settled
-    answer-there = in_order f r (answer_at (carries r) f (place_of f r)) s ∙ ap (λ (l : Looked). settled l (answer_at (carries r) f (place_of f r))) e
+    answer-there = in_order f r (answer_at (carries r) f (place_of f r)) s ∙ ap (λ (l : Result Meant Answer). settled l (answer_at (carries r) f (place_of f r))) e
 
     carried : carries r ≡ is_write r
     carried = carries-below r low
@@ -202,7 +203,7 @@ module _ (f : File) (s : T (sound f)) (r : Record) where
         same_answer = sym (answer-there ∙ rw (carried ∙ w) refl)
 
   -- lines pass
-  module _ (e : looked_by Cells f r ≡ Lines) where
+  module _ (e : looked_by Cells f r ≡ Ok Lines) where
     good : lines_pass r ≡ true
     good = lines-told Cells f r e
 
@@ -225,7 +226,7 @@ module _ (f : File) (s : T (sound f)) (r : Record) where
   pub decided-by-tables : decided_by Cells Stored f r ≡ decision f r
   decided-by-tables = by (looked_by Cells f r) refl
     where
-      by : (l : Looked) → looked_by Cells f r ≡ l → decided_by Cells Stored f r ≡ decision f r
-      by (Refused a) e = refused-decision a e
-      by Lines e = lines-decision e
-      by (At cell) e = by-test (is_write r) (write-decision cell e) (read-decision cell e)
+      by : (l : Result Meant Answer) → looked_by Cells f r ≡ l → decided_by Cells Stored f r ≡ decision f r
+      by (Err a) e = refused-decision a e
+      by (Ok Lines) e = lines-decision e
+      by (Ok (At cell)) e = by-test (is_write r) (write-decision cell e) (read-decision cell e)

@@ -4,19 +4,19 @@ use mathlib.Core.Path.{◌≡◌, refl, sym, ap, ◌∙◌, subst}
 use lib.Dec.{T}
 use mathlib.Core.Bool.{false}
 use mathlib.Core.List.{[], ◌∷◌}
-use Rattle.bits.proofs.Test.{chosen}
-use Rattle.file.specs.declared.answer.Answer.TheVariants.{Done, Malformed, NotSound}
+use Rattle.bits.proofs.Test.{by-test, chosen}
+use Rattle.file.specs.declared.answer.Answer.TheVariants.{Malformed, NotSound}
 use Rattle.file.specs.declared.registers.File.{File}
-use Rattle.file.specs.declared.effect.Effect.TheVariants.{Nothing}
 use Rattle.file.specs.Answers.{code_of, one_of, refused}
-use Rattle.file.specs.Effects.{reach_of}
 use Rattle.file.specs.Sound.{sound}
 use Rattle.access.specs.declared.access.Accessed.{Accessed}
-use Rattle.access.specs.declared.access.ReachRead.{ReachRead}
+use Rattle.std.specs.Prelude.{Result, Ok, Err}
+use Rattle.file.specs.declared.answer.Answer.{Answer}
+use Rattle.file.specs.declared.effect.Reach.{Reach}
 use Rattle.access.specs.declared.record.Record.{Record}
 use Rattle.access.specs.declared.record.Item.{Item}
 use Rattle.access.specs.declared.record.Item.TheVariants.{Whole, Fragment}
-use Rattle.access.specs.Access.{access, access_item, reach, read_reach, record_in, reply_to}
+use Rattle.access.specs.Access.{access, access_item, reach, read_reach, answer_with, record_in, reply_to}
 use Rattle.access.specs.Promises.{access_code}
 use Rattle.access.proofs.Codes.{access-code}
 use Rattle.access.proofs.Refusals.{refusal-leaves, unsound-answer}
@@ -51,10 +51,18 @@ item-code f (Whole r) = access-code f r
 item-code f (Fragment r) = chosen access_code (sound f) Malformed NotSound tt tt
 
 -- what an access may reach is told with 0, or 12
-pub reach-codes : (f : File) (r : Record) → T (one_of (0 ∷ 12 ∷ []) (read_reach f r).answer)
-unfolding read_reach one_of code_of
-reach-codes f r =
-    chosen (λ (x : ReachRead). one_of (0 ∷ 12 ∷ []) x.answer) (sound f) (record { answer = Done 0; reach = reach f r }) (record { answer = NotSound; reach = reach_of Nothing }) tt tt
+pub reach-codes : (f : File) (r : Record) → T (one_of (0 ∷ 12 ∷ []) (answer_with (read_reach f r)))
+unfolding read_reach answer_with one_of code_of
+reach-codes f r = chosen (λ (x : Result Reach Answer). one_of (0 ∷ 12 ∷ []) (answer_with x)) (sound f) (Ok (reach f r)) (Err NotSound) tt tt
+
+-- the refusal is 12
+pub reach-unsound : (f : File) (r : Record) (a : Answer) → read_reach f r ≡ Err a → a ≡ NotSound
+unfolding read_reach
+reach-unsound f r a e = sym (ap refusal e) ∙ by-test (sound f) (λ s. rw s refl) (λ s. rw s refl)
+  where
+    refusal : Result Reach Answer → Answer
+    refusal (Ok read) = NotSound
+    refusal (Err told) = told
 
 -- the reply handed back says the answer, of a whole record and of a fragment
 pub reply-says : (f : File) (i : Item) → (access_item f i).reply ≡ reply_to (record_in i) (access_item f i).answer

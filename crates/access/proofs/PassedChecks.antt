@@ -14,8 +14,9 @@ use Rattle.file.specs.Registers.{register_count}
 use Rattle.places.specs.declared.place.Place.{Place}
 use Rattle.places.specs.declared.place.Place.TheVariants.{Register, Attribute}
 use Rattle.places.specs.EngineCells.{is_nothing, cell_in, cell_width, in_file}
-use Rattle.access.specs.declared.engine.Looked.{Looked}
-use Rattle.access.specs.declared.engine.Looked.TheVariants.{Refused, At, Lines}
+use Rattle.access.specs.declared.engine.Meant.{Meant}
+use Rattle.std.specs.Prelude.{Result, Err, Ok}
+use Rattle.access.specs.declared.engine.Meant.TheVariants.{At, Lines}
 use Rattle.access.specs.declared.record.Record.{Record}
 use Rattle.access.specs.Checks.{is_write, is_passing, carries, bad_access, bad_passing, malformed, space_off}
 use Rattle.access.specs.Engine.{no_access, lines_pass, other_row, nothing_told, looked_by}
@@ -88,20 +89,20 @@ malformed-told f r =
     (λ k. rw (g, k, lt-ltb 5 r.kind (omega (arith, eqb-true r.kind 6 k))) (by-test (bad_passing r) (λ b. rw b refl) (λ b. rw b refl)))
     (λ k. rw (g, k, le-ltb 5 r.kind (omega (arith, eqb-false r.kind 6 k))) (sym (and-true (bad_access r)))))
 
-at_cell : Looked → ℕ
-at_cell (Refused a) = 0
-at_cell (At cell) = cell
-at_cell Lines = 0
+at_cell : Result Meant Answer → ℕ
+at_cell (Err a) = 0
+at_cell (Ok (At cell)) = cell
+at_cell (Ok Lines) = 0
 
-is_at : Looked → Bool
-is_at (Refused a) = false
-is_at (At cell) = true
-is_at Lines = false
+is_at : Result Meant Answer → Bool
+is_at (Err a) = false
+is_at (Ok (At cell)) = true
+is_at (Ok Lines) = false
 
-is_lines : Looked → Bool
-is_lines (Refused a) = false
-is_lines (At cell) = false
-is_lines Lines = true
+is_lines : Result Meant Answer → Bool
+is_lines (Err a) = false
+is_lines (Ok (At cell)) = false
+is_lines (Ok Lines) = true
 
 pub record Passed (cells : List ℕ) (f : File) (r : Record) (cell : ℕ) : Type 0 where
   pub formed : no_access r ≡ false
@@ -113,11 +114,11 @@ module _ (cells : List ℕ) (f : File) (r : Record) (cell : ℕ) where
   abbrev Here : ℕ
   Here = cell_in cells r.kind r.address
 
-  never : {A : Type 0} (a : Answer) → Refused a ≡ At cell → A
+  never : {A : Type 0} (a : Answer) → Err a ≡ Ok (At cell) → A
   unfolding is_at
   never a e = absurd (true≢false (sym (ap is_at e)))
 
-  pub passed : looked_by cells f r ≡ At cell → Passed cells f r cell
+  pub passed : looked_by cells f r ≡ Ok (At cell) → Passed cells f r cell
   unfolding looked_by at_cell is_at
   passed e =
       by-test (no_access r)
@@ -135,7 +136,7 @@ module _ (cells : List ℕ) (f : File) (r : Record) (cell : ℕ) where
       (λ w. never WrongWidth (rw (m, o, n, h, w) at e))))))
 
 -- where the checks say that lines pass, they do
-pub lines-told : (cells : List ℕ) (f : File) (r : Record) → looked_by cells f r ≡ Lines → lines_pass r ≡ true
+pub lines-told : (cells : List ℕ) (f : File) (r : Record) → looked_by cells f r ≡ Ok Lines → lines_pass r ≡ true
 unfolding looked_by is_lines
 lines-told cells f r e =
     let here = cell_in cells r.kind r.address in
@@ -146,10 +147,10 @@ lines-told cells f r e =
     (λ n. by-test (other_row f r) (λ h. no (rw (m, o, n, h) at e))
     (λ h. by-test (eqb (cell_width here) r.width) (λ w. no_cell (rw (m, o, n, h, w) at e)) (λ w. no (rw (m, o, n, h, w) at e))))))
   where
-    no : {A : Type 0} {a : Answer} → Refused a ≡ Lines → A
+    no : {A : Type 0} {a : Answer} → Err a ≡ Ok Lines → A
     no e = absurd (true≢false (sym (ap is_lines e)))
 
-    no_cell : {A : Type 0} {cell : ℕ} → At cell ≡ Lines → A
+    no_cell : {A : Type 0} {cell : ℕ} → ◌≡◌ {A = Result Meant Answer} (Ok (At cell)) (Ok Lines) → A
     no_cell e = absurd (true≢false (sym (ap is_lines e)))
 
 -- the number that a place of the file names

@@ -13,7 +13,8 @@ use Rattle.file.specs.Palette.{component}
 use Rattle.file.specs.State.{unasked}
 use Rattle.places.specs.EngineCells.{cell_place}
 use Rattle.places.specs.Profile.{passes_lines, profile}
-use Rattle.access.specs.declared.engine.Looked.TheVariants.{Refused, At, Lines}
+use Rattle.std.specs.Prelude.{Err, Ok}
+use Rattle.access.specs.declared.engine.Meant.TheVariants.{At, Lines}
 use Rattle.access.specs.declared.record.Record.{Record}
 use Rattle.access.specs.Access.{in_bank, entry, shown_in}
 use Rattle.access.specs.Checks.{is_write, space_off}
@@ -38,16 +39,16 @@ looked-alike cells registers state r = refl
 -- ---- what the engine decides, by what the checks say
 
 module _ (cells stored : List ℕ) (f : File) (r : Record) where
-  pub decided-refused : (a : Answer) → looked_by cells f r ≡ Refused a → decided_by cells stored f r ≡ record { answer = a; effect = Nothing; pixel = false }
+  pub decided-refused : (a : Answer) → looked_by cells f r ≡ Err a → decided_by cells stored f r ≡ record { answer = a; effect = Nothing; pixel = false }
   unfolding decided_by decided_from
   decided-refused a e = ap (decided_from cells stored f r) e
 
   -- 02, 10/13
-  pub decided-lines : looked_by cells f r ≡ Lines → decided_by cells stored f r ≡ decided_write stored f passes_lines r.value
+  pub decided-lines : looked_by cells f r ≡ Ok Lines → decided_by cells stored f r ≡ decided_write stored f passes_lines r.value
   unfolding decided_by decided_from
   decided-lines e = ap (decided_from cells stored f r) e
 
-  module _ (cell : ℕ) (e : looked_by cells f r ≡ At cell) where
+  module _ (cell : ℕ) (e : looked_by cells f r ≡ Ok (At cell)) where
     decided-there : decided_by cells stored f r ≡ decided_at stored (is_write r) f (cell_place cells f cell) r.value
     unfolding decided_by decided_from
     decided-there = ap (decided_from cells stored f r) e

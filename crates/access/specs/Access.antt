@@ -1,6 +1,6 @@
 -- One access: its answer and its effect, computed from the file by what its place is; the effect applied.
 -- Assumes nothing.
-use Rattle.std.specs.Prelude.{ℕ, ◌+◌, ◌%◌, Bool, true, false, cond, not, ◌&&◌, eqb, leb, ltb, get_or}
+use Rattle.std.specs.Prelude.{ℕ, ◌+◌, ◌%◌, Bool, true, false, cond, not, ◌&&◌, eqb, leb, ltb, get_or, Result, Ok, Err}
 use Rattle.bits.specs.Store.{bit, store}
 use Rattle.file.specs.declared.answer.Answer.{Answer}
 use Rattle.file.specs.declared.answer.Answer.TheVariants.{Done, NoRegister, Malformed, ReadOnly, Locked, PaletteDown, NotSound}
@@ -22,7 +22,6 @@ use Rattle.places.specs.Lookup.{place_at}
 use Rattle.timing.specs.Timing.{timing_in}
 use Rattle.places.specs.Profile.{Reading, gives_held, gives_fixed, gives_device_id, gives_toggle, gives_palette_state, gives_vport_state, gives_dac_state, gives_address, gives_pixel, resets_toggle, gives_line, names_nothing, Writing, stores_to, read_only, sets_address, writes_pixel, stores_nothing, passes_lines, profile}
 use Rattle.access.specs.declared.access.Accessed.{Accessed}
-use Rattle.access.specs.declared.access.ReachRead.{ReachRead}
 use Rattle.access.specs.declared.record.Item.{Item}
 use Rattle.access.specs.declared.record.Item.TheVariants.{Whole, Fragment}
 use Rattle.access.specs.declared.record.Record.{Record}
@@ -185,8 +184,13 @@ unfoldable pub reach : File → Record → Reach
 reach f r = reach_of (effect f r)
 
 -- 'all other readers of a file answer 12': what a host is told of it
-unfoldable pub read_reach : File → Record → ReachRead
-read_reach f r = cond (sound f) (record { answer = Done 0; reach = reach f r }) (record { answer = NotSound; reach = reach_of Nothing })
+unfoldable pub read_reach : File → Record → Result Reach Answer
+read_reach f r = cond (sound f) (Ok (reach f r)) (Err NotSound)
+
+-- the answer beside what was read, or the refusal
+unfoldable pub answer_with : {A : Type 0} → Result A Answer → Answer
+answer_with (Ok read) = Done 0
+answer_with (Err refusal) = refusal
 
 -- 'A reply is 8 bytes: code, kind and address copied, value'
 unfoldable pub reply_to : Record → Answer → Reply

@@ -1,7 +1,7 @@
 -- What the engine goes by, and nobody beside 01 needs: answer and effect of a record in a file of which only registers and state are looked at, by
 -- whatever tables of cells and stored bits are lent. That this is 01's answer by 01's tables is a law (`decided-by-tables`).
 -- Assumes nothing.
-use Rattle.std.specs.Prelude.{ℕ, ◌/◌, Bool, false, cond, not, ◌&&◌, ◌||◌, List, eqb, ltb, get_or}
+use Rattle.std.specs.Prelude.{ℕ, ◌/◌, Bool, false, cond, not, ◌&&◌, ◌||◌, List, eqb, ltb, get_or, Result, Ok, Err}
 use Rattle.bits.specs.Store.{bit}
 use Rattle.file.specs.declared.answer.Answer.{Answer}
 use Rattle.file.specs.declared.answer.Answer.TheVariants.{Malformed, SpaceOff, NotHeld, OtherHalf, WrongWidth, OtherDirection, InsideWider}
@@ -15,8 +15,8 @@ use Rattle.places.specs.declared.place.Place.{Place}
 use Rattle.places.specs.EngineCells.{other_way_held, wider_held, is_nothing, cell_in, cell_width, cell_place, taken}
 use Rattle.places.specs.Profile.{Reading, Writing, passes_lines, profile, reads_pixel}
 use Rattle.access.specs.declared.engine.Decision.{Decision}
-use Rattle.access.specs.declared.engine.Looked.{Looked}
-use Rattle.access.specs.declared.engine.Looked.TheVariants.{Refused, At, Lines}
+use Rattle.access.specs.declared.engine.Meant.{Meant}
+use Rattle.access.specs.declared.engine.Meant.TheVariants.{At, Lines}
 use Rattle.access.specs.declared.record.Record.{Record}
 use Rattle.access.specs.Access.{locked_reach, palette_up, answer_of_read, write_answer, read_effect, write_effect, answer, effect, place_of}
 use Rattle.access.specs.Checks.{is_write, is_passing, carries, is_port, bad_access, bad_passing, space_off}
@@ -40,13 +40,13 @@ unfoldable pub lines_pass : Record → Bool
 lines_pass r = is_passing r && not (bad_passing r)
 
 -- 'Access checks run .. 2, 3, 4, 5, 6', by the cell of the record's kind and address; lines that pass are told among what is no access, and have no cell
-unfoldable pub looked_by : List ℕ → File → Record → Looked
+unfoldable pub looked_by : List ℕ → File → Record → Result Meant Answer
 looked_by cells f r =
     let cell = cell_in cells r.kind r.address in
-    cond (no_access r) (cond (lines_pass r) Lines (Refused Malformed))
-    (cond (space_off f r) (Refused SpaceOff)
-    (cond (is_nothing cell) (Refused (nothing_told cell))
-    (cond (other_row f r) (Refused OtherHalf) (cond (eqb (cell_width cell) r.width) (At cell) (Refused WrongWidth)))))
+    cond (no_access r) (cond (lines_pass r) (Ok Lines) (Err Malformed))
+    (cond (space_off f r) (Err SpaceOff)
+    (cond (is_nothing cell) (Err (nothing_told cell))
+    (cond (other_row f r) (Err OtherHalf) (cond (eqb (cell_width cell) r.width) (Ok (At cell)) (Err WrongWidth)))))
 
 -- the bits of a register that a write may change, by a table of stored bits
 unfoldable pub reach_by : List ℕ → File → ℕ → ℕ
@@ -67,10 +67,10 @@ unfoldable pub decided_at : List ℕ → Bool → File → Place → ℕ → Dec
 decided_at stored write f place value =
     cond write (decided_write stored f (profile place).writing value) (decided_read f (profile place).reading)
 
-unfoldable pub decided_from : List ℕ → List ℕ → File → Record → Looked → Decision
-decided_from cells stored f r (Refused a) = record { answer = a; effect = Nothing; pixel = false }
-decided_from cells stored f r (At cell) = decided_at stored (is_write r) f (cell_place cells f cell) r.value
-decided_from cells stored f r Lines = decided_write stored f passes_lines r.value
+unfoldable pub decided_from : List ℕ → List ℕ → File → Record → Result Meant Answer → Decision
+decided_from cells stored f r (Err a) = record { answer = a; effect = Nothing; pixel = false }
+decided_from cells stored f r (Ok (At cell)) = decided_at stored (is_write r) f (cell_place cells f cell) r.value
+decided_from cells stored f r (Ok Lines) = decided_write stored f passes_lines r.value
 
 unfoldable pub decided_by : List ℕ → List ℕ → File → Record → Decision
 decided_by cells stored f r = decided_from cells stored f r (looked_by cells f r)

@@ -7,19 +7,12 @@ use crate::engine;
 use crate::record::{Item, Record, Reply};
 use file::{Answer, File, Reach, is_sound};
 
-// What an access hands back: the file after it, its answer, and the reply that says it.
+// What an access hands back: the file after it, its answer, and the reply that says it. No `Result`: a refusal hands back the file as given.
 #[derive(Clone, Copy)]
 pub struct Accessed {
     pub file: File,
     pub answer: Answer,
     pub reply: Reply,
-}
-
-// What a reader of an access's reach hands back.
-#[derive(Clone, Copy)]
-pub struct ReachRead {
-    pub answer: Answer,
-    pub reach: Reach,
 }
 
 // A file handed back with an answer to a record, and the reply to it.
@@ -93,22 +86,15 @@ impl Record {
         handed_back(self, effect.apply(whole), answer)
     }
 
-    // What this access may change in the file: nothing for a refusal and for a plain read.
-    pub fn reach(self, whole: File) -> ReachRead
+    // What this access may change in the file: nothing for a refusal and for a plain read. An unsound file has no reach: code 12.
+    pub fn reach(self, whole: File) -> Result<Reach, Answer>
         ensures { result ≡ read_reach whole self }
     {
         if !is_sound(whole) {
-            return ReachRead {
-                answer: Answer::NotSound,
-                reach: Reach::none(),
-            };
+            return Err(Answer::NotSound);
         }
         let decision = decide_in(self, whole);
-        let effect = decision.effect;
-        ReachRead {
-            answer: Answer::Done(0),
-            reach: effect.reach(),
-        }
+        Ok(decision.effect.reach())
     }
 }
 

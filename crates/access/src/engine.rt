@@ -8,10 +8,11 @@ ghost use Rattle.file.specs.declared.answer.Answer.TheVariants.{Done as DoneAnsw
 ghost use Rattle.file.specs.declared.effect.Effect.TheVariants.{Nothing};
 ghost use Rattle.places.specs.EngineCells.{in_file};
 ghost use Rattle.places.specs.Profile.{profile, stores_to, writes_pixel, passes_lines, gives_pixel};
-ghost use Rattle.access.specs.Access.{locked_out, palette_up, in_bank, pixel_write, shown_state, v_port_state, v_sync_start, v_sync_end, line_shown, line_after, display_state};
+ghost use Rattle.access.specs.Access.{locked_out, palette_up, in_bank, pixel_write, shown_state, v_port_state, v_sync_start, v_sync_end};
+ghost use Rattle.access.specs.Access.{line_shown, line_after, display_state};
 ghost use Rattle.bits.specs.Store.{store as storeBits};
 ghost use Rattle.file.specs.Names.{B0 as B0Number};
-ghost use Rattle.access.specs.Checks.{space_off};
+ghost use Rattle.access.specs.Checks.{bad_access, bad_passing, space_off};
 ghost use Rattle.access.specs.Engine.{no_access, lines_pass, other_row, nothing_told, looked_by, reach_by, decided_write, decided_read, decided_by};
 
 use crate::record::Record;
@@ -21,149 +22,121 @@ use file::{
 };
 use places::{CELLS, OTHER_WAY_HELD, Place, WIDER_HELD};
 
-// What the common checks say: a refusal, the cell of the place to be asked, or that lines pass.
+// What a record that passes the common checks means: the place of a cell, or that lines pass.
 #[derive(Clone, Copy)]
-pub enum Looked {
-    Refused(Answer),
+pub enum Meant {
     At(u8),
     Lines,
 }
 
 // No ordinary access in good form.
+#[tactic(auto, unfolding(crate::specs::Engine::no_access))]
 fn is_no_access(asked: Record) -> bool
     ensures { result ≡ no_access asked }
 {
-    let kind = asked.kind;
-    let width = asked.width;
-    let value = asked.value;
-    if 5 < kind {
-        return true;
+    5 < asked.kind || is_bad_access(asked)
+}
+
+// An ordinary access in another form: width not 1 or 2; a write's value that doesn't fit the width; a read's value not 0.
+#[tactic(auto, unfolding(crate::specs::Checks::bad_access, crate::specs::Checks::is_write))]
+pub fn is_bad_access(asked: Record) -> bool
+    ensures { result ≡ bad_access asked }
+{
+    match (asked.kind % 2, asked.width) {
+        (1, 1) => 0x100 <= asked.value,
+        (1, 2) => 0x1_0000 <= asked.value,
+        (_, 1 | 2) => asked.value != 0,
+        _ => true,
     }
-    if kind % 2 == 1 {
-        if width == 1 {
-            return 256 <= value;
-        }
-        if width == 2 {
-            return 65536 <= value;
-        }
-        return true;
-    }
-    if width == 1 {
-        return value != 0;
-    }
-    if width == 2 {
-        return value != 0;
-    }
-    true
 }
 
 // Kind 6 in good form: lines pass.
+#[tactic(auto, unfolding(crate::specs::Engine::lines_pass, crate::specs::Checks::is_passing))]
 fn is_passing(asked: Record) -> bool
     ensures { result ≡ lines_pass asked }
 {
-    let kind = asked.kind;
-    let width = asked.width;
-    let address = asked.address;
-    let value = asked.value;
-    if kind != 6 {
-        return false;
-    }
-    if width != 2 {
-        return false;
-    }
-    if address != 0 {
-        return false;
-    }
-    if value < 1 {
-        return false;
-    }
-    value <= 65535
+    asked.kind == 6 && !is_bad_passing(asked)
 }
 
-// Code 3.
-fn is_space_off(registers: &[u16; REGISTERS], asked: Record) -> bool
+// Of kind 6: another form than width 2, address 0, value 1 to 65,535.
+#[tactic(auto, unfolding(crate::specs::Checks::bad_passing))]
+pub fn is_bad_passing(asked: Record) -> bool
+    ensures { result ≡ bad_passing asked }
+{
+    !(asked.width == 2 && asked.address == 0 && 1 <= asked.value && asked.value <= 65535)
+}
+
+// Code 3: a port access with PCI04[0]=0, or an MMIO access with PCI04[1]=0.
+pub fn is_space_off(registers: &[u16; REGISTERS], asked: Record) -> bool
     ensures { result ≡ space_off (seen registers.now unasked) asked }
 {
-    let space = asked.kind / 2;
-    let enables = registers[PCI04];
-    if space == 1 {
-        return enables % 2 == 0;
+    match asked.kind / 2 {
+        1 => registers[PCI04] % 2 == 0,
+        2 => registers[PCI04] / 2 % 2 == 0,
+        _ => false,
     }
-    if space == 2 {
-        return enables / 2 % 2 == 0;
-    }
-    false
 }
 
 // Code 5, of an address that is held: of the ports, 3B?h and 3D?h are the CRTC's.
 fn is_other_row(registers: &[u16; REGISTERS], asked: Record) -> bool
     ensures { result ≡ other_row (seen registers.now unasked) asked }
 {
-    let space = asked.kind / 2;
-    let row = asked.address / 16;
-    if space != 1 {
-        return false;
+    let half = registers[MISC] % 2;
+    match (asked.kind / 2, asked.address / 16) {
+        (1, 0x3B) => half == 1,
+        (1, 0x3D) => half == 0,
+        _ => false,
     }
-    if row == 0x3B {
-        return registers[MISC] % 2 == 1;
-    }
-    if row == 0x3D {
-        return registers[MISC] % 2 == 0;
-    }
-    false
 }
 
 // Codes 16, 17 and 4, by the cell of an address that is not held.
+#[tactic(auto, unfolding(crate::specs::Engine::nothing_told))]
 fn nothing_held(cell: u8) -> Answer
     ensures { result ≡ nothing_told cell }
 {
-    if cell == OTHER_WAY_HELD {
-        return Answer::OtherDirection;
+    match cell {
+        OTHER_WAY_HELD => Answer::OtherDirection,
+        WIDER_HELD => Answer::InsideWider,
+        _ => Answer::NotHeld,
     }
-    if cell == WIDER_HELD {
-        return Answer::InsideWider;
-    }
-    Answer::NotHeld
 }
 
 // The checks that every record passes before its place is asked, in 01's order. Lines that pass are told among what is no access.
-fn look(cells: &[u8; CELLS], registers: &[u16; REGISTERS], asked: Record) -> Looked
+fn look(cells: &[u8; CELLS], registers: &[u16; REGISTERS], asked: Record) -> Result<Meant, Answer>
     ensures { result ≡ looked_by cells.now (seen registers.now unasked) asked }
 {
     if is_no_access(asked) {
-        if is_passing(asked) {
-            return Looked::Lines;
-        }
-        return Looked::Refused(Answer::Malformed);
+        return if is_passing(asked) {
+            Ok(Meant::Lines)
+        } else {
+            Err(Answer::Malformed)
+        };
     }
     if is_space_off(registers, asked) {
-        return Looked::Refused(Answer::SpaceOff);
+        return Err(Answer::SpaceOff);
     }
     let cell = places::cell_at(cells, asked.kind, asked.address);
     if places::is_nothing(cell) {
-        return Looked::Refused(nothing_held(cell));
+        return Err(nothing_held(cell));
     }
     if is_other_row(registers, asked) {
-        return Looked::Refused(Answer::OtherHalf);
+        return Err(Answer::OtherHalf);
     }
     if places::width_of(cell) != asked.width {
-        return Looked::Refused(Answer::WrongWidth);
+        return Err(Answer::WrongWidth);
     }
-    Looked::At(cell)
+    Ok(Meant::At(cell))
 }
 
 // CR11[7] locks CR0 to CR6.
-fn is_locked_out(registers: &[u16; REGISTERS], number: usize) -> bool
+#[tactic(auto, unfolding(crate::specs::Access::locked_out))]
+pub fn is_locked_out(registers: &[u16; REGISTERS], number: usize) -> bool
     ensures { result ≡ locked_out (seen registers.now unasked) number }
 {
-    if is_locked(registers) {
-        if CR0 <= number {
-            return number <= CR6;
-        }
-    }
-    false
+    is_locked(registers) && CR0 <= number && number <= CR6
 }
 
+// CR11[7] is 1.
 pub fn is_locked(registers: &[u16; REGISTERS]) -> bool
     ensures { result ≡ crtc_locked (seen registers.now unasked) }
 {
@@ -171,14 +144,12 @@ pub fn is_locked(registers: &[u16; REGISTERS]) -> bool
 }
 
 // The bits of a register that a write may change.
+#[tactic(auto, unfolding(crate::specs::Engine::reach_by, crate::specs::Access::locked_reach))]
 fn reach_in(stored: &[u16; REGISTERS], registers: &[u16; REGISTERS], number: usize) -> u16
     requires { number < register_count }
     ensures { result ≡ reach_by stored.now (seen registers.now unasked) number }
 {
-    if number != CR7 {
-        return stored[number];
-    }
-    if is_locked(registers) {
+    if is_locked(registers) && number == CR7 {
         0x10
     } else {
         stored[number]
@@ -186,16 +157,11 @@ fn reach_in(stored: &[u16; REGISTERS], registers: &[u16; REGISTERS], number: usi
 }
 
 // B0[7] stops the palette, and so does static sync, CR1A[3:2].
+#[tactic(auto, unfolding(crate::specs::Access::palette_up, file::specs::File::seen, file::specs::File::register, bits::specs::Store::bit))]
 pub fn is_palette_up(registers: &[u16; REGISTERS]) -> bool
     ensures { result ≡ palette_up (seen registers.now unasked) }
 {
-    if registers[B0] / 128 % 2 != 0 {
-        return false;
-    }
-    if registers[CR1A] / 8 % 2 != 0 {
-        return false;
-    }
-    registers[CR1A] / 4 % 2 == 0
+    registers[B0] / 128 % 2 == 0 && registers[CR1A] / 8 % 2 == 0 && registers[CR1A] / 4 % 2 == 0
 }
 
 // The pointer's entry is one of the bank's.
@@ -203,13 +169,6 @@ pub fn is_in_bank(registers: &[u16; REGISTERS]) -> bool
     ensures { result ≡ in_bank (seen registers.now unasked) }
 {
     registers[B0] / 8 % 2 == 1
-}
-
-// A value's low byte.
-fn low(value: u16) -> u8
-    ensures { result ≡ value % 256 }
-{
-    (value % 256) as u8
 }
 
 // The number of the entry that an address names.
@@ -224,6 +183,7 @@ pub fn entry_number(bank: bool, address: u8) -> usize
 }
 
 // What an access answers and what it does, and whether what was read is the pixel that the pointer names: the answer then has 0 for it.
+// No `Result`: code 1 is no refusal and may flip the toggle, so answer and effect both count.
 #[derive(Clone, Copy)]
 pub struct Decision {
     pub answer: Answer,
@@ -304,7 +264,7 @@ fn write_pixel(registers: &[u16; REGISTERS], state: State, value: u16) -> Decisi
     ensures { result ≡ decided_write [] (seen registers.now state) writes_pixel value }
 {
     if is_palette_up(registers) {
-        done(pixel_write(registers, state, low(value)))
+        done(pixel_write(registers, state, (value % 256) as u8))
     } else {
         only(Answer::PaletteDown)
     }
@@ -318,18 +278,12 @@ pub fn line_shown(registers: &[u16; REGISTERS], state: State) -> u16
 }
 
 // The line after some more. The sum may pass 16 bits.
-fn line_after(registers: &[u16; REGISTERS], state: State, lines: u16) -> u16
+pub fn line_after(registers: &[u16; REGISTERS], state: State, lines: u16) -> u16
     ensures { result ≡ line_after (seen registers.now state) lines }
 {
     let total = timing::v_total(registers).0;
-    let sum = wide(state.line % total) + wide(lines);
-    (sum % wide(total)) as u16
-}
-
-fn wide(number: u16) -> u32
-    ensures { result ≡ number }
-{
-    number as u32
+    let sum = u32::from(state.line % total) + u32::from(lines);
+    (sum % u32::from(total)) as u16
 }
 
 // Lines pass.
@@ -354,8 +308,8 @@ fn write_at(
         Place::Register(number) => write_register(stored, registers, number, false, value),
         Place::Attribute(number) => write_register(stored, registers, number, true, value),
         Place::PaletteState => write_register(stored, registers, B0, false, value),
-        Place::ReadAddress => done(Effect::Move(Pointer::addressed(true, low(value)))),
-        Place::WriteAddress => done(Effect::Move(Pointer::addressed(false, low(value)))),
+        Place::ReadAddress => done(Effect::Move(Pointer::addressed(true, (value % 256) as u8))),
+        Place::WriteAddress => done(Effect::Move(Pointer::addressed(false, (value % 256) as u8))),
         Place::PixelData => write_pixel(registers, state, value),
         Place::UnnamedAttribute => Decision {
             answer: Answer::NoRegister,
@@ -363,13 +317,13 @@ fn write_at(
             pixel: false,
         },
         Place::Unnamed => only(Answer::NoRegister),
-        Place::Fixed(_) => only(Answer::ReadOnly),
-        Place::ToggleState => only(Answer::ReadOnly),
-        Place::AttributeIndex => only(Answer::ReadOnly),
-        Place::ToggleReset => only(Answer::ReadOnly),
-        Place::DeviceId => only(Answer::ReadOnly),
         Place::VPortState => write_register(stored, registers, CAPTURE_Y_START, false, value),
-        Place::CurrentLine => only(Answer::ReadOnly),
+        Place::Fixed(_)
+        | Place::ToggleState
+        | Place::AttributeIndex
+        | Place::ToggleReset
+        | Place::DeviceId
+        | Place::CurrentLine => only(Answer::ReadOnly),
         Place::Passing => pass_lines(registers, state, value),
     }
 }
@@ -417,13 +371,11 @@ pub fn v_port_state(registers: &[u16; REGISTERS], state: State) -> u16
 }
 
 // A line is in vertical sync.
+#[tactic(auto, unfolding(crate::specs::Access::v_sync_start, crate::specs::Access::v_sync_end))]
 fn is_in_sync(registers: &[u16; REGISTERS], line: u16) -> bool
     ensures { result ≡ (leb (v_sync_start (seen registers.now unasked)) line && ltb line (v_sync_end (seen registers.now unasked))) }
 {
-    if line < timing::v_sync_start(registers).0 {
-        return false;
-    }
-    line < timing::v_sync_end(registers).0
+    timing::v_sync_start(registers).0 <= line && line < timing::v_sync_end(registers).0
 }
 
 // What 3?Ah reads: bit 3 in vertical sync, bit 0 past the display.
@@ -436,7 +388,7 @@ pub fn display_state(registers: &[u16; REGISTERS], state: State) -> u16
     shown(sync, 0x08) + shown(past, 0x01)
 }
 
-// A bit that reads 1 or not.
+// A bit that reads 1 or not: its callers add two of them up.
 fn shown(on: bool, bit: u16) -> u16
     ensures { result ≡ cond on bit 0 }
 {
@@ -450,8 +402,9 @@ fn read_at(registers: &[u16; REGISTERS], state: State, place: Place) -> Decision
 {
     let pointer = state.pointer;
     match place {
-        Place::Register(number) => only(Answer::Done(registers[number])),
-        Place::Attribute(number) => only(Answer::Done(registers[number])),
+        Place::Register(number) | Place::Attribute(number) => {
+            only(Answer::Done(registers[number]))
+        }
         Place::Fixed(value) => only(Answer::Done(value)),
         Place::ToggleState => only(Answer::Done(if state.toggle { 0x80 } else { 0 })),
         Place::AttributeIndex => only(Answer::Done(registers[ARX])),
@@ -464,20 +417,11 @@ fn read_at(registers: &[u16; REGISTERS], state: State, place: Place) -> Decision
             effect: Effect::Toggle(false),
             pixel: false,
         },
-        Place::Unnamed => only(Answer::NoRegister),
-        Place::UnnamedAttribute => only(Answer::NoRegister),
+        Place::Unnamed | Place::UnnamedAttribute | Place::Passing => only(Answer::NoRegister),
         Place::DeviceId => only(Answer::Done(device_id(state))),
         Place::VPortState => only(Answer::Done(v_port_state(registers, state))),
         Place::CurrentLine => only(Answer::Done(line_shown(registers, state))),
-        Place::Passing => only(Answer::NoRegister),
     }
-}
-
-fn word(value: u32) -> u16
-    requires { value < 65536 }
-    ensures { result ≡ value }
-{
-    value as u16
 }
 
 // Answer and effect of a record in a file of these registers and this state.
@@ -491,12 +435,12 @@ pub fn decide(
     ensures { result ≡ decided_by cells.now stored.now (seen registers.now state) asked }
 {
     match look(cells, registers, asked) {
-        Looked::Refused(answer) => only(answer),
-        Looked::Lines => pass_lines(registers, state, word(asked.value)),
-        Looked::At(cell) => {
+        Err(answer) => only(answer),
+        Ok(Meant::Lines) => pass_lines(registers, state, asked.value as u16),
+        Ok(Meant::At(cell)) => {
             let place = places::place_of(cells, registers, state, cell);
             if asked.kind % 2 == 1 {
-                write_at(stored, registers, state, place, word(asked.value))
+                write_at(stored, registers, state, place, asked.value as u16)
             } else {
                 read_at(registers, state, place)
             }

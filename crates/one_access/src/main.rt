@@ -12,10 +12,6 @@ fn mix(sum: u64, more: u64) -> u64 {
     (sum % 0x1_0000_0000) * 31 + more % 0x1_0000_0000
 }
 
-fn to_u64(x: u8) -> u64 {
-    x as u64
-}
-
 // Power-on, with ports and MMIO on.
 fn opened() -> File {
     let on = Record {
@@ -31,8 +27,7 @@ fn opened() -> File {
 fn access_many(file: File, times: u64) -> u64 {
     let mut current = file;
     let mut sum = 0;
-    let mut left = times;
-    while left > 0 {
+    for _ in 0..times {
         let asked = Record {
             kind: 3,
             width: 1,
@@ -40,11 +35,8 @@ fn access_many(file: File, times: u64) -> u64 {
             value: 5,
         };
         let done = asked.access(current);
-        let answer = done.answer;
-        let after = done.file;
-        current = after;
-        sum = mix(sum, to_u64(answer.code()));
-        left -= 1;
+        current = done.file;
+        sum = mix(sum, u64::from(done.answer.code()));
     }
     sum
 }
@@ -52,6 +44,6 @@ fn access_many(file: File, times: u64) -> u64 {
 fn main(rt: HostRuntime) -> io::Result<()> {
     let mut word = [0u8; 16];
     let _ = rt.arg(2, &mut word);
-    let times = to_u64(word[0]) % 16 * 100;
+    let times = u64::from(word[0]) % 16 * 100;
     rt.println(access_many(opened(), times))
 }

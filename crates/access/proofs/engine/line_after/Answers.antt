@@ -10,18 +10,18 @@ nonzero_rem-state c = total-some c.args.registers.now c.args.state c.v_total-tot
 
 pub overflow_add-sum : goal.overflow_add-sum
 overflow_add-sum c =
-    omega (arith, c.wide.ensures, c.wide-2.ensures, mod-lt c.args.state.line ((total-some c.args.registers.now c.args.state c.v_total-total.result c.v_total-total.ensures)), total-fits c.args.registers.now c.args.state c.v_total-total.result c.v_total-total.ensures)
+    omega (arith, c.from.ensures, c.from-2.ensures, mod-lt c.args.state.line ((total-some c.args.registers.now c.args.state c.v_total-total.result c.v_total-total.ensures)), total-fits c.args.registers.now c.args.state c.v_total-total.result c.v_total-total.ensures)
 
 pub nonzero_rem-result : goal.nonzero_rem-result
-nonzero_rem-result c = omega (arith, c.wide-3.ensures, (total-some c.args.registers.now c.args.state c.v_total-total.result c.v_total-total.ensures))
+nonzero_rem-result c = omega (arith, c.from-3.ensures, (total-some c.args.registers.now c.args.state c.v_total-total.result c.v_total-total.ensures))
 
 pub returns : goal.returns
 returns c =
-    rw (c.wide-3.ensures, c.wide-2.ensures, c.wide.ensures)
+    rw (c.from-3.ensures, c.from-2.ensures, c.from.ensures)
     (after-by c.args.registers.now c.args.state c.v_total-total.result c.v_total-total.ensures _)
 
 pub overflow_cast-result : goal.overflow_cast-result
 overflow_cast-result c =
-    let some : 0 < c.wide-3.result =
-    omega (arith, c.wide-3.ensures, total-some c.args.registers.now c.args.state c.v_total-total.result c.v_total-total.ensures) in
-    omega (arith, mod-lt (c.wide.result + c.wide-2.result) some, c.wide-3.ensures, total-fits c.args.registers.now c.args.state c.v_total-total.result c.v_total-total.ensures)
+    let some : 0 < c.from-3.result =
+    omega (arith, c.from-3.ensures, total-some c.args.registers.now c.args.state c.v_total-total.result c.v_total-total.ensures) in
+    omega (arith, mod-lt (c.from.result + c.from-2.result) some, c.from-3.ensures, total-fits c.args.registers.now c.args.state c.v_total-total.result c.v_total-total.ensures)

@@ -1,7 +1,7 @@
 -- `look` meets its contract. Assumes nothing.
 use mathlib.Core.Path.{sym, ap, ◌∙◌}
 use borrow.Author.Tests.{eq-eqb, ne_eqb}
-use Rattle.access.specs.declared.engine.Looked.TheVariants.{Refused}
+use Rattle.std.specs.Prelude.{Err}
 use Rattle.access.specs.Engine.{looked_by}
 use Rattle.access.proofs.engine.look.Goals as goal
 
@@ -9,9 +9,9 @@ pub returns-then-is_passing : goal.returns-then-is_passing
 unfolding looked_by
 returns-then-is_passing c = rw (sym c.is_no_access.ensures ∙ c.if-is_no_access.true, sym c.is_passing.ensures ∙ c.if-is_passing.true)
 
-pub returns-then-is_no_access : goal.returns-then-is_no_access
+pub returns-else-is_passing : goal.returns-else-is_passing
 unfolding looked_by
-returns-then-is_no_access c = rw (sym c.is_no_access.ensures ∙ c.if-is_no_access.true, sym c.is_passing.ensures ∙ c.if-is_passing.false)
+returns-else-is_passing c = rw (sym c.is_no_access.ensures ∙ c.if-is_no_access.true, sym c.is_passing.ensures ∙ c.if-is_passing.false)
 
 pub returns-then-is_space_off : goal.returns-then-is_space_off
 unfolding looked_by
@@ -19,7 +19,7 @@ returns-then-is_space_off c = rw (sym c.is_no_access.ensures ∙ c.if-is_no_acce
 
 pub returns-then-is_nothing : goal.returns-then-is_nothing
 unfolding looked_by
-returns-then-is_nothing c = rw (sym c.is_no_access.ensures ∙ c.if-is_no_access.false, sym c.is_space_off.ensures ∙ c.if-is_space_off.false, ← c.cell_at-cell.ensures, sym c.is_nothing.ensures ∙ c.if-is_nothing.true) (ap Refused c.nothing_held.ensures)
+returns-then-is_nothing c = rw (sym c.is_no_access.ensures ∙ c.if-is_no_access.false, sym c.is_space_off.ensures ∙ c.if-is_space_off.false, ← c.cell_at-cell.ensures, sym c.is_nothing.ensures ∙ c.if-is_nothing.true) (ap Err c.nothing_held.ensures)
 
 pub returns-then-is_other_row : goal.returns-then-is_other_row
 unfolding looked_by

@@ -7,8 +7,8 @@ use Rattle.access.proofs.engine.pixel_write.Goals as goal
 
 pub returns-then-not-stores : goal.returns-then-not-stores
 unfolding pixel_write seen
-returns-then-not-stores c = rw (sym c.stores.ensures ∙ not-true _ c.if-not-stores.true-raw, c.marks-marks.ensures, c.after_write-after.ensures)
+returns-then-not-stores c = rw (sym c.stores.ensures ∙ c.if-not-stores.true, c.marks-marks.ensures, c.after_write-after.ensures)
 
 pub returns : goal.returns
 unfolding pixel_write entry_number in_bank seen register
-returns c = rw (sym c.stores.ensures ∙ not-false _ c.if-not-stores.false-raw, c.mixed.ensures, c.entry_number-entry.ensures, c.is_in_bank-bank.ensures, c.marks-marks.ensures, c.after_write-after.ensures)
+returns c = rw (sym c.stores.ensures ∙ c.if-not-stores.false, c.mixed.ensures, c.entry_number-entry.ensures, c.is_in_bank-bank.ensures, c.marks-marks.ensures, c.after_write-after.ensures)

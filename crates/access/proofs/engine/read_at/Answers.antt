@@ -8,6 +8,7 @@ use Rattle.places.specs.Profile.{profile, reads_pixel}
 use Rattle.access.proofs.PassedChecks.{register-below, attribute-below}
 use mathlib.Core.Path.{◌≡◌, refl, sym, ap, ◌∙◌}
 use Prim.Native.Nat.{ℕ}
+use mathlib.Core.Logic.{inl, inr}
 use mathlib.Core.Bool.{cond, false}
 use Rattle.file.specs.declared.answer.Answer.TheVariants.{Done}
 use Rattle.file.specs.declared.effect.Effect.TheVariants.{Nothing}
@@ -15,28 +16,24 @@ use Rattle.access.proofs.engine.read_at.Goals as goal
 use Rattle.access.proofs.engine.read_at.Goals.{then-state, else-state}
 
 pub offset_bounds-registers-number : goal.offset_bounds-registers-number
-offset_bounds-registers-number c = record { fits = omega (arith, register-below _ _ c.in-Register.is c.requires) }
+offset_bounds-registers-number c =
+    elim c.in-Register.is [
+      | inl e ↦ record { fits = omega (arith, register-below _ _ e c.requires) }
+      | inr e ↦ record { fits = omega (arith, attribute-below _ _ e c.requires) }
+    ]
 
 pub bounds-registers-number : goal.bounds-registers-number
-bounds-registers-number c = register-below _ _ c.in-Register.is c.requires
-
-pub offset_bounds-registers-number-in-Attribute : goal.offset_bounds-registers-number-in-Attribute
-offset_bounds-registers-number-in-Attribute c = record { fits = omega (arith, attribute-below _ _ c.in-Attribute.is c.requires) }
-
-pub bounds-registers-number-in-Attribute : goal.bounds-registers-number-in-Attribute
-bounds-registers-number-in-Attribute c = attribute-below _ _ c.in-Attribute.is c.requires
+bounds-registers-number c =
+    elim c.in-Register.is [ inl e ↦ register-below _ _ e c.requires | inr e ↦ attribute-below _ _ e c.requires ]
 
 pub returns-in-Register : goal.returns-in-Register
 unfolding profile decided_read answer_of_read read_effect reads_pixel refused code_of seen register
-returns-in-Register c = rw c.in-Register.is c.only.ensures
-
-pub returns-in-Attribute : goal.returns-in-Attribute
-unfolding profile decided_read answer_of_read read_effect reads_pixel refused code_of seen register
-returns-in-Attribute c = rw c.in-Attribute.is c.only-in-Attribute.ensures
+returns-in-Register c =
+    elim c.in-Register.is [ inl e ↦ rw e c.only-in-Register.ensures | inr e ↦ rw e c.only-in-Register.ensures ]
 
 pub returns-in-Fixed : goal.returns-in-Fixed
 unfolding profile decided_read answer_of_read read_effect reads_pixel refused code_of seen register
-returns-in-Fixed c = rw c.in-Fixed.is c.only-in-Fixed.ensures
+returns-in-Fixed c = rw c.in-Fixed.is c.only.ensures
 
 pub returns-after-state : goal.returns-after-state
 unfolding profile decided_read answer_of_read read_effect reads_pixel refused code_of seen register
@@ -71,11 +68,11 @@ returns-in-ToggleReset c = rw (c.in-ToggleReset.is, ← c.display_state.ensures)
 
 pub returns-in-Unnamed : goal.returns-in-Unnamed
 unfolding profile decided_read answer_of_read read_effect reads_pixel refused code_of seen register
-returns-in-Unnamed c = rw c.in-Unnamed.is c.only-in-Unnamed.ensures
-
-pub returns-in-UnnamedAttribute : goal.returns-in-UnnamedAttribute
-unfolding profile decided_read answer_of_read read_effect reads_pixel refused code_of seen register
-returns-in-UnnamedAttribute c = rw c.in-UnnamedAttribute.is c.only-in-UnnamedAttribute.ensures
+returns-in-Unnamed c =
+    elim c.in-Unnamed.is [
+      | inl e ↦ rw e c.only-in-Unnamed.ensures
+      | inr a ↦ elim a [ inl e ↦ rw e c.only-in-Unnamed.ensures | inr e ↦ rw e c.only-in-Unnamed.ensures ]
+    ]
 
 pub returns-in-DeviceId : goal.returns-in-DeviceId
 unfolding profile decided_read answer_of_read read_effect reads_pixel refused code_of seen register
@@ -88,7 +85,3 @@ returns-in-VPortState c = rw (c.in-VPortState.is, ← c.v_port_state.ensures) c.
 pub returns-in-CurrentLine : goal.returns-in-CurrentLine
 unfolding profile decided_read answer_of_read read_effect reads_pixel refused code_of seen register
 returns-in-CurrentLine c = rw (c.in-CurrentLine.is, ← c.line_shown.ensures) c.only-in-CurrentLine.ensures
-
-pub returns-in-Passing : goal.returns-in-Passing
-unfolding profile decided_read answer_of_read read_effect reads_pixel refused code_of seen register
-returns-in-Passing c = rw c.in-Passing.is c.only-in-Passing.ensures

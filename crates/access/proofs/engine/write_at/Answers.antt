@@ -6,6 +6,7 @@ use Rattle.file.specs.File.{seen, register, crtc_locked}
 use Rattle.places.specs.EngineCells.{taken}
 use Rattle.places.specs.Profile.{profile}
 use Rattle.access.proofs.PassedChecks.{register-below, attribute-below}
+use mathlib.Core.Logic.{inl, inr}
 use Rattle.access.proofs.engine.write_at.Goals as goal
 
 pub write_register-requires : goal.write_register-requires
@@ -28,11 +29,11 @@ returns-in-PaletteState c = rw c.in-PaletteState.is c.write_register-in-PaletteS
 
 pub returns-in-ReadAddress : goal.returns-in-ReadAddress
 unfolding profile decided_write write_answer write_effect taken locked_out crtc_locked reach_by refused code_of seen register
-returns-in-ReadAddress c = rw (c.in-ReadAddress.is, ← c.low.ensures, ← c.addressed.ensures) c.done.ensures
+returns-in-ReadAddress c = rw (c.in-ReadAddress.is, ← c.addressed.ensures) c.done.ensures
 
 pub returns-in-WriteAddress : goal.returns-in-WriteAddress
 unfolding profile decided_write write_answer write_effect taken locked_out crtc_locked reach_by refused code_of seen register
-returns-in-WriteAddress c = rw (c.in-WriteAddress.is, ← c.low-in-WriteAddress.ensures, ← c.addressed-in-WriteAddress.ensures) c.done-in-WriteAddress.ensures
+returns-in-WriteAddress c = rw (c.in-WriteAddress.is, ← c.addressed-in-WriteAddress.ensures) c.done-in-WriteAddress.ensures
 
 pub returns-in-PixelData : goal.returns-in-PixelData
 unfolding profile decided_write write_answer write_effect taken locked_out crtc_locked reach_by refused code_of seen register
@@ -48,31 +49,27 @@ returns-in-Unnamed c = rw c.in-Unnamed.is c.only.ensures
 
 pub returns-in-Fixed : goal.returns-in-Fixed
 unfolding profile decided_write write_answer write_effect taken locked_out crtc_locked reach_by refused code_of seen register
-returns-in-Fixed c = rw c.in-Fixed.is c.only-in-Fixed.ensures
-
-pub returns-in-ToggleState : goal.returns-in-ToggleState
-unfolding profile decided_write write_answer write_effect taken locked_out crtc_locked reach_by refused code_of seen register
-returns-in-ToggleState c = rw c.in-ToggleState.is c.only-in-ToggleState.ensures
-
-pub returns-in-AttributeIndex : goal.returns-in-AttributeIndex
-unfolding profile decided_write write_answer write_effect taken locked_out crtc_locked reach_by refused code_of seen register
-returns-in-AttributeIndex c = rw c.in-AttributeIndex.is c.only-in-AttributeIndex.ensures
-
-pub returns-in-ToggleReset : goal.returns-in-ToggleReset
-unfolding profile decided_write write_answer write_effect taken locked_out crtc_locked reach_by refused code_of seen register
-returns-in-ToggleReset c = rw c.in-ToggleReset.is c.only-in-ToggleReset.ensures
-
-pub returns-in-DeviceId : goal.returns-in-DeviceId
-unfolding profile decided_write write_answer write_effect taken locked_out crtc_locked reach_by refused code_of seen register
-returns-in-DeviceId c = rw c.in-DeviceId.is c.only-in-DeviceId.ensures
+returns-in-Fixed c =
+    elim c.in-Fixed.is [
+      | inl (v, e) ↦ rw e c.only-in-Fixed.ensures
+      | inr a ↦
+          elim a [
+            | inl e ↦ rw e c.only-in-Fixed.ensures
+            | inr b ↦
+                elim b [
+                  | inl e ↦ rw e c.only-in-Fixed.ensures
+                  | inr d ↦
+                      elim d [
+                        | inl e ↦ rw e c.only-in-Fixed.ensures
+                        | inr f ↦ elim f [ inl e ↦ rw e c.only-in-Fixed.ensures | inr e ↦ rw e c.only-in-Fixed.ensures ]
+                      ]
+                ]
+          ]
+    ]
 
 pub returns-in-VPortState : goal.returns-in-VPortState
 unfolding profile decided_write write_answer write_effect taken locked_out crtc_locked reach_by refused code_of seen register
 returns-in-VPortState c = rw c.in-VPortState.is c.write_register-in-VPortState.ensures
-
-pub returns-in-CurrentLine : goal.returns-in-CurrentLine
-unfolding profile decided_write write_answer write_effect taken locked_out crtc_locked reach_by refused code_of seen register
-returns-in-CurrentLine c = rw c.in-CurrentLine.is c.only-in-CurrentLine.ensures
 
 pub returns-in-Passing : goal.returns-in-Passing
 unfolding profile decided_write write_answer write_effect taken locked_out crtc_locked reach_by refused code_of seen register

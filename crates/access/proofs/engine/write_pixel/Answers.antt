@@ -9,7 +9,7 @@ use Rattle.access.proofs.engine.write_pixel.Goals as goal
 
 pub returns-then-is_palette_up : goal.returns-then-is_palette_up
 unfolding decided_write write_answer write_effect taken refused code_of palette_up seen register
-returns-then-is_palette_up c = rw (sym c.is_palette_up.ensures ∙ c.if-is_palette_up.true, ← c.low.ensures, ← c.pixel_write.ensures) c.done.ensures
+returns-then-is_palette_up c = rw (sym c.is_palette_up.ensures ∙ c.if-is_palette_up.true, ← c.pixel_write.ensures) c.done.ensures
 
 pub returns-else-is_palette_up : goal.returns-else-is_palette_up
 unfolding decided_write write_answer write_effect taken refused code_of palette_up seen register

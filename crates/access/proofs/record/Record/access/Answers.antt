@@ -13,12 +13,12 @@ pub returns-then-not-is_sound : goal.returns-then-not-is_sound
 unfolding access apply
 returns-then-not-is_sound c =
     let start = c.args in
-    let unsound = sym c.is_sound.ensures ∙ not-true _ c.if-not-is_sound.true-raw in
+    let unsound = sym c.is_sound.ensures ∙ c.if-not-is_sound.true in
     c.handed_back.ensures
     ∙ (λ i. handed start.self (apply (sym (unsound-effect start.whole start.self unsound) i) start.whole) (sym (unsound-answer start.whole start.self unsound) i))
 
 pub decide_in-decision-requires : goal.decide_in-decision-requires
-decide_in-decision-requires c = passes _ (sym c.is_sound.ensures ∙ not-false _ c.if-not-is_sound.false-raw)
+decide_in-decision-requires c = passes _ (sym c.is_sound.ensures ∙ c.if-not-is_sound.false)
 
 pub returns : goal.returns
 unfolding access decision

@@ -1,8 +1,8 @@
 -- `reach` meets its contract. Assumes nothing.
 use mathlib.Core.Path.{sym, ap, ◌∙◌}
 use borrow.Author.Tests.{not-true, not-false}
+use Rattle.std.specs.Prelude.{Ok}
 use Rattle.bits.proofs.Test.{passes}
-use Rattle.file.specs.declared.answer.Answer.TheVariants.{Done, NotSound}
 use Rattle.file.specs.Effects.{reach_of}
 use Rattle.access.specs.Access.{reach, read_reach}
 use Rattle.access.specs.declared.engine.Decision.{Decision}
@@ -11,15 +11,13 @@ use Rattle.access.proofs.record.Record.reach.Goals as goal
 
 pub returns-then-not-is_sound : goal.returns-then-not-is_sound
 unfolding read_reach
-returns-then-not-is_sound c =
-    rw (sym c.is_sound.ensures ∙ not-true _ c.if-not-is_sound.true-raw)
-    (λ i. record { answer = NotSound; reach = c.none.ensures i })
+returns-then-not-is_sound c = rw (sym c.is_sound.ensures ∙ c.if-not-is_sound.true)
 
 pub decide_in-decision-requires : goal.decide_in-decision-requires
-decide_in-decision-requires c = passes _ (sym c.is_sound.ensures ∙ not-false _ c.if-not-is_sound.false-raw)
+decide_in-decision-requires c = passes _ (sym c.is_sound.ensures ∙ c.if-not-is_sound.false)
 
 pub returns : goal.returns
 unfolding read_reach reach decision
 returns c =
-    rw (sym c.is_sound.ensures ∙ not-false _ c.if-not-is_sound.false-raw)
-    (λ i. record { answer = Done 0; reach = (c.reach.ensures ∙ ap (λ (d : Decision). reach_of d.effect) c.decide_in-decision.ensures) i })
+    rw (sym c.is_sound.ensures ∙ c.if-not-is_sound.false)
+    (ap Ok (c.reach.ensures ∙ ap (λ (d : Decision). reach_of d.effect) c.decide_in-decision.ensures))
