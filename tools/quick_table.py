@@ -13,14 +13,12 @@ import pathlib
 import random
 import re
 import sys
-import textwrap
 
 ROOT = pathlib.Path(__file__).resolve().parent.parent
 CELLS = ROOT / "crates" / "places" / "src" / "decode.rt"
 FILE = ROOT / "crates" / "quick" / "src" / "slots.rt"
 SLOTS = 512
 SHIFT = 21
-WIDTH = 99
 FIRST_PORT, PORTS, CONFIG_SPACE, CONFIG, MMIO = 0x3B0, 48, 288, 6, 0x110
 CONFIG_IN_MMIO = 0x300
 NOTHING = 0x7D
@@ -79,15 +77,10 @@ def multiplier_for(keys, first):
     return multiplier
 
 
-def numbers(name, form, values):
-    row = " ".join(f"{form % value if value else 0}," for value in values)
-    rows = textwrap.wrap(row, WIDTH, initial_indent="    ", subsequent_indent="    ")
-    return f"const {name}: [u32; SLOTS] = [\n" + "\n".join(rows) + "\n];\n"
-
-
-def octets(name, values):
-    rows = ("".join(f"\\x{value:02X}" for value in values[i:i + 16]) for i in range(0, SLOTS, 16))
-    return f'const {name}: [u8; SLOTS] = *b"\\\n' + "\\\n".join(rows) + '";\n'
+def row(slot):
+    if not slot[0]:
+        return "    EMPTY,"
+    return "    slot!(0x%08X, %d, %d, 0x%02X)," % slot
 
 
 def written(before):
@@ -97,14 +90,10 @@ def written(before):
     table = [(0, 0, 0, 0)] * SLOTS
     for slot in held_slots:
         table[place(slot[0], multiplier)] = slot
-    keys, limits, classes, named = zip(*table)
-    return "\n".join((HEAD.replace("@", str(multiplier)), numbers("KEYS", "0x%08X", keys),
-                      numbers("LIMITS", "%d", limits), octets("CLASSES", classes),
-                      octets("NAMED", named), TAIL))
+    return HEAD.replace("@", str(multiplier)) + "\n".join(map(row, table)) + TAIL
 
 
 HEAD = r"""// Written by tools/quick_table.py: a slot for each kind, width and address that is held, found by a record's first four bytes as one number, its key.
-// The limit is the first value that doesn't fit, and 0 where no key has the slot; the class is what may refuse; the cell is the place's.
 ghost use Rattle.std.specs.Prelude.{T, ◌<◌};
 ghost use Rattle.file.specs.declared.chip.Chip.TheVariants.{Gd5462, Gd5464};
 ghost use Rattle.places.specs.EngineCells.{cell_table};
@@ -115,33 +104,52 @@ pub const SLOTS: usize = 512;
 const MULTIPLIER: u64 = @;
 
 const DIVISOR: u64 = 2_097_152;
-"""
 
-TAIL = """#[derive(Clone, Copy)]
-pub struct Slots {
-    pub keys: [u32; SLOTS],
-    pub limits: [u32; SLOTS],
-    pub classes: [u8; SLOTS],
-    pub named: [u8; SLOTS],
+// The limit is the first value that doesn't fit, and 0 where no key has the slot; the class is what may refuse; the cell is the place's.
+#[derive(Clone, Copy)]
+pub struct Slot {
+    pub key: u32,
+    pub limit: u32,
+    pub class: u8,
+    pub cell: u8,
 }
 
-// The slots of both chips.
-pub fn all_slots() -> Slots
-    ensures { T (slots_true (cell_table Gd5462) result.keys result.limits result.classes result.named) × T (slots_true (cell_table Gd5464) result.keys result.limits result.classes result.named) }
+const EMPTY: Slot = Slot {
+    key: 0,
+    limit: 0,
+    class: 0,
+    cell: 0,
+};
+
+macro_rules! slot {
+    ($key:expr, $limit:expr, $class:expr, $cell:expr) => {
+        Slot {
+            key: $key,
+            limit: $limit,
+            class: $class,
+            cell: $cell,
+        }
+    };
+}
+
+static TABLE: [Slot; SLOTS] = [
+"""
+
+TAIL = """
+];
+
+// The slots of both chips, lent.
+pub fn all_slots() -> &'static [Slot; SLOTS]
+    ensures { T (slots_true (cell_table Gd5462) result.now) × T (slots_true (cell_table Gd5464) result.now) }
 {
-    Slots {
-        keys: KEYS,
-        limits: LIMITS,
-        classes: CLASSES,
-        named: NAMED,
-    }
+    &TABLE
 }
 
 // Where a key may stand.
 pub fn slot_of(key: u32) -> usize
     ensures { result < 512 }
 {
-    (key as u64 * MULTIPLIER / DIVISOR % 512) as usize
+    (u64::from(key) * MULTIPLIER / DIVISOR % 512) as usize
 }
 """
 

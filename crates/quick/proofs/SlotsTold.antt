@@ -21,24 +21,22 @@ use Rattle.file.specs.State.{initial, toggling}
 use Rattle.places.specs.Lookup.{selects, first, place_of_row, other_way, some_row, held_in, is_wider, inside_in}
 use Rattle.places.specs.Places.{places}
 use Rattle.places.specs.EngineCells.{other_way_held, wider, is_nothing, cell_width, cell_in, cell_place, behind_arx, behind_cell, plain_cell, indexed_cell, of_kind, of_address, rows_in, rows_at, cell_of, held_cell, nothing_at, cell_at, chosen, cells_from, behind_port, tabled, table_cell, cell_table}
-use Rattle.access.specs.declared.engine.Looked.TheVariants.{Refused, At}
+use Rattle.std.specs.Prelude.{Err, Ok}
+use Rattle.access.specs.declared.engine.Meant.TheVariants.{At}
 use Rattle.access.specs.Checks.{is_write, is_port, is_mmio, bad_access, space_off}
 use Rattle.access.specs.Engine.{no_access, other_row, looked_by}
 use Rattle.access.proofs.PassedChecks.{word_fits}
 use Rattle.quick.specs.Classes.{class_of, codes_of}
-use Rattle.quick.specs.Slots.{by_the_key, limit_fits, slot_true, slots_true}
+use Rattle.quick.specs.Slots.{by_the_key, limit_fits, slot_true, slots_true, empty}
+use Rattle.quick.specs.declared.slots.Slot.{Slot}
 
 -- each slot, and what stands past them
-pub slot_at : (cells keys limits classes named : List ℕ) → T (slots_true cells keys limits classes named) → (i : ℕ)
-    → T (slot_true cells (get_or keys i 0) (get_or limits i 0) (get_or classes i 0) (get_or named i 0))
+pub slot_at : (cells : List ℕ) (slots : List Slot) → T (slots_true cells slots) → (i : ℕ)
+    → T (slot_true cells (get_or slots i empty).key (get_or slots i empty).limit (get_or slots i empty).class (get_or slots i empty).cell)
 unfolding slots_true slot_true
-slot_at cells keys [] classes named t i = tt
-slot_at cells [] (l ∷ limits) classes named t i = absurd t
-slot_at cells (k ∷ keys) (l ∷ limits) [] named t i = absurd t
-slot_at cells (k ∷ keys) (l ∷ limits) (c ∷ classes) [] t i = absurd t
-slot_at cells (k ∷ keys) (l ∷ limits) (c ∷ classes) (n ∷ named) t zero = left (slot_true cells k l c n) (slots_true cells keys limits classes named) t
-slot_at cells (k ∷ keys) (l ∷ limits) (c ∷ classes) (n ∷ named) t (suc i) =
-    slot_at cells keys limits classes named (right (slot_true cells k l c n) (slots_true cells keys limits classes named) t) i
+slot_at cells [] t i = tt
+slot_at cells (s ∷ slots) t zero = left (slot_true cells s.key s.limit s.class s.cell) (slots_true cells slots) t
+slot_at cells (s ∷ slots) t (suc i) = slot_at cells slots (right (slot_true cells s.key s.limit s.class s.cell) (slots_true cells slots) t) i
 
 module _ (cells : List ℕ) (key limit class cell value : ℕ) (t : T (slot_true cells key limit class cell)) (fits : value < limit) where
   abbrev Kind : ℕ
@@ -130,7 +128,7 @@ module _ (cells : List ℕ) (key limit class cell value : ℕ) (t : T (slot_true
 
   -- the checks, of which those of the class are left
   pub looks : (f : File) → looked_by cells f (by_the_key key value)
-      ≡ cond (space_off f (by_the_key key value)) (Refused SpaceOff) (cond (other_row f (by_the_key key value)) (Refused OtherHalf) (At Here))
+      ≡ cond (space_off f (by_the_key key value)) (Err SpaceOff) (cond (other_row f (by_the_key key value)) (Err OtherHalf) (Ok (At Here)))
   unfolding looked_by space_off is_port by_the_key
   looks f = rw (formed, something, its-width)
 

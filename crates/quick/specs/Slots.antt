@@ -1,8 +1,9 @@
 -- What a run's engine goes by, and nobody beside 01 needs: slots by a record's first four bytes as one number, its key.
 -- Assumes nothing.
-use Rattle.std.specs.Prelude.{ℕ, ◌+◌, ◌/◌, ◌%◌, ◌^◌, Bool, true, false, cond, ◌&&◌, ◌||◌, List, [], ◌∷◌, eqb, leb, ltb}
+use Rattle.std.specs.Prelude.{ℕ, ◌+◌, ◌/◌, ◌%◌, ◌^◌, Bool, true, cond, ◌&&◌, ◌||◌, List, [], ◌∷◌, eqb, leb, ltb}
 use Rattle.access.specs.declared.record.Record.{Record}
 use Rattle.places.specs.EngineCells.{wider, cell_width, cell_in}
+use Rattle.quick.specs.declared.slots.Slot.{Slot}
 use Rattle.quick.specs.Classes.{class_of}
 
 -- the record of a key and a value
@@ -28,9 +29,10 @@ slot_true cells key limit class cell =
     && eqb (cell_width (cell_in cells kind address)) width)
 
 -- every slot
-unfoldable pub slots_true : List ℕ → List ℕ → List ℕ → List ℕ → List ℕ → Bool
-slots_true cells keys [] classes named = true
-slots_true cells [] (l ∷ limits) classes named = false
-slots_true cells (k ∷ keys) (l ∷ limits) [] named = false
-slots_true cells (k ∷ keys) (l ∷ limits) (c ∷ classes) [] = false
-slots_true cells (k ∷ keys) (l ∷ limits) (c ∷ classes) (n ∷ named) = slot_true cells k l c n && slots_true cells keys limits classes named
+unfoldable pub slots_true : List ℕ → List Slot → Bool
+slots_true cells [] = true
+slots_true cells (s ∷ slots) = slot_true cells s.key s.limit s.class s.cell && slots_true cells slots
+
+-- what stands past them
+abbrev pub empty : Slot
+empty = record { key = 0; limit = 0; class = 0; cell = 0 }

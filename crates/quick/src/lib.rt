@@ -14,6 +14,6 @@ pub use said::{
     PLAIN, address_in, code_in, colour_in, is_pixel, next_in, painted, paints, paints_bank, shown,
     told, value_in,
 };
-pub use slots::{SLOTS, Slots, all_slots, slot_of};
+pub use slots::{SLOTS, Slot, all_slots, slot_of};
 pub use smalls::{SMALLS, smalls_of, state_in};
 pub use turning::{read_place, turn_read, turn_write, write_place};

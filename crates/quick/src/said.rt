@@ -1,4 +1,4 @@
-// What an access says, as one number.
+// What an access says, as one number: a struct in its place is written to memory where the function that gives it back is not put in place of its call.
 ghost use Rattle.std.specs.Prelude.{◌≡◌, cond, ◌<◌, ◌≤◌};
 ghost use Rattle.quick.specs.Said.{plain_said, code_in, value_in, mark_in, pixel_in, paints_in, bank_in, colour_in, next_in, address_in};
 

@@ -75,11 +75,7 @@ fn write_low(
     ensures { Stored stored.now registers.old number value registers.new result × Coded registers.old codes.old registers.new codes.new }
 {
     store_in(registers, number, stored[number], value);
-    if number == PCI04 {
-        *codes = codes_of(registers);
-        return told(0, 0);
-    }
-    if number == MISC {
+    if number == PCI04 || number == MISC {
         *codes = codes_of(registers);
         return told(0, 0);
     }

@@ -22,32 +22,17 @@ use places::{CELLS, Place};
 fn display(registers: &[u16; REGISTERS], smalls: &[u8; SMALLS], line: u16, chip: Chip) -> u16
     ensures { result ≡ display_state (seen registers.now (state_of chip line smalls.now)) }
 {
-    if line == 0 {
-        if 0 < timing::v_sync_start(registers).0 {
-            if 0 < timing::v_display(registers).0 {
-                return 0;
-            }
-        }
+    if line == 0 && 0 < timing::v_sync_start(registers).0 && 0 < timing::v_display(registers).0 {
+        return 0;
     }
     access::display_state(registers, state_in(smalls, line, chip))
 }
 
+// A byte that reads so or as 0, by one test.
 fn byte_if(on: bool, byte: u16) -> u16
     ensures { result ≡ cond on byte 0 }
 {
     if on { byte } else { 0 }
-}
-
-fn wide(byte: u8) -> u16
-    ensures { result ≡ byte }
-{
-    byte as u16
-}
-
-fn low(value: u16) -> u8
-    ensures { result ≡ value % 256 }
-{
-    (value % 256) as u8
 }
 
 // A read at the place that a cell names, whatever the file holds.
@@ -76,7 +61,7 @@ pub fn read_place(
             access::v_port_state(registers, state_in(smalls, line, chip)),
         ),
         Place::ReadAddress => told(0, byte_if(smalls[READING] == 1, 3)),
-        Place::WriteAddress => told(0, wide(smalls[ADDRESS])),
+        Place::WriteAddress => told(0, u16::from(smalls[ADDRESS])),
         Place::PixelData => read_pixel(registers, smalls),
         Place::ToggleReset => {
             let value = display(registers, smalls, line, chip);
@@ -124,9 +109,9 @@ pub fn write_place(
         Place::Attribute(_) => told(7, 0),
         Place::PaletteState => write_free(stored, registers, B0, value),
         Place::VPortState => write_free(stored, registers, CAPTURE_Y_START, value),
-        Place::ReadAddress => set_address(smalls, 1, low(value)),
-        Place::WriteAddress => set_address(smalls, 0, low(value)),
-        Place::PixelData => write_pixel(registers, smalls, low(value)),
+        Place::ReadAddress => set_address(smalls, 1, (value % 256) as u8),
+        Place::WriteAddress => set_address(smalls, 0, (value % 256) as u8),
+        Place::PixelData => write_pixel(registers, smalls, (value % 256) as u8),
         Place::Unnamed => told(1, 0),
         Place::UnnamedAttribute => told(1, 0),
         Place::Fixed(_) => told(7, 0),

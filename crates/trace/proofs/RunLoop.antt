@@ -1,12 +1,13 @@
 -- What the loop of a run holds, and that one record more keeps it. Assumes nothing.
 use Prim.Native.Nat.{ℕ, ◌+◌, ◌*◌, ◌-◌, ◌/◌, ◌%◌, ◌≤◌, ◌<◌}
 use mathlib.Core.Path.{◌≡◌, refl, sym, ap, ap₂, ◌∙◌}
-use mathlib.Core.Bool.{Bool, true, false, cond, not, ◌&&◌}
+use mathlib.Core.Bool.{Bool, true, false, cond, true≢false, not, ◌&&◌}
 use mathlib.Core.List.{List, ◌++◌}
 use mathlib.Core.Logic.{◌⊎◌, inl, inr}
 use native.Mathlib.Numerals.{add-one}
 use native.Mathlib.Omega.{arith}
-use borrow.Author.Tests.{le-leb, eqb-true}
+use borrow.Author.Tests.{le-leb, eqb-true, ltb-true, ltb-false}
+use lib.Dec.{ltb}
 use lib.ListN.{length, get_or, set, take, drop, length-append, length-take, length-drop}
 use lib.Seq.{take_at, drop_at, drop-drop}
 use Rattle.bits.proofs.Test.{by-test}
@@ -21,13 +22,15 @@ use Rattle.file.specs.Answers.{code_of, value_of}
 use Rattle.file.specs.Effects.{apply}
 use Rattle.file.specs.File.{register, seen, black, bank_count}
 use Rattle.file.specs.Palette.{component}
+use Rattle.file.specs.State.{unasked}
 use Rattle.access.specs.declared.record.Item.TheVariants.{Whole}
 use Rattle.access.specs.declared.record.Record.{Record}
 use Rattle.access.specs.Access.{in_bank, entry_number, entry, shown_in, access, access_item, record_in, reply_to, answer, effect}
 use Rattle.access.specs.Engine.{asks_pixel}
 use Rattle.access.proofs.SeenDecisions.{answer-seen, effect-seen}
 use Rattle.quick.specs.Classes.{codes_of}
-use Rattle.quick.specs.Said.{mark_in, pixel_in, paints_in}
+use Rattle.quick.specs.Said.{plain_said, value_in, mark_in, pixel_in, paints_in, bank_in, colour_in, next_in, address_in}
+use Rattle.quick.proofs.Parts.{plain-pixel, plain-paints}
 use Rattle.quick.specs.Slots.{by_the_key}
 use Rattle.quick.specs.Smalls.{smalls_of, state_of}
 use Rattle.trace.specs.declared.running.Served.{Served}
@@ -50,6 +53,35 @@ came-by (inr b) f g = g b
 -- a file put together from its parts
 abbrev pub together : List ℕ → List Colour → List Colour → State → File
 together registers palette bank state = record { registers = registers; palette = palette; bank = bank; state = state }
+
+-- ---- what was said of a pixel or a colour
+
+pixel-over : (said : ℕ) → pixel_in said ≡ true → plain_said ≤ said
+pixel-over said p =
+    by-test (ltb said plain_said)
+    (λ l. absurd (true≢false (sym p ∙ plain-pixel said (ltb-true said plain_said l))))
+    (λ l. ltb-false said plain_said l)
+
+paints-over : (said : ℕ) → paints_in said ≡ true → plain_said ≤ said
+paints-over said p =
+    by-test (ltb said plain_said)
+    (λ l. absurd (true≢false (sym p ∙ plain-paints said (ltb-true said plain_said l))))
+    (λ l. ltb-false said plain_said l)
+
+module _ (colours : List Colour) (said address : ℕ) (there : plain_said ≤ said → address_in said ≡ address) where
+  pub painted-palette : cond (paints_in said && not (bank_in said)) (set colours (address_in said) (colour_in said)) colours
+      ≡ cond (paints_in said && not (bank_in said)) (set colours address (colour_in said)) colours
+  painted-palette =
+      by-test (paints_in said)
+      (λ p. ap (λ (n : ℕ). cond (paints_in said && not (bank_in said)) (set colours n (colour_in said)) colours) (there (paints-over said p)))
+      (λ p. rw p refl)
+
+  pub painted-bank : cond (paints_in said && bank_in said) (set colours (address_in said % bank_count) (colour_in said)) colours
+      ≡ cond (paints_in said && bank_in said) (set colours (address % bank_count) (colour_in said)) colours
+  painted-bank =
+      by-test (paints_in said)
+      (λ p. ap (λ (n : ℕ). cond (paints_in said && bank_in said) (set colours (n % bank_count) (colour_in said)) colours) (there (paints-over said p)))
+      (λ p. rw p refl)
 
 -- ---- one access on the parts
 
@@ -142,6 +174,22 @@ module _ (registers : List ℕ) (palette bank : List Colour) (state : State) (as
   component-served b at within p same-bank same_at same-within =
       ap (λ (c : Colour). component c state.pointer.next)
       (rw (same-bank, kept p, same_at, same-within) (by-test (in_bank Now) (λ e. rw e) (λ e. rw e)))
+
+  -- as what was said has it
+  pub shown-served : (said : ℕ) → s.pixel ≡ pixel_in said
+      → (plain_said ≤ said → address_in said ≡ state.pointer.address) → (pixel_in said ≡ true → next_in said ≡ state.pointer.next)
+      → cond (pixel_in said)
+      (component (cond (in_bank (seen after unasked)) (get_or bank (address_in said % bank_count) black) (get_or palette (address_in said) black)) (next_in said))
+      (value_in said)
+      ≡ cond (pixel_in said) (shown_in Now) (value_in said)
+  unfolding in_bank seen register
+  shown-served said e address next =
+      by-test (pixel_in said)
+      (λ p. let at = address (pixel-over said p) in
+      rw p
+      (ap (component _) (next p)
+      ∙ component-served (in_bank (seen after unasked)) (address_in said) (address_in said % bank_count) (e ∙ p) refl at (ap (λ (n : ℕ). n % bank_count) at)))
+      (λ p. rw p refl)
 
 -- ---- the loop
 

@@ -23,8 +23,10 @@ use Rattle.places.specs.declared.place.Place.{Place}
 use Rattle.places.specs.EngineCells.{cell_table, cell_in, cell_place}
 use Rattle.places.specs.Profile.{Reading, gives_held, gives_fixed, gives_device_id, gives_toggle, gives_palette_state, gives_vport_state, gives_dac_state, gives_address, gives_pixel, resets_toggle, gives_line, names_nothing, Writing, stores_to, read_only, sets_address, writes_pixel, stores_nothing, passes_lines, profile}
 use Rattle.access.specs.declared.engine.Decision.{Decision}
-use Rattle.access.specs.declared.engine.Looked.{Looked}
-use Rattle.access.specs.declared.engine.Looked.TheVariants.{Refused, At, Lines}
+use Rattle.access.specs.declared.engine.Meant.{Meant}
+use Rattle.std.specs.Prelude.{Result, Err, Ok}
+use Rattle.file.specs.declared.answer.Answer.{Answer}
+use Rattle.access.specs.declared.engine.Meant.TheVariants.{At, Lines}
 use Rattle.access.specs.declared.record.Record.{Record}
 use Rattle.access.specs.Access.{locked_out, palette_up, shown_in, pixel_write, answer_of_read, read_effect, write_answer, write_effect, answer, effect}
 use Rattle.access.specs.Checks.{is_write, space_off}
@@ -160,7 +162,7 @@ module _ (chip : Chip) (f : File) (mine : f.state.chip ≡ chip) (s : T (sound f
     abbrev Here : ℕ
     Here = cell_in Cells (key % 256) (key / 65536)
 
-    through : looked_by Cells f Asked ≡ At Here
+    through : looked_by Cells f Asked ≡ Ok (At Here)
     through =
         looks Cells key limit class cell value t fits f
         ∙ by-test (space_off f Asked)
@@ -222,12 +224,12 @@ read_done f resets_toggle p = absurd (true≢false (sym p))
 read_done f gives_line p = absurd (true≢false (sym p))
 read_done f names_nothing p = absurd (true≢false (sym p))
 
-looked-done : (cells stored : List ℕ) (f : File) (r : Record) (l : Looked) → PaintsDone (decided_from cells stored f r l)
+looked-done : (cells stored : List ℕ) (f : File) (r : Record) (l : Result Meant Answer) → PaintsDone (decided_from cells stored f r l)
 unfolding decided_from decided_at paints
-looked-done cells stored f r (Refused a) = λ p. absurd (true≢false (sym p))
-looked-done cells stored f r (At cell) =
+looked-done cells stored f r (Err a) = λ p. absurd (true≢false (sym p))
+looked-done cells stored f r (Ok (At cell)) =
     by-test (is_write r) (λ e. rw e (write_done stored f (profile (cell_place cells f cell)).writing r.value)) (λ e. rw e (read_done f (profile (cell_place cells f cell)).reading))
-looked-done cells stored f r Lines = write_done stored f passes_lines r.value
+looked-done cells stored f r (Ok Lines) = write_done stored f passes_lines r.value
 
 paint-done : (f : File) → T (sound f) → (r : Record) → PaintsDone (decision f r)
 unfolding decided_by

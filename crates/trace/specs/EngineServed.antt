@@ -1,21 +1,24 @@
 -- What a run's engine goes by, and nobody beside 01 needs: one access on the registers where they stand and the state by value, and what it paints.
 -- Assumes nothing.
-use Rattle.std.specs.Prelude.{ℕ, ◌%◌, ◌<◌, ◌≤◌, ◌≡◌, Bool, true, false, cond, List, T, eqb, ltb}
+use Rattle.std.specs.Prelude.{ℕ, ◌%◌, ◌<◌, ◌≤◌, ◌≡◌, Bool, true, false, cond, not, ◌&&◌, List, T, eqb, ltb, get_or, set}
 use Rattle.file.specs.declared.answer.Answer.{Answer}
 use Rattle.file.specs.declared.effect.Effect.{Effect}
 use Rattle.file.specs.declared.effect.Effect.TheVariants.{Nothing, Store, Toggle, Move, Step, Paint, Pass}
 use Rattle.file.specs.declared.chip.Chip.{Chip}
+use Rattle.file.specs.declared.palette.Colour.{Colour}
 use Rattle.file.specs.declared.palette.Pointer.{Pointer}
 use Rattle.file.specs.declared.registers.File.{File}
 use Rattle.file.specs.declared.state.State.{State}
 use Rattle.file.specs.Answers.{code_of, value_of}
 use Rattle.file.specs.Effects.{apply}
-use Rattle.file.specs.File.{seen, bank_count}
+use Rattle.file.specs.File.{seen, black, bank_count}
+use Rattle.file.specs.Palette.{component}
+use Rattle.file.specs.State.{unasked}
 use Rattle.file.specs.Registers.{register_count, stored_table}
 use Rattle.file.specs.Sound.{sound}
 use Rattle.places.specs.EngineCells.{cell_table}
 use Rattle.access.specs.declared.record.Record.{Record}
-use Rattle.access.specs.Access.{answer, effect}
+use Rattle.access.specs.Access.{answer, effect, in_bank}
 use Rattle.access.specs.Engine.{asks_pixel}
 use Rattle.quick.specs.Classes.{codes_of}
 unfoldable pub use Rattle.quick.specs.Painting.{paints, paints_bank, paints_colour}
@@ -98,3 +101,12 @@ pub record Ready (cells stored registers smalls codes : List ℕ) (chip : Chip) 
   pub whole : smalls ≡ smalls_of (state_of chip line smalls)
   pub coded : codes ≡ codes_of registers
   pub good : T (sound (seen registers (state_of chip line smalls)))
+
+-- what a record says to the colours, and the value of its reply: what is shown where it reads a pixel
+pub record Coloured (registers : List ℕ) (palette bank : List Colour) (said : ℕ) (palette_after bank_after : List Colour) (value : ℕ) : Type 0 where
+  pub shown : value
+      ≡ cond (pixel_in said)
+      (component (cond (in_bank (seen registers unasked)) (get_or bank (address_in said % bank_count) black) (get_or palette (address_in said) black)) (next_in said))
+      (value_in said)
+  pub entries : palette_after ≡ cond (paints_in said && not (bank_in said)) (set palette (address_in said) (colour_in said)) palette
+  pub borders : bank_after ≡ cond (paints_in said && bank_in said) (set bank (address_in said % bank_count) (colour_in said)) bank

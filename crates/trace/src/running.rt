@@ -9,21 +9,24 @@ ghost use Rattle.file.specs.Sound.{sound};
 ghost use Rattle.places.specs.EngineCells.{cell_table};
 ghost use Rattle.access.specs.Access.{reply_to};
 ghost use Rattle.quick.specs.Slots.{by_the_key, slots_true};
-ghost use Rattle.trace.specs.EngineServed.{Answered, Puts, Serves, Says, Turns, Ready};
+ghost use Rattle.trace.specs.EngineServed.{Answered, Puts, Serves, Says, Turns, Ready, Coloured};
 ghost use Rattle.trace.specs.Records.{record_of, reply_bytes, items};
 ghost use Rattle.trace.specs.Run.{file_after, replies as repliesOf, run_count, run as run_of};
 
 use crate::wire::{four_at, put_reply, put_said, record_by, record_of};
 use access::{Record, decide, is_in_bank};
-use file::{Answer, BANK, Chip, Colour, Effect, File, Pointer, REGISTERS, State, is_sound};
+use file::{
+    Answer, BANK, Chip, Colour, Effect, File, PALETTE, Pointer, REGISTERS, State, is_sound,
+};
 use places::CELLS;
 use quick::{
-    CLASSES, PLAIN, SLOTS, SMALLS, address_in, all_slots, code_in, codes_of, colour_in, is_pixel,
-    next_in, painted, paints, paints_bank, shown, slot_of, smalls_of, state_in, told, turn_read,
-    turn_write, value_in,
+    CLASSES, PLAIN, SLOTS, SMALLS, Slot, address_in, all_slots, code_in, codes_of, colour_in,
+    is_pixel, next_in, painted, paints, paints_bank, shown, slot_of, smalls_of, state_in, told,
+    turn_read, turn_write, value_in,
 };
 
-// What a run hands back: its answer, the new file and the count of replies. What is left of the trace begins at 8 times the count.
+// What a run hands back: its answer, the new file and the count of replies. What is left of the trace begins at 8 times the count. No `Result`: an unsound
+// file comes back too, with count 0.
 #[derive(Clone, Copy)]
 pub struct Ran {
     pub answer: Answer,
@@ -55,7 +58,7 @@ fn component_of(bank: bool, in_bank: Colour, in_palette: Colour, next: u8) -> u1
     }
 }
 
-// The entry of the palette that the pointer names, and that of the bank.
+// The entry of the palette that the pointer names, and that of the bank: two functions, each within the bound of its own array.
 pub fn palette_entry(state: State) -> usize
     ensures { (result ≡ state.pointer.address) × (result < palette_count) }
 {
@@ -88,7 +91,7 @@ fn store_in(registers: &mut [u16; REGISTERS], number: usize, reach: u16, value: 
 }
 
 // What an access leaves beside the registers: its reply's code and value, the state; whether what was read is the pixel that the pointer
-// names, and whether it paints, a colour, in the bank or the palette.
+// names, and whether it paints, a colour, in the bank or the palette. The code is a number, as the reply has it.
 #[derive(Clone, Copy)]
 pub struct Served {
     pub code: u8,
@@ -164,21 +167,13 @@ pub fn put_effect(registers: &mut [u16; REGISTERS], before: Served, effect: Effe
 }
 
 // One access: the registers where they stand, the state by value.
-fn serve(
-    cells: &[u8; CELLS],
-    stored: &[u16; REGISTERS],
-    registers: &mut [u16; REGISTERS],
-    state: State,
-    asked: Record,
-) -> Served
-    requires { (cells.now ≡ cell_table state.chip) × (stored.now ≡ stored_table state.chip) × T (sound (seen registers.old state)) }
+fn serve(tables: &Tables, registers: &mut [u16; REGISTERS], state: State, asked: Record) -> Served
+    requires { (tables.now.cells ≡ cell_table state.chip) × (tables.now.stored ≡ stored_table state.chip) × T (sound (seen registers.old state)) }
     ensures { Serves (seen registers.old state) asked registers.new result }
 {
-    let decision = decide(cells, stored, registers, state, asked);
-    let answer = decision.answer;
-    let effect = decision.effect;
-    let before = answered(answer, decision.pixel, state);
-    put_effect(registers, before, effect)
+    let decision = decide(&tables.cells, &tables.stored, registers, state, asked);
+    let before = answered(decision.answer, decision.pixel, state);
+    put_effect(registers, before, decision.effect)
 }
 
 // What was served, as one number.
@@ -194,26 +189,34 @@ fn said_of(served: Served, pointer: Pointer) -> u64
     told(served.code, served.value)
 }
 
-// One access in the order of the checks.
-fn ordered(
-    cells: &[u8; CELLS],
-    stored: &[u16; REGISTERS],
-    registers: &mut [u16; REGISTERS],
-    smalls: &mut [u8; SMALLS],
-    codes: &mut [u8; CLASSES],
-    line: &mut u16,
+// The tables of a chip that a run goes by.
+#[derive(Drop)]
+struct Tables {
     chip: Chip,
-    asked: Record,
-) -> u64
-    requires { Ready cells.now stored.now registers.old smalls.old codes.old chip line.old }
-    ensures { Turns registers.old smalls.old chip line.old asked registers.new smalls.new codes.new line.new result }
+    cells: [u8; CELLS],
+    stored: [u16; REGISTERS],
+}
+
+// What accesses change where it stands: the registers, the bytes of the state, the line, and the codes of the classes, which go by the registers.
+#[derive(Drop)]
+struct Parts {
+    registers: [u16; REGISTERS],
+    smalls: [u8; SMALLS],
+    line: u16,
+    codes: [u8; CLASSES],
+}
+
+// One access in the order of the checks. In place of its call it would slow down those that go by their slot.
+#[inline(never)]
+fn ordered(tables: &Tables, parts: &mut Parts, asked: Record) -> u64
+    requires { Ready tables.now.cells tables.now.stored parts.old.registers parts.old.smalls parts.old.codes tables.now.chip parts.old.line }
+    ensures { Turns parts.old.registers parts.old.smalls tables.now.chip parts.old.line asked parts.new.registers parts.new.smalls parts.new.codes parts.new.line result }
 {
-    let state = state_in(smalls, *line, chip);
-    let served = serve(cells, stored, registers, state, asked);
-    let after = served.state;
-    *line = after.line;
-    *smalls = smalls_of(after);
-    *codes = codes_of(registers);
+    let state = state_in(&parts.smalls, parts.line, tables.chip);
+    let served = serve(tables, &mut parts.registers, state, asked);
+    parts.line = served.state.line;
+    parts.smalls = smalls_of(served.state);
+    parts.codes = codes_of(&parts.registers);
     said_of(served, state.pointer)
 }
 
@@ -223,65 +226,70 @@ fn class_of(class: u8) -> usize
     class as usize % CLASSES
 }
 
-fn word(value: u32) -> u16
-    ensures { result ≡ value % 65536 }
-{
-    (value % 65536) as u16
-}
-
 // One access: by its slot, or in the order of the checks.
-fn turn(
-    keys: &[u32; SLOTS],
-    limits: &[u32; SLOTS],
-    classes: &[u8; SLOTS],
-    named: &[u8; SLOTS],
-    cells: &[u8; CELLS],
-    stored: &[u16; REGISTERS],
-    registers: &mut [u16; REGISTERS],
-    smalls: &mut [u8; SMALLS],
-    codes: &mut [u8; CLASSES],
-    line: &mut u16,
-    chip: Chip,
-    key: u32,
-    value: u32,
-) -> u64
-    requires { Ready cells.now stored.now registers.old smalls.old codes.old chip line.old × T (slots_true (cell_table chip) keys.now limits.now classes.now named.now) }
-    ensures { Turns registers.old smalls.old chip line.old (by_the_key key value) registers.new smalls.new codes.new line.new result }
+fn turn(slots: &[Slot; SLOTS], tables: &Tables, parts: &mut Parts, key: u32, value: u32) -> u64
+    requires { Ready tables.now.cells tables.now.stored parts.old.registers parts.old.smalls parts.old.codes tables.now.chip parts.old.line × T (slots_true (cell_table tables.now.chip) slots.now) }
+    ensures { Turns parts.old.registers parts.old.smalls tables.now.chip parts.old.line (by_the_key key value) parts.new.registers parts.new.smalls parts.new.codes parts.new.line result }
 {
-    let slot = slot_of(key);
-    if keys[slot] != key {
-        return ordered(
-            cells,
-            stored,
-            registers,
-            smalls,
-            codes,
-            line,
-            chip,
-            record_by(key, value),
-        );
+    let slot = slots[slot_of(key)];
+    if slot.key != key || slot.limit <= value {
+        return ordered(tables, parts, record_by(key, value));
     }
-    if limits[slot] <= value {
-        return ordered(
-            cells,
-            stored,
-            registers,
-            smalls,
-            codes,
-            line,
-            chip,
-            record_by(key, value),
-        );
-    }
-    let refusal = codes[class_of(classes[slot])];
+    let refusal = parts.codes[class_of(slot.class)];
     if refusal != 0 {
         return told(refusal, 0);
     }
-    let cell = named[slot];
     if key % 2 == 1 {
-        return turn_write(cells, stored, registers, smalls, codes, cell, word(value));
+        return turn_write(
+            &tables.cells,
+            &tables.stored,
+            &mut parts.registers,
+            &mut parts.smalls,
+            &mut parts.codes,
+            slot.cell,
+            (value % 65536) as u16,
+        );
     }
-    turn_read(cells, registers, smalls, *line, chip, cell)
+    turn_read(
+        &tables.cells,
+        &parts.registers,
+        &mut parts.smalls,
+        parts.line,
+        tables.chip,
+        slot.cell,
+    )
+}
+
+// What a record says to the colours: one is painted, or shown in place of the value; gives the value of the reply.
+fn coloured(
+    registers: &[u16; REGISTERS],
+    palette: &mut [Colour; PALETTE],
+    bank: &mut [Colour; BANK],
+    said: u64,
+) -> u16
+    ensures { Coloured registers.now palette.old bank.old said palette.new bank.new result }
+{
+    if said < PLAIN {
+        return value_in(said);
+    }
+    let in_palette = palette_at(address_in(said));
+    let in_bank = bank_at(address_in(said));
+    if is_pixel(said) {
+        return component_of(
+            is_in_bank(registers),
+            bank[in_bank],
+            palette[in_palette],
+            next_in(said),
+        );
+    }
+    if paints(said) {
+        if paints_bank(said) {
+            bank[in_bank] = colour_in(said);
+        } else {
+            palette[in_palette] = colour_in(said);
+        }
+    }
+    value_in(said)
 }
 
 // The first `count` whole records of a trace, which has them, into as many places of a reply buffer, which has them.
@@ -290,64 +298,34 @@ fn run_whole(whole: File, trace: &[u8], replies: &mut [u8], count: usize) -> Fil
     ensures value { result ≡ file_after whole (items count trace.now) }
     ensures replies_after { replies.new ≡ repliesOf whole (items count trace.now) ++ drop (8 * count) replies.old }
 {
-    let mut registers = whole.registers;
+    let state = whole.state;
+    let tables = Tables {
+        chip: state.chip,
+        cells: places::cells(state.chip),
+        stored: File::stored(state.chip),
+    };
+    let slots = all_slots();
+    let mut parts = Parts {
+        registers: whole.registers,
+        smalls: smalls_of(state),
+        line: state.line,
+        codes: codes_of(&whole.registers),
+    };
     let mut palette = whole.palette;
     let mut bank = whole.bank;
-    let state = whole.state;
-    let chip = state.chip;
-    let cells = places::cells(chip);
-    let stored = File::stored(chip);
-    let slots = all_slots();
-    let keys = slots.keys;
-    let limits = slots.limits;
-    let classes = slots.classes;
-    let named = slots.named;
-    let mut smalls = smalls_of(state);
-    let mut codes = codes_of(&registers);
-    let mut line = state.line;
+    // By number: it says where the record stands and where its reply goes.
     for n in 0..count {
         let key = four_at(trace, 8 * n);
-        let whole = four_at(trace, 8 * n + 4);
-        let said = turn(
-            &keys,
-            &limits,
-            &classes,
-            &named,
-            &cells,
-            &stored,
-            &mut registers,
-            &mut smalls,
-            &mut codes,
-            &mut line,
-            chip,
-            key,
-            whole,
-        );
-        let mut value = value_in(said);
-        if PLAIN <= said {
-            let address = address_in(said);
-            if is_pixel(said) {
-                let in_bank = bank[bank_at(address)];
-                let in_palette = palette[palette_at(address)];
-                value = component_of(is_in_bank(&registers), in_bank, in_palette, next_in(said));
-            } else {
-                if paints(said) {
-                    let colour = colour_in(said);
-                    if paints_bank(said) {
-                        bank[bank_at(address)] = colour;
-                    } else {
-                        palette[palette_at(address)] = colour;
-                    }
-                }
-            }
-        }
-        put_said(replies, 8 * n, key, code_in(said), value);
+        let value = four_at(trace, 8 * n + 4);
+        let said = turn(slots, &tables, &mut parts, key, value);
+        let shown = coloured(&parts.registers, &mut palette, &mut bank, said);
+        put_said(replies, 8 * n, key, code_in(said), shown);
     }
     File {
-        registers,
+        registers: parts.registers,
         palette,
         bank,
-        state: state_in(&smalls, line, chip),
+        state: state_in(&parts.smalls, parts.line, tables.chip),
     }
 }
 

@@ -12,10 +12,6 @@ pub returns-then-number-eq-PCI04 : goal.returns-then-number-eq-PCI04
 unfolding code_of value_of Coded
 returns-then-number-eq-PCI04 c = (table-stored _ _ c.args.number _ _ _ (below-lock _ c.args.number c.requires) (other-reach _ _ c.args.number (λ n. absurd (let never : ⊥ = omega (arith, n, c.requires) in never))) (says (Done 0) c.told.ensures refl refl) c.store_in.ensures, λ h. c.codes_of.ensures)
 
-pub returns-then-number-eq-MISC : goal.returns-then-number-eq-MISC
-unfolding code_of value_of Coded
-returns-then-number-eq-MISC c = (table-stored _ _ c.args.number _ _ _ (below-lock _ c.args.number c.requires) (other-reach _ _ c.args.number (λ n. absurd (let never : ⊥ = omega (arith, n, c.requires) in never))) (says (Done 0) c.told-then-number-eq-MISC.ensures refl refl) c.store_in.ensures, λ h. c.codes_of-then-number-eq-MISC.ensures)
-
 pub returns : goal.returns
 unfolding code_of value_of
 returns c = (table-stored _ _ c.args.number _ _ _ (below-lock _ c.args.number c.requires) (other-reach _ _ c.args.number (λ n. absurd (let never : ⊥ = omega (arith, n, c.requires) in never))) (says (Done 0) c.told-2.ensures refl refl) c.store_in.ensures, coded-other _ c.args.number _ _ (λ n. c.if-number-eq-PCI04.false (sym n)) (λ n. c.if-number-eq-MISC.false (sym n)) c.store_in.ensures _)

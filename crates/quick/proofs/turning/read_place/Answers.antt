@@ -98,7 +98,7 @@ pub returns-in-WriteAddress : goal.returns-in-WriteAddress
 unfolding profile answer_of_read read_effect reads_pixel code_of value_of seen register dac_state smalls_of
 returns-in-WriteAddress c =
     λ s e same-chip same_line.
-    only-read (seen c.args.registers.now s) c.args.cell WriteAddress (sym c.plain.ensures ∙ c.in-WriteAddress.is) _ c.told-in-WriteAddress.result e refl refl (says _ c.told-in-WriteAddress.ensures refl (c.wide.ensures ∙ ap (λ (l : List ℕ). get_or l 0 0) e))
+    only-read (seen c.args.registers.now s) c.args.cell WriteAddress (sym c.plain.ensures ∙ c.in-WriteAddress.is) _ c.told-in-WriteAddress.result e refl refl (says _ c.told-in-WriteAddress.ensures refl (c.from.ensures ∙ ap (λ (l : List ℕ). get_or l 0 0) e))
 
 pub returns-in-PixelData : goal.returns-in-PixelData
 unfolding profile

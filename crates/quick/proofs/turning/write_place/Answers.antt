@@ -40,7 +40,7 @@ unfolding profile
 returns-in-ReadAddress c = (
   λ s e.
       write-there (seen c.args.registers.now s) c.args.cell ReadAddress (sym c.plain.ensures ∙ c.in-ReadAddress.is) _ c.set_address.result _ _ _
-      (turned_by (address-alike _ (seen c.args.registers.now s) true _ _ c.low.ensures) (c.set_address.ensures c.args.registers.now s e refl)),
+      (turned_by (address-alike _ (seen c.args.registers.now s) true _ _ refl) (c.set_address.ensures c.args.registers.now s e refl)),
   kept-codes _ _,
 )
 
@@ -49,7 +49,7 @@ unfolding profile
 returns-in-WriteAddress c = (
   λ s e.
       write-there (seen c.args.registers.now s) c.args.cell WriteAddress (sym c.plain.ensures ∙ c.in-WriteAddress.is) _ c.set_address-in-WriteAddress.result _ _ _
-      (turned_by (address-alike _ (seen c.args.registers.now s) false _ _ c.low-in-WriteAddress.ensures) (c.set_address-in-WriteAddress.ensures c.args.registers.now s e refl)),
+      (turned_by (address-alike _ (seen c.args.registers.now s) false _ _ refl) (c.set_address-in-WriteAddress.ensures c.args.registers.now s e refl)),
   kept-codes _ _,
 )
 
@@ -58,7 +58,7 @@ unfolding profile
 returns-in-PixelData c = (
   λ s e.
       write-there (seen c.args.registers.now s) c.args.cell PixelData (sym c.plain.ensures ∙ c.in-PixelData.is) _ c.write_pixel.result _ _ _
-      (turned_by (pixel-alike _ (seen c.args.registers.now s) _ _ c.low-in-PixelData.ensures) (c.write_pixel.ensures s e)),
+      (turned_by (pixel-alike _ (seen c.args.registers.now s) _ _ refl) (c.write_pixel.ensures s e)),
   kept-codes _ _,
 )
 

@@ -17,13 +17,13 @@ serve-served-requires c =
     let same = c.state_in-state.ensures in (
       c.requires.table ∙ ap (λ (s : State). cell_table s.chip) (sym same),
       c.requires.bits ∙ ap (λ (s : State). stored_table s.chip) (sym same),
-      subst (λ (s : State). T (sound (seen c.args.registers.now s))) (sym same) c.requires.good,
+      subst (λ (s : State). T (sound (seen c.args.parts.now.registers s))) (sym same) c.requires.good,
     )
 
 pub returns : goal.returns
 returns c =
     let same = c.state_in-state.ensures in
-    ordered-turns c.args.registers.now c.args.smalls.now c.args.chip c.args.line.now c.args.asked c.requires.good _ c.serve-served.result
-    (serves-alike c.args.registers.now _ _ same c.serve-served.ensures) c.said_of.result
+    ordered-turns c.args.parts.now.registers c.args.parts.now.smalls c.args.tables.now.chip c.args.parts.now.line c.args.asked c.requires.good _ c.serve-served.result
+    (serves-alike c.args.parts.now.registers _ _ same c.serve-served.ensures) c.said_of.result
     (subst (λ (s : State). Says c.serve-served.result s.pointer c.said_of.result) same c.said_of.ensures)
-    _ _ _ c.smalls_of.ensures refl c.codes_of.ensures
+    _ _ _ c.smalls_of-parts.ensures refl c.codes_of-parts.ensures

@@ -6,7 +6,7 @@ use Rattle.trace.proofs.running.run_whole.Given as goal
 
 abbrev pub invariant-loop-n : goal.invariant-loop-n
 invariant-loop-n l =
-    Going (together l.initial.registers l.initial.palette l.initial.bank (state_of l.chip l.initial.line l.initial.smalls)) l.trace l.initial.replies l.count l.replies l.registers l.palette l.bank l.smalls l.codes l.chip l.line l.n
+    Going (together l.initial.parts.registers l.initial.palette l.initial.bank (state_of l.tables.chip l.initial.parts.line l.initial.parts.smalls)) l.trace l.initial.replies l.count l.replies l.parts.registers l.palette l.bank l.parts.smalls l.parts.codes l.tables.chip l.parts.line l.n
 
 abbrev pub decreases-loop-n : goal.decreases-loop-n
 decreases-loop-n l =
