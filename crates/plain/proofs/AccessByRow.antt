@@ -5,6 +5,7 @@ use mathlib.Core.Bool.{Bool, true, false, cond, true≢false, not, ◌&&◌}
 use mathlib.Core.List.{List}
 use mathlib.Core.Option.{some}
 use lib.Dec.{T, eqb, eqb→eq}
+use Rattle.std.specs.Prelude.{Result, Ok, Err}
 use native.Mathlib.Omega.{arith}
 use lib.ListN.{get_or}
 use Rattle.bits.proofs.Test.{left, right, either, by-test, is_true}
@@ -27,11 +28,9 @@ use Rattle.access.specs.Access.{place_of, reach_in, answer_at, effect_at, write_
 use Rattle.access.specs.Checks.{is_write, carries, malformed}
 use Rattle.access.specs.Engine.{no_access, lines_pass}
 use Rattle.access.proofs.PassedChecks.{kind-below, value-fits, word_fits, carries-below, Passing, is-passing, malformed-told}
-use Rattle.plain.specs.declared.checks.Looked.{Looked}
-use Rattle.plain.specs.declared.checks.Looked.TheVariants.{Refused, Means}
 use Rattle.plain.specs.declared.row.Row.{Row}
 use Rattle.plain.specs.Looked.{looked_over}
-use Rattle.plain.specs.Rows.{Listed, row_count, rows_of, of_chip, index_of, said, bits_right}
+use Rattle.plain.specs.Rows.{Listed, rows_of, of_chip, index_of, said, bits_right}
 use Rattle.plain.specs.Told.{told, told_of_read, row_reach, write_told, access_told}
 use Rattle.plain.specs.Walk.{is_at, selected, fits}
 use Rattle.plain.proofs.KindsOfRecord.{or-swapped}
@@ -60,11 +59,11 @@ by_form f r m access lines =
 writes : (r : Record) → no_access r ≡ false → carries r ≡ true → is_write r ≡ true
 writes r n c = sym (carries-below r (kind-below r n)) ∙ c
 
-module _ (text : List ℕ) (listed : Listed text) (f : File) (r : Record) where
+module _ (lines : List (List ℕ)) (listed : Listed lines) (f : File) (r : Record) where
   abbrev Rows : List Row
-  Rows = rows_of row_count text
+  Rows = rows_of lines
 
-  abbrev Looks : Looked
+  abbrev Looks : Result Row Answer
   Looks = looked_over Rows f r
 
   answer-settled : answer f r ≡ settled Looks (answer_at (carries r) f (place_of f r))
@@ -72,15 +71,15 @@ module _ (text : List ℕ) (listed : Listed text) (f : File) (r : Record) where
   answer-settled = in_order Rows f r (listed.places f.state.chip) (answer_at (carries r) f (place_of f r))
 
   -- what the checks refuse is answered so, and leaves the file
-  pub refused-told : (a : Answer) → Looks ≡ Refused a → record { answer = a; file = f } ≡ access_told f r
+  pub refused-told : (a : Answer) → Looks ≡ Err a → record { answer = a; file = f } ≡ access_told f r
   unfolding access_told effect apply settled
   refused-told a e = sym (ap₂ (λ (x : Answer) (y : Bool). record { answer = x; file = apply (cond y Nothing (effect_at (carries r) f (place_of f r) r.value)) f }) same (ap refused same ∙ is_true (refused a) (is-refused Rows f r a e)))
     where
       same : answer f r ≡ a
-      same = answer-settled ∙ ap (λ (l : Looked). settled l (answer_at (carries r) f (place_of f r))) e
+      same = answer-settled ∙ ap (λ (l : Result Row Answer). settled l (answer_at (carries r) f (place_of f r))) e
 
   -- past them the record's place is the row's
-  module _ (row : Row) (e : Looks ≡ Means row) where
+  module _ (row : Row) (e : Looks ≡ Ok row) where
     through : Passed Rows f r row
     through = passed Rows f r row e
 
@@ -94,7 +93,7 @@ module _ (text : List ℕ) (listed : Listed text) (f : File) (r : Record) where
 
     answer-there : answer f r ≡ answer_at (carries r) f (place_of f r)
     unfolding settled
-    answer-there = answer-settled ∙ ap (λ (l : Looked). settled l (answer_at (carries r) f (place_of f r))) e
+    answer-there = answer-settled ∙ ap (λ (l : Result Row Answer). settled l (answer_at (carries r) f (place_of f r))) e
 
     pub names-file : T (in_file row.place)
     unfolding place_of

@@ -5,6 +5,8 @@ use mathlib.Core.Bool.{Bool, true, false, cond, true≢false, not, ◌&&◌, ◌
 use mathlib.Core.List.{List, [], ◌∷◌, ◌++◌}
 use mathlib.Core.Option.{Option, none, some}
 use lib.Dec.{T, eqb, ltb}
+use Rattle.std.specs.Prelude.{Option as Maybe, Some, None}
+use Rattle.std.specs.List.{find, list_any}
 use borrow.Author.Tests.{eqb-true}
 use Rattle.bits.proofs.Test.{left, right, both, by-test, passes, and-true, and-false, or-false}
 use Rattle.file.specs.declared.chip.Chip.{Chip}
@@ -12,10 +14,8 @@ use Rattle.file.specs.declared.registers.File.{File}
 use Rattle.places.specs.Lookup.{selects, matches, first, some_row, held_in, is_wider, inside_in}
 use Rattle.places.specs.Places.{Row as PlaceRow}
 use Rattle.plain.specs.declared.row.Row.{Row}
-use Rattle.plain.specs.declared.walk.Found.{Found}
-use Rattle.plain.specs.declared.walk.Found.TheVariants.{At, Nothing}
 use Rattle.plain.specs.Rows.{space, kinds, of_chip, index_of, said, said_for, says, say_all, every_row}
-use Rattle.plain.specs.Walk.{is_at, selected, fits, found, some_of, holds, inside}
+use Rattle.plain.specs.Walk.{is_at, selected, fits, holds, inside}
 use Rattle.plain.proofs.KindsOfRecord.{read_first, read-not-second, write-second, write-not-first, first-space, second-space, other-space, other-direction, one-above, two-or-more, reordered, picked, either_way, or-swapped}
 
 -- ---- a row, by its two directions
@@ -98,12 +98,12 @@ module _ (f : File) (kind address : ℕ) where
         (λ chip. rw (chip, and-false) refl)
 
   -- what was found, as a row of the list of places
-  unfoldable pub meant_row : Found → Option PlaceRow
-  meant_row (At row) = some (said row kind)
-  meant_row Nothing = none
+  unfoldable pub meant_row : Maybe Row → Option PlaceRow
+  meant_row (Some row) = some (said row kind)
+  meant_row None = none
 
-  pub first_found : (rows : List Row) → first Matching (say_all f.state.chip rows) ≡ meant_row (found Fitting rows)
-  unfolding first say_all found meant_row
+  pub first_found : (rows : List Row) → first Matching (say_all f.state.chip rows) ≡ meant_row (find Fitting rows)
+  unfolding first say_all meant_row
   first_found [] = refl
   first_found (row ∷ rows) =
       row_fits row (say_all f.state.chip rows)
@@ -128,8 +128,8 @@ module _ (chip : Chip) (kind address : ℕ) where
       (simp (and-false) (reordered row.writes (eqb address row.address) (eqb (kind / 2) (space row)))))))
       (λ of. rw (of, and-false) refl)
 
-  pub held_found : (rows : List Row) → held_in (say_all chip rows) kind address ≡ some_of (holds chip kind address) rows
-  unfolding held_in some_row say_all some_of
+  pub held_found : (rows : List Row) → held_in (say_all chip rows) kind address ≡ list_any (holds chip kind address) rows
+  unfolding held_in some_row say_all
   held_found [] = refl
   held_found (row ∷ rows) =
       some-append Holding (says chip row) (say_all chip rows) ∙ ap₂ (λ (a b : Bool). a || b) (row-holds row) (held_found rows)
@@ -156,25 +156,25 @@ module _ (chip : Chip) (kind address : ℕ) where
           ≡ (not (ltb row.width 2) && (not (eqb address 0) && (eqb (address - 1) row.address && (eqb (kind / 2) (space row) && d) || eqb (address - 1) row.address && (eqb (kind / 2) (space row) && e))))
       wide d e = either_way d e (not (eqb address 0)) (eqb (address - 1) row.address) (eqb (kind / 2) (space row)) (not (ltb row.width 2))
 
-  pub inside_found : (rows : List Row) → inside_in (say_all chip rows) kind address ≡ some_of (inside chip kind address) rows
-  unfolding inside_in some_row say_all some_of
+  pub inside_found : (rows : List Row) → inside_in (say_all chip rows) kind address ≡ list_any (inside chip kind address) rows
+  unfolding inside_in some_row say_all
   inside_found [] = refl
   inside_found (row ∷ rows) =
       some-append Inside (says chip row) (say_all chip rows) ∙ ap₂ (λ (a b : Bool). a || b) (row_inside row) (inside_found rows)
 
 -- ---- what every row passes
 
-is_found : Found → Bool
-is_found (At row) = true
-is_found Nothing = false
+is_found : Maybe Row → Bool
+is_found (Some row) = true
+is_found None = false
 
-row_in : Row → Found → Row
-row_in otherwise (At row) = row
-row_in otherwise Nothing = otherwise
+row_in : Row → Maybe Row → Row
+row_in otherwise (Some row) = row
+row_in otherwise None = otherwise
 
 -- the row that a walk finds passes what every row passes, and the walk's own test
-pub found-passes : (P test : Row → Bool) (rows : List Row) (row : Row) → T (every_row P rows) → found test rows ≡ At row → T (P row && test row)
-unfolding every_row found is_found row_in
+pub found-passes : (P test : Row → Bool) (rows : List Row) (row : Row) → T (every_row P rows) → find test rows ≡ Some row → T (P row && test row)
+unfolding every_row is_found row_in
 found-passes P test [] row t e = absurd (true≢false (sym (ap is_found e)))
 found-passes P test (this ∷ rows) row t e =
     by-test (test this)

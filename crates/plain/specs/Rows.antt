@@ -2,7 +2,7 @@
 -- each row, says.
 -- Assumes nothing.
 use Prim.Native.Char.{Char, code}
-use Rattle.std.specs.Prelude.{ℕ, zero, suc, ◌+◌, ◌*◌, ◌%◌, ◌≡◌, Bool, true, cond, not, ◌&&◌, ◌||◌, List, [], ◌∷◌, ◌++◌, T, eqb, ltb, get_or, drop}
+use Rattle.std.specs.Prelude.{ℕ, ◌+◌, ◌*◌, ◌%◌, ◌≡◌, Bool, true, cond, not, ◌&&◌, ◌||◌, List, [], ◌∷◌, ◌++◌, T, eqb, ltb, get_or, map}
 use Rattle.file.specs.declared.chip.Chip.{Chip}
 use Rattle.file.specs.declared.chip.Chip.TheVariants.{Gd5462, Gd5464}
 use Rattle.file.specs.Chips.{same_chip}
@@ -15,10 +15,7 @@ use Rattle.plain.specs.declared.row.Row.{Row}
 
 -- ---- a line
 
--- how many rows a list has, and how many bytes a row
-abbrev pub row_count : ℕ
-row_count = 223
-
+-- how many bytes a row has
 abbrev pub columns : ℕ
 columns = 44
 
@@ -75,11 +72,9 @@ row_of text =
       place = place_named (get_or text 24 0) (four_digits text 30);
     }
 
--- the first so many rows of a text
-unfoldable pub rows_of : ℕ → List ℕ → List Row
-unfolding row_of
-rows_of zero text = []
-rows_of (suc n) text = row_of text ∷ rows_of n (drop columns text)
+-- the rows of lines of text
+abbrev pub rows_of : List (List ℕ) → List Row
+rows_of lines = map row_of lines
 
 -- ---- what a row says
 
@@ -142,6 +137,6 @@ every_row test [] = true
 every_row test (row ∷ rows) = test row && every_row test rows
 
 -- a list that says 01's places and 01's stored bits, on either chip
-pub record Listed (text : List ℕ) : Type 0 where
-  pub places : (chip : Chip) → say_all chip (rows_of row_count text) ≡ allPlaces chip
-  pub bits : (chip : Chip) → T (every_row (bits_right chip (stored_table chip)) (rows_of row_count text))
+pub record Listed (lines : List (List ℕ)) : Type 0 where
+  pub places : (chip : Chip) → say_all chip (rows_of lines) ≡ allPlaces chip
+  pub bits : (chip : Chip) → T (every_row (bits_right chip (stored_table chip)) (rows_of lines))

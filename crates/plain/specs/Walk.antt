@@ -1,12 +1,10 @@
 -- 02, 8/13, 'it walks a flat list of places': the row that a record means, and what there is where it means none, read off rows.
 -- Assumes nothing.
-use Rattle.std.specs.Prelude.{ℕ, ◌-◌, ◌/◌, ◌%◌, Bool, false, cond, not, ◌&&◌, ◌||◌, List, [], ◌∷◌, eqb, ltb}
+use Rattle.std.specs.Prelude.{ℕ, ◌-◌, ◌/◌, ◌%◌, Bool, cond, not, ◌&&◌, ◌||◌, eqb, ltb}
 use Rattle.file.specs.declared.chip.Chip.{Chip}
 use Rattle.file.specs.declared.registers.File.{File}
 use Rattle.places.specs.Lookup.{selects, other_way}
 use Rattle.plain.specs.declared.row.Row.{Row}
-use Rattle.plain.specs.declared.walk.Found.{Found}
-use Rattle.plain.specs.declared.walk.Found.TheVariants.{At, Nothing}
 use Rattle.plain.specs.Rows.{space, of_chip, index_of}
 
 -- a row is for a kind of record and an address
@@ -20,16 +18,6 @@ selected f row = of_chip f.state.chip row && selects f (index_of row)
 unfoldable pub fits : File → ℕ → ℕ → Row → Bool
 unfolding is_at selected
 fits f kind address row = is_at kind address row && selected f row
-
--- the first row that passes a test
-unfoldable pub found : (Row → Bool) → List Row → Found
-found test [] = Nothing
-found test (row ∷ rows) = cond (test row) (At row) (found test rows)
-
--- some row passes a test
-unfoldable pub some_of : (Row → Bool) → List Row → Bool
-some_of test [] = false
-some_of test (row ∷ rows) = test row || some_of test rows
 
 -- a row of a chip holds an address for a kind of record, whatever the index
 unfoldable pub holds : Chip → ℕ → ℕ → Row → Bool

@@ -1,11 +1,10 @@
 // One access: the checks, and then a read or a write at the row that the record means, or lines pass.
-ghost use Rattle.std.specs.Prelude.{◌≡◌, ◌<◌};
+ghost use Rattle.std.specs.Prelude.{◌≡◌};
 ghost use Rattle.access.specs.Checks.{carries as carriesValue};
-ghost use Rattle.plain.specs.Rows.{Listed};
 ghost use Rattle.plain.specs.Told.{access_told, item_told};
 
-use crate::checks::{Looked, look};
-use crate::list::BYTES;
+use crate::checks::look;
+use crate::list::list;
 use crate::reading::read_row;
 use crate::told::{Told, leaving};
 use crate::writing::write_row;
@@ -13,12 +12,11 @@ use access::{Item, Record};
 use file::{Answer, File, is_sound};
 
 // What stands next in a trace; a fragment has code 2, and an unsound file 12 before it.
-pub fn access_item(list: &[u8; BYTES], item: Item, whole: File) -> Told
-    requires { Listed list.now }
+pub fn access_item(item: Item, whole: File) -> Told
     ensures { result ≡ item_told whole item }
 {
     match item {
-        Item::Whole(asked) => access(list, asked, whole),
+        Item::Whole(asked) => access(asked, whole),
         Item::Fragment(_) => {
             if is_sound(whole) {
                 leaving(whole, Answer::Malformed)
@@ -30,16 +28,14 @@ pub fn access_item(list: &[u8; BYTES], item: Item, whole: File) -> Told
 }
 
 // A whole record.
-fn access(list: &[u8; BYTES], asked: Record, whole: File) -> Told
-    requires { Listed list.now }
+fn access(asked: Record, whole: File) -> Told
     ensures { result ≡ access_told whole asked }
 {
-    let looked = look(list, asked, whole);
-    match looked {
-        Looked::Refused(answer) => leaving(whole, answer),
-        Looked::Means(row) => {
+    match look(list(), asked, whole) {
+        Err(answer) => leaving(whole, answer),
+        Ok(row) => {
             if carries(asked) {
-                write_row(row, whole, word(asked.value))
+                write_row(row, whole, asked.value as u16)
             } else {
                 read_row(row, whole)
             }
@@ -48,19 +44,9 @@ fn access(list: &[u8; BYTES], asked: Record, whole: File) -> Told
 }
 
 // The record brings a value: it is a write, or lets lines pass.
+#[tactic(auto, unfolding(access::specs::Checks::carries, access::specs::Checks::is_write, access::specs::Checks::is_passing))]
 fn carries(asked: Record) -> bool
     ensures { result ≡ carriesValue asked }
 {
-    if asked.kind == 6 {
-        return true;
-    }
-    asked.kind % 2 == 1
-}
-
-// The value, which fits two bytes.
-fn word(value: u32) -> u16
-    requires { value < 65536 }
-    ensures { result ≡ value }
-{
-    value as u16
+    asked.kind % 2 == 1 || asked.kind == 6
 }

@@ -2,7 +2,7 @@
 // value; nothing in it is made for speed. What it answers, and every file and byte that it leaves, is what `trace::run` leaves: it has that function's
 // contract, and `engines` says what follows.
 //
-// The files in the order in which a record meets them: running, accessing, checks, walk, row, list, reading, writing, lines; in each file the functions
+// The files in the order in which a record meets them: running, accessing, checks, walk, row, list, reading, writing; in each file the functions
 // stand so too.
 //
 // One record through it: with CR11[7]=1, the bytes 05 01 1C 00 FF 00 00 00, an MMIO write of FFh to 1Ch, width 1.
@@ -17,12 +17,11 @@
 // 3. The kind is odd, a write, so the row goes to `write_row` (writing), as it does where kind 6 lets lines pass; else it goes to `read_row` (reading). What
 //    stands there is `reg`, register 20h of the file. The lock refuses CR0 to CR6 (8) and not CR7; of CR7 it leaves bit 4 to the write, and not the row's
 //    stored bits, FF. So bit 4 is taken from FFh and the others stay.
-// 4. `put_reply` (running) stores the reply: code 0, kind 5, address 1Ch, value 0, that is 00 05 1C 00 00 00 00 00.
+// 4. `put_reply` (of `trace`) stores the reply: code 0, kind 5, address 1Ch, value 0, that is 00 05 1C 00 00 00 00 00.
 #![tactic(auto)]
 
 mod accessing;
 mod checks;
-mod lines;
 mod list;
 mod reading;
 mod row;

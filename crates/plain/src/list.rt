@@ -29,241 +29,240 @@
 // All numbers are hexadecimal.
 ghost use Rattle.plain.specs.Rows.{Listed};
 
-// How many rows there are, and how many bytes a row has: 44, because a constant has no more than 10,000.
+// How many rows there are, and how many bytes a row has.
 pub const ROWS: usize = 223;
 
 pub const COLUMNS: usize = 44;
 
-pub const BYTES: usize = ROWS * COLUMNS;
+static LIST: [[u8; COLUMNS]; ROWS] = [
+    *b"port 3C0      R  1   3F reg      4 ARX      ",
+    *b"port 3C0 i     W 1   3F attr     4 ARX      ",
+    *b"port 3C0 d 00  W 1   3F attr    40 AR0      ",
+    *b"port 3C0 d 01  W 1   3F attr    41 AR1      ",
+    *b"port 3C0 d 02  W 1   3F attr    42 AR2      ",
+    *b"port 3C0 d 03  W 1   3F attr    43 AR3      ",
+    *b"port 3C0 d 04  W 1   3F attr    44 AR4      ",
+    *b"port 3C0 d 05  W 1   3F attr    45 AR5      ",
+    *b"port 3C0 d 06  W 1   3F attr    46 AR6      ",
+    *b"port 3C0 d 07  W 1   3F attr    47 AR7      ",
+    *b"port 3C0 d 08  W 1   3F attr    48 AR8      ",
+    *b"port 3C0 d 09  W 1   3F attr    49 AR9      ",
+    *b"port 3C0 d 0A  W 1   3F attr    4A ARA      ",
+    *b"port 3C0 d 0B  W 1   3F attr    4B ARB      ",
+    *b"port 3C0 d 0C  W 1   3F attr    4C ARC      ",
+    *b"port 3C0 d 0D  W 1   3F attr    4D ARD      ",
+    *b"port 3C0 d 0E  W 1   3F attr    4E ARE      ",
+    *b"port 3C0 d 0F  W 1   3F attr    4F ARF      ",
+    *b"port 3C0 d 10  W 1   EF attr    50 AR10     ",
+    *b"port 3C0 d 11  W 1   FF attr    51 AR11     ",
+    *b"port 3C0 d 12  W 1   3F attr    52 AR12     ",
+    *b"port 3C0 d 13  W 1   0F attr    53 AR13     ",
+    *b"port 3C0 d 14  W 1   0F attr    54 AR14     ",
+    *b"port 3C0       W 1      flips               ",
+    *b"port 3C1 AR00 R  1   3F reg     40 AR0      ",
+    *b"port 3C1 AR01 R  1   3F reg     41 AR1      ",
+    *b"port 3C1 AR02 R  1   3F reg     42 AR2      ",
+    *b"port 3C1 AR03 R  1   3F reg     43 AR3      ",
+    *b"port 3C1 AR04 R  1   3F reg     44 AR4      ",
+    *b"port 3C1 AR05 R  1   3F reg     45 AR5      ",
+    *b"port 3C1 AR06 R  1   3F reg     46 AR6      ",
+    *b"port 3C1 AR07 R  1   3F reg     47 AR7      ",
+    *b"port 3C1 AR08 R  1   3F reg     48 AR8      ",
+    *b"port 3C1 AR09 R  1   3F reg     49 AR9      ",
+    *b"port 3C1 AR0A R  1   3F reg     4A ARA      ",
+    *b"port 3C1 AR0B R  1   3F reg     4B ARB      ",
+    *b"port 3C1 AR0C R  1   3F reg     4C ARC      ",
+    *b"port 3C1 AR0D R  1   3F reg     4D ARD      ",
+    *b"port 3C1 AR0E R  1   3F reg     4E ARE      ",
+    *b"port 3C1 AR0F R  1   3F reg     4F ARF      ",
+    *b"port 3C1 AR10 R  1   EF reg     50 AR10     ",
+    *b"port 3C1 AR11 R  1   FF reg     51 AR11     ",
+    *b"port 3C1 AR12 R  1   3F reg     52 AR12     ",
+    *b"port 3C1 AR13 R  1   0F reg     53 AR13     ",
+    *b"port 3C1 AR14 R  1   0F reg     54 AR14     ",
+    *b"port 3C1      R  1      none                ",
+    *b"port 3C2       W 1   EF reg      0 MISC     ",
+    *b"port 3CC      R  1   EF reg      0 MISC     ",
+    *b"port 3C4      RW 1   1F reg      1 SRX      ",
+    *b"port 3C5 SR00 RW 1   03 reg      7 SR0      ",
+    *b"port 3C5 SR01 RW 1   3D reg      8 SR1      ",
+    *b"port 3C5 SR02 RW 1   0F reg      9 SR2      ",
+    *b"port 3C5 SR03 RW 1   3F reg      A SR3      ",
+    *b"port 3C5 SR04 RW 1   0E reg      B SR4      ",
+    *b"port 3C5 SR07 RW 1   01 reg      C SR7      ",
+    *b"port 3C5 SR09 RW 1   FF reg      D SR9      ",
+    *b"port 3C5 SR0A RW 1   FF reg      E SRA      ",
+    *b"port 3C5 SR0B RW 1   FF reg      F SR0B     ",
+    *b"port 3C5 SR0C RW 1   FF reg     10 SR0C     ",
+    *b"port 3C5 SR0D RW 1   FF reg     11 SR0D     ",
+    *b"port 3C5 SR0E RW 1   FF reg     12 SR0E     ",
+    *b"port 3C5 SR14 RW 1   FF reg     13 SR14     ",
+    *b"port 3C5 SR15 RW 1   FF reg     14 SR15     ",
+    *b"port 3C5 SR1B RW 1   7F reg     15 SR1B     ",
+    *b"port 3C5 SR1C RW 1   7F reg     16 SR1C     ",
+    *b"port 3C5 SR1D RW 1   7F reg     17 SR1D     ",
+    *b"port 3C5 SR1E RW 1   7F reg     18 SR1E     ",
+    *b"port 3C5 SR06 RW 1      gives   12 SR6      ",
+    *b"port 3C5      RW 1      none                ",
+    *b"port 3C6      RW 1   FF reg      5 pixelMask",
+    *b"port 3C7      RW 1      dac                 ",
+    *b"port 3C8      RW 1      where               ",
+    *b"port 3C9      RW 1      pixel               ",
+    *b"port 3CE      RW 1   3F reg      3 GRX      ",
+    *b"port 3CF GR00 RW 1   0F reg     37 GR0      ",
+    *b"port 3CF GR01 RW 1   0F reg     38 GR1      ",
+    *b"port 3CF GR02 RW 1   0F reg     39 GR2      ",
+    *b"port 3CF GR03 RW 1   1F reg     3A GR3      ",
+    *b"port 3CF GR04 RW 1   03 reg     3B GR4      ",
+    *b"port 3CF GR05 RW 1   7B reg     3C GR5      ",
+    *b"port 3CF GR06 RW 1   0F reg     3D GR6      ",
+    *b"port 3CF GR07 RW 1   0F reg     3E GR7      ",
+    *b"port 3CF GR08 RW 1   FF reg     3F GR8      ",
+    *b"port 3CF      RW 1      none                ",
+    *b"port 3B4      RW 1   3F reg      2 CRX      ",
+    *b"port 3B5 CR00 RW 1   FF reg     19 CR0      ",
+    *b"port 3B5 CR01 RW 1   FF reg     1A CR1      ",
+    *b"port 3B5 CR02 RW 1   FF reg     1B CR2      ",
+    *b"port 3B5 CR03 RW 1   FF reg     1C CR3      ",
+    *b"port 3B5 CR04 RW 1   FF reg     1D CR4      ",
+    *b"port 3B5 CR05 RW 1   FF reg     1E CR5      ",
+    *b"port 3B5 CR06 RW 1   FF reg     1F CR6      ",
+    *b"port 3B5 CR07 RW 1   FF reg     20 CR7      ",
+    *b"port 3B5 CR08 RW 1   7F reg     21 CR8      ",
+    *b"port 3B5 CR09 RW 1   FF reg     22 CR9      ",
+    *b"port 3B5 CR0A RW 1   3F reg     23 CRA      ",
+    *b"port 3B5 CR0B RW 1   7F reg     24 CRB      ",
+    *b"port 3B5 CR0C RW 1   FF reg     25 CRC      ",
+    *b"port 3B5 CR0D RW 1   FF reg     26 CRD      ",
+    *b"port 3B5 CR0E RW 1   FF reg     27 CRE      ",
+    *b"port 3B5 CR0F RW 1   FF reg     28 CRF      ",
+    *b"port 3B5 CR10 RW 1   FF reg     29 CR10     ",
+    *b"port 3B5 CR11 RW 1   FF reg     2A CR11     ",
+    *b"port 3B5 CR12 RW 1   FF reg     2B CR12     ",
+    *b"port 3B5 CR13 RW 1   FF reg     2C CR13     ",
+    *b"port 3B5 CR14 RW 1   7F reg     2D CR14     ",
+    *b"port 3B5 CR15 RW 1   FF reg     2E CR15     ",
+    *b"port 3B5 CR16 RW 1   FF reg     2F CR16     ",
+    *b"port 3B5 CR17 RW 1   EF reg     30 CR17     ",
+    *b"port 3B5 CR18 RW 1   FF reg     31 CR18     ",
+    *b"port 3B5 CR19 RW 1   FF reg     32 CR19     ",
+    *b"port 3B5 CR1A RW 1   FF reg     33 CR1A     ",
+    *b"port 3B5 CR1B RW 1   FF reg     34 CR1B     ",
+    *b"port 3B5 CR1D RW 1   18 reg     35 CR1D     ",
+    *b"port 3B5 CR1E RW 1   FF reg     36 CR1E     ",
+    *b"port 3B5 CR24 RW 1      togl       CR24     ",
+    *b"port 3B5 CR26 RW 1      index      CR26     ",
+    *b"port 3B5      RW 1      none                ",
+    *b"port 3BA      R  1      sync                ",
+    *b"port 3D4      RW 1   3F reg      2 CRX      ",
+    *b"port 3D5 CR00 RW 1   FF reg     19 CR0      ",
+    *b"port 3D5 CR01 RW 1   FF reg     1A CR1      ",
+    *b"port 3D5 CR02 RW 1   FF reg     1B CR2      ",
+    *b"port 3D5 CR03 RW 1   FF reg     1C CR3      ",
+    *b"port 3D5 CR04 RW 1   FF reg     1D CR4      ",
+    *b"port 3D5 CR05 RW 1   FF reg     1E CR5      ",
+    *b"port 3D5 CR06 RW 1   FF reg     1F CR6      ",
+    *b"port 3D5 CR07 RW 1   FF reg     20 CR7      ",
+    *b"port 3D5 CR08 RW 1   7F reg     21 CR8      ",
+    *b"port 3D5 CR09 RW 1   FF reg     22 CR9      ",
+    *b"port 3D5 CR0A RW 1   3F reg     23 CRA      ",
+    *b"port 3D5 CR0B RW 1   7F reg     24 CRB      ",
+    *b"port 3D5 CR0C RW 1   FF reg     25 CRC      ",
+    *b"port 3D5 CR0D RW 1   FF reg     26 CRD      ",
+    *b"port 3D5 CR0E RW 1   FF reg     27 CRE      ",
+    *b"port 3D5 CR0F RW 1   FF reg     28 CRF      ",
+    *b"port 3D5 CR10 RW 1   FF reg     29 CR10     ",
+    *b"port 3D5 CR11 RW 1   FF reg     2A CR11     ",
+    *b"port 3D5 CR12 RW 1   FF reg     2B CR12     ",
+    *b"port 3D5 CR13 RW 1   FF reg     2C CR13     ",
+    *b"port 3D5 CR14 RW 1   7F reg     2D CR14     ",
+    *b"port 3D5 CR15 RW 1   FF reg     2E CR15     ",
+    *b"port 3D5 CR16 RW 1   FF reg     2F CR16     ",
+    *b"port 3D5 CR17 RW 1   EF reg     30 CR17     ",
+    *b"port 3D5 CR18 RW 1   FF reg     31 CR18     ",
+    *b"port 3D5 CR19 RW 1   FF reg     32 CR19     ",
+    *b"port 3D5 CR1A RW 1   FF reg     33 CR1A     ",
+    *b"port 3D5 CR1B RW 1   FF reg     34 CR1B     ",
+    *b"port 3D5 CR1D RW 1   18 reg     35 CR1D     ",
+    *b"port 3D5 CR1E RW 1   FF reg     36 CR1E     ",
+    *b"port 3D5 CR24 RW 1      togl       CR24     ",
+    *b"port 3D5 CR26 RW 1      index      CR26     ",
+    *b"port 3D5      RW 1      none                ",
+    *b"port 3DA      R  1      sync                ",
+    *b"mmio  00      RW 1   FF reg     19 CR0      ",
+    *b"mmio  04      RW 1   FF reg     1A CR1      ",
+    *b"mmio  08      RW 1   FF reg     1B CR2      ",
+    *b"mmio  0C      RW 1   FF reg     1C CR3      ",
+    *b"mmio  10      RW 1   FF reg     1D CR4      ",
+    *b"mmio  14      RW 1   FF reg     1E CR5      ",
+    *b"mmio  18      RW 1   FF reg     1F CR6      ",
+    *b"mmio  1C      RW 1   FF reg     20 CR7      ",
+    *b"mmio  20      RW 1   7F reg     21 CR8      ",
+    *b"mmio  24      RW 1   FF reg     22 CR9      ",
+    *b"mmio  28      RW 1   3F reg     23 CRA      ",
+    *b"mmio  2C      RW 1   7F reg     24 CRB      ",
+    *b"mmio  30      RW 1   FF reg     25 CRC      ",
+    *b"mmio  34      RW 1   FF reg     26 CRD      ",
+    *b"mmio  38      RW 1   FF reg     27 CRE      ",
+    *b"mmio  3C      RW 1   FF reg     28 CRF      ",
+    *b"mmio  40      RW 1   FF reg     29 CR10     ",
+    *b"mmio  44      RW 1   FF reg     2A CR11     ",
+    *b"mmio  48      RW 1   FF reg     2B CR12     ",
+    *b"mmio  4C      RW 1   FF reg     2C CR13     ",
+    *b"mmio  50      RW 1   7F reg     2D CR14     ",
+    *b"mmio  54      RW 1   FF reg     2E CR15     ",
+    *b"mmio  58      RW 1   FF reg     2F CR16     ",
+    *b"mmio  5C      RW 1   EF reg     30 CR17     ",
+    *b"mmio  60      RW 1   FF reg     31 CR18     ",
+    *b"mmio  64      RW 1   FF reg     32 CR19     ",
+    *b"mmio  68      RW 1   FF reg     33 CR1A     ",
+    *b"mmio  6C      RW 1   FF reg     34 CR1B     ",
+    *b"mmio  74      RW 1   18 reg     35 CR1D     ",
+    *b"mmio  78      RW 1   FF reg     36 CR1E     ",
+    *b"mmio  80      RW 1   EF reg      0 MISC     ",
+    *b"mmio  84      RW 1   FF reg     12 SR0E     ",
+    *b"mmio  88      RW 1   7F reg     18 SR1E     ",
+    *b"mmio  A0      RW 1   FF reg      5 pixelMask",
+    *b"mmio  A4      RW 1      dac                 ",
+    *b"mmio  A8      RW 1      where               ",
+    *b"mmio  AC      RW 1      pixel               ",
+    *b"mmio  B0      RW 1   88 marks   55 B0       ",
+    *b"mmio  B8      RW 1   FF reg     56 B8       ",
+    *b"mmio  BC      RW 1   FF reg     57 BC       ",
+    *b"mmio  C0      RW 2 3F3F reg     58 C0       ",
+    *b"mmio  CC      RW 2 0FFF reg     59 CC       ",
+    *b"mmio  CE      RW 2 0FFF reg     5A CE       ",
+    *b"mmio  D0      RW 2 0FFF reg     5B D0       ",
+    *b"mmio  D2      RW 2 0FFF reg     5C D2       ",
+    *b"mmio  D4      RW 1   FF reg     5D D4       ",
+    *b"mmio  D5      RW 1   3F reg     5E D5       ",
+    *b"mmio  E0      RW 2 0FFF reg     5F E0       ",
+    *b"mmio  E2      RW 2 0FFF reg     60 E2       ",
+    *b"mmio  E4      RW 2 7F7F reg     61 E4       ",
+    *b"mmio  E6      RW 2 1101 reg     62 E6       ",
+    *b"mmio  E8      RW 2 7FFC reg     63 E8       ",
+    *b"mmio 100      RW 2 1F00 reg     64 100      ",
+    *b"mmio 102      RW 2 1F00 reg     65 102      ",
+    *b"mmio 104      RW 2 3FFF reg     66 104      ",
+    *b"mmio 106      RW 2 3FFF reg     67 106      ",
+    *b"mmio 108      RW 2 03FF reg     68 108      ",
+    *b"mmio 10A      RW 2 03FF reg     69 10A      ",
+    *b"mmio 10C 5462 RW 2 F3DF vport   6A 10C      ",
+    *b"mmio 10C 5464 RW 2 01FF vport   6A 10C      ",
+    *b"mmio 10E      RW 2 01FF reg     6B 10E      ",
+    *b"conf  00      RW 2      gives 1013 PCI00    ",
+    *b"conf  02      RW 2      chip       PCI02    ",
+    *b"conf  04      RW 2 0027 reg      6 PCI04    ",
+    *b"mmio 300      RW 2      gives 1013 PCI00    ",
+    *b"mmio 302      RW 2      chip       PCI02    ",
+    *b"mmio 304      RW 2 0027 reg      6 PCI04    ",
+    *b"time  00      P  2      lines               ",
+    *b"mmio 140 5464 R  2      beam       CSL      ",
+];
 
-const LIST: [u8; BYTES] = *b"\
-    port 3C0      R  1   3F reg      4 ARX      \
-    port 3C0 i     W 1   3F attr     4 ARX      \
-    port 3C0 d 00  W 1   3F attr    40 AR0      \
-    port 3C0 d 01  W 1   3F attr    41 AR1      \
-    port 3C0 d 02  W 1   3F attr    42 AR2      \
-    port 3C0 d 03  W 1   3F attr    43 AR3      \
-    port 3C0 d 04  W 1   3F attr    44 AR4      \
-    port 3C0 d 05  W 1   3F attr    45 AR5      \
-    port 3C0 d 06  W 1   3F attr    46 AR6      \
-    port 3C0 d 07  W 1   3F attr    47 AR7      \
-    port 3C0 d 08  W 1   3F attr    48 AR8      \
-    port 3C0 d 09  W 1   3F attr    49 AR9      \
-    port 3C0 d 0A  W 1   3F attr    4A ARA      \
-    port 3C0 d 0B  W 1   3F attr    4B ARB      \
-    port 3C0 d 0C  W 1   3F attr    4C ARC      \
-    port 3C0 d 0D  W 1   3F attr    4D ARD      \
-    port 3C0 d 0E  W 1   3F attr    4E ARE      \
-    port 3C0 d 0F  W 1   3F attr    4F ARF      \
-    port 3C0 d 10  W 1   EF attr    50 AR10     \
-    port 3C0 d 11  W 1   FF attr    51 AR11     \
-    port 3C0 d 12  W 1   3F attr    52 AR12     \
-    port 3C0 d 13  W 1   0F attr    53 AR13     \
-    port 3C0 d 14  W 1   0F attr    54 AR14     \
-    port 3C0       W 1      flips               \
-    port 3C1 AR00 R  1   3F reg     40 AR0      \
-    port 3C1 AR01 R  1   3F reg     41 AR1      \
-    port 3C1 AR02 R  1   3F reg     42 AR2      \
-    port 3C1 AR03 R  1   3F reg     43 AR3      \
-    port 3C1 AR04 R  1   3F reg     44 AR4      \
-    port 3C1 AR05 R  1   3F reg     45 AR5      \
-    port 3C1 AR06 R  1   3F reg     46 AR6      \
-    port 3C1 AR07 R  1   3F reg     47 AR7      \
-    port 3C1 AR08 R  1   3F reg     48 AR8      \
-    port 3C1 AR09 R  1   3F reg     49 AR9      \
-    port 3C1 AR0A R  1   3F reg     4A ARA      \
-    port 3C1 AR0B R  1   3F reg     4B ARB      \
-    port 3C1 AR0C R  1   3F reg     4C ARC      \
-    port 3C1 AR0D R  1   3F reg     4D ARD      \
-    port 3C1 AR0E R  1   3F reg     4E ARE      \
-    port 3C1 AR0F R  1   3F reg     4F ARF      \
-    port 3C1 AR10 R  1   EF reg     50 AR10     \
-    port 3C1 AR11 R  1   FF reg     51 AR11     \
-    port 3C1 AR12 R  1   3F reg     52 AR12     \
-    port 3C1 AR13 R  1   0F reg     53 AR13     \
-    port 3C1 AR14 R  1   0F reg     54 AR14     \
-    port 3C1      R  1      none                \
-    port 3C2       W 1   EF reg      0 MISC     \
-    port 3CC      R  1   EF reg      0 MISC     \
-    port 3C4      RW 1   1F reg      1 SRX      \
-    port 3C5 SR00 RW 1   03 reg      7 SR0      \
-    port 3C5 SR01 RW 1   3D reg      8 SR1      \
-    port 3C5 SR02 RW 1   0F reg      9 SR2      \
-    port 3C5 SR03 RW 1   3F reg      A SR3      \
-    port 3C5 SR04 RW 1   0E reg      B SR4      \
-    port 3C5 SR07 RW 1   01 reg      C SR7      \
-    port 3C5 SR09 RW 1   FF reg      D SR9      \
-    port 3C5 SR0A RW 1   FF reg      E SRA      \
-    port 3C5 SR0B RW 1   FF reg      F SR0B     \
-    port 3C5 SR0C RW 1   FF reg     10 SR0C     \
-    port 3C5 SR0D RW 1   FF reg     11 SR0D     \
-    port 3C5 SR0E RW 1   FF reg     12 SR0E     \
-    port 3C5 SR14 RW 1   FF reg     13 SR14     \
-    port 3C5 SR15 RW 1   FF reg     14 SR15     \
-    port 3C5 SR1B RW 1   7F reg     15 SR1B     \
-    port 3C5 SR1C RW 1   7F reg     16 SR1C     \
-    port 3C5 SR1D RW 1   7F reg     17 SR1D     \
-    port 3C5 SR1E RW 1   7F reg     18 SR1E     \
-    port 3C5 SR06 RW 1      gives   12 SR6      \
-    port 3C5      RW 1      none                \
-    port 3C6      RW 1   FF reg      5 pixelMask\
-    port 3C7      RW 1      dac                 \
-    port 3C8      RW 1      where               \
-    port 3C9      RW 1      pixel               \
-    port 3CE      RW 1   3F reg      3 GRX      \
-    port 3CF GR00 RW 1   0F reg     37 GR0      \
-    port 3CF GR01 RW 1   0F reg     38 GR1      \
-    port 3CF GR02 RW 1   0F reg     39 GR2      \
-    port 3CF GR03 RW 1   1F reg     3A GR3      \
-    port 3CF GR04 RW 1   03 reg     3B GR4      \
-    port 3CF GR05 RW 1   7B reg     3C GR5      \
-    port 3CF GR06 RW 1   0F reg     3D GR6      \
-    port 3CF GR07 RW 1   0F reg     3E GR7      \
-    port 3CF GR08 RW 1   FF reg     3F GR8      \
-    port 3CF      RW 1      none                \
-    port 3B4      RW 1   3F reg      2 CRX      \
-    port 3B5 CR00 RW 1   FF reg     19 CR0      \
-    port 3B5 CR01 RW 1   FF reg     1A CR1      \
-    port 3B5 CR02 RW 1   FF reg     1B CR2      \
-    port 3B5 CR03 RW 1   FF reg     1C CR3      \
-    port 3B5 CR04 RW 1   FF reg     1D CR4      \
-    port 3B5 CR05 RW 1   FF reg     1E CR5      \
-    port 3B5 CR06 RW 1   FF reg     1F CR6      \
-    port 3B5 CR07 RW 1   FF reg     20 CR7      \
-    port 3B5 CR08 RW 1   7F reg     21 CR8      \
-    port 3B5 CR09 RW 1   FF reg     22 CR9      \
-    port 3B5 CR0A RW 1   3F reg     23 CRA      \
-    port 3B5 CR0B RW 1   7F reg     24 CRB      \
-    port 3B5 CR0C RW 1   FF reg     25 CRC      \
-    port 3B5 CR0D RW 1   FF reg     26 CRD      \
-    port 3B5 CR0E RW 1   FF reg     27 CRE      \
-    port 3B5 CR0F RW 1   FF reg     28 CRF      \
-    port 3B5 CR10 RW 1   FF reg     29 CR10     \
-    port 3B5 CR11 RW 1   FF reg     2A CR11     \
-    port 3B5 CR12 RW 1   FF reg     2B CR12     \
-    port 3B5 CR13 RW 1   FF reg     2C CR13     \
-    port 3B5 CR14 RW 1   7F reg     2D CR14     \
-    port 3B5 CR15 RW 1   FF reg     2E CR15     \
-    port 3B5 CR16 RW 1   FF reg     2F CR16     \
-    port 3B5 CR17 RW 1   EF reg     30 CR17     \
-    port 3B5 CR18 RW 1   FF reg     31 CR18     \
-    port 3B5 CR19 RW 1   FF reg     32 CR19     \
-    port 3B5 CR1A RW 1   FF reg     33 CR1A     \
-    port 3B5 CR1B RW 1   FF reg     34 CR1B     \
-    port 3B5 CR1D RW 1   18 reg     35 CR1D     \
-    port 3B5 CR1E RW 1   FF reg     36 CR1E     \
-    port 3B5 CR24 RW 1      togl       CR24     \
-    port 3B5 CR26 RW 1      index      CR26     \
-    port 3B5      RW 1      none                \
-    port 3BA      R  1      sync                \
-    port 3D4      RW 1   3F reg      2 CRX      \
-    port 3D5 CR00 RW 1   FF reg     19 CR0      \
-    port 3D5 CR01 RW 1   FF reg     1A CR1      \
-    port 3D5 CR02 RW 1   FF reg     1B CR2      \
-    port 3D5 CR03 RW 1   FF reg     1C CR3      \
-    port 3D5 CR04 RW 1   FF reg     1D CR4      \
-    port 3D5 CR05 RW 1   FF reg     1E CR5      \
-    port 3D5 CR06 RW 1   FF reg     1F CR6      \
-    port 3D5 CR07 RW 1   FF reg     20 CR7      \
-    port 3D5 CR08 RW 1   7F reg     21 CR8      \
-    port 3D5 CR09 RW 1   FF reg     22 CR9      \
-    port 3D5 CR0A RW 1   3F reg     23 CRA      \
-    port 3D5 CR0B RW 1   7F reg     24 CRB      \
-    port 3D5 CR0C RW 1   FF reg     25 CRC      \
-    port 3D5 CR0D RW 1   FF reg     26 CRD      \
-    port 3D5 CR0E RW 1   FF reg     27 CRE      \
-    port 3D5 CR0F RW 1   FF reg     28 CRF      \
-    port 3D5 CR10 RW 1   FF reg     29 CR10     \
-    port 3D5 CR11 RW 1   FF reg     2A CR11     \
-    port 3D5 CR12 RW 1   FF reg     2B CR12     \
-    port 3D5 CR13 RW 1   FF reg     2C CR13     \
-    port 3D5 CR14 RW 1   7F reg     2D CR14     \
-    port 3D5 CR15 RW 1   FF reg     2E CR15     \
-    port 3D5 CR16 RW 1   FF reg     2F CR16     \
-    port 3D5 CR17 RW 1   EF reg     30 CR17     \
-    port 3D5 CR18 RW 1   FF reg     31 CR18     \
-    port 3D5 CR19 RW 1   FF reg     32 CR19     \
-    port 3D5 CR1A RW 1   FF reg     33 CR1A     \
-    port 3D5 CR1B RW 1   FF reg     34 CR1B     \
-    port 3D5 CR1D RW 1   18 reg     35 CR1D     \
-    port 3D5 CR1E RW 1   FF reg     36 CR1E     \
-    port 3D5 CR24 RW 1      togl       CR24     \
-    port 3D5 CR26 RW 1      index      CR26     \
-    port 3D5      RW 1      none                \
-    port 3DA      R  1      sync                \
-    mmio  00      RW 1   FF reg     19 CR0      \
-    mmio  04      RW 1   FF reg     1A CR1      \
-    mmio  08      RW 1   FF reg     1B CR2      \
-    mmio  0C      RW 1   FF reg     1C CR3      \
-    mmio  10      RW 1   FF reg     1D CR4      \
-    mmio  14      RW 1   FF reg     1E CR5      \
-    mmio  18      RW 1   FF reg     1F CR6      \
-    mmio  1C      RW 1   FF reg     20 CR7      \
-    mmio  20      RW 1   7F reg     21 CR8      \
-    mmio  24      RW 1   FF reg     22 CR9      \
-    mmio  28      RW 1   3F reg     23 CRA      \
-    mmio  2C      RW 1   7F reg     24 CRB      \
-    mmio  30      RW 1   FF reg     25 CRC      \
-    mmio  34      RW 1   FF reg     26 CRD      \
-    mmio  38      RW 1   FF reg     27 CRE      \
-    mmio  3C      RW 1   FF reg     28 CRF      \
-    mmio  40      RW 1   FF reg     29 CR10     \
-    mmio  44      RW 1   FF reg     2A CR11     \
-    mmio  48      RW 1   FF reg     2B CR12     \
-    mmio  4C      RW 1   FF reg     2C CR13     \
-    mmio  50      RW 1   7F reg     2D CR14     \
-    mmio  54      RW 1   FF reg     2E CR15     \
-    mmio  58      RW 1   FF reg     2F CR16     \
-    mmio  5C      RW 1   EF reg     30 CR17     \
-    mmio  60      RW 1   FF reg     31 CR18     \
-    mmio  64      RW 1   FF reg     32 CR19     \
-    mmio  68      RW 1   FF reg     33 CR1A     \
-    mmio  6C      RW 1   FF reg     34 CR1B     \
-    mmio  74      RW 1   18 reg     35 CR1D     \
-    mmio  78      RW 1   FF reg     36 CR1E     \
-    mmio  80      RW 1   EF reg      0 MISC     \
-    mmio  84      RW 1   FF reg     12 SR0E     \
-    mmio  88      RW 1   7F reg     18 SR1E     \
-    mmio  A0      RW 1   FF reg      5 pixelMask\
-    mmio  A4      RW 1      dac                 \
-    mmio  A8      RW 1      where               \
-    mmio  AC      RW 1      pixel               \
-    mmio  B0      RW 1   88 marks   55 B0       \
-    mmio  B8      RW 1   FF reg     56 B8       \
-    mmio  BC      RW 1   FF reg     57 BC       \
-    mmio  C0      RW 2 3F3F reg     58 C0       \
-    mmio  CC      RW 2 0FFF reg     59 CC       \
-    mmio  CE      RW 2 0FFF reg     5A CE       \
-    mmio  D0      RW 2 0FFF reg     5B D0       \
-    mmio  D2      RW 2 0FFF reg     5C D2       \
-    mmio  D4      RW 1   FF reg     5D D4       \
-    mmio  D5      RW 1   3F reg     5E D5       \
-    mmio  E0      RW 2 0FFF reg     5F E0       \
-    mmio  E2      RW 2 0FFF reg     60 E2       \
-    mmio  E4      RW 2 7F7F reg     61 E4       \
-    mmio  E6      RW 2 1101 reg     62 E6       \
-    mmio  E8      RW 2 7FFC reg     63 E8       \
-    mmio 100      RW 2 1F00 reg     64 100      \
-    mmio 102      RW 2 1F00 reg     65 102      \
-    mmio 104      RW 2 3FFF reg     66 104      \
-    mmio 106      RW 2 3FFF reg     67 106      \
-    mmio 108      RW 2 03FF reg     68 108      \
-    mmio 10A      RW 2 03FF reg     69 10A      \
-    mmio 10C 5462 RW 2 F3DF vport   6A 10C      \
-    mmio 10C 5464 RW 2 01FF vport   6A 10C      \
-    mmio 10E      RW 2 01FF reg     6B 10E      \
-    conf  00      RW 2      gives 1013 PCI00    \
-    conf  02      RW 2      chip       PCI02    \
-    conf  04      RW 2 0027 reg      6 PCI04    \
-    mmio 300      RW 2      gives 1013 PCI00    \
-    mmio 302      RW 2      chip       PCI02    \
-    mmio 304      RW 2 0027 reg      6 PCI04    \
-    time  00      P  2      lines               \
-    mmio 140 5464 R  2      beam       CSL      ";
-
-// The list by value, for those who lend it. On either chip it says what 01's list of places says, with the bits that the chip's registers store.
-pub fn list() -> [u8; BYTES]
-    ensures { Listed result }
+// The list, lent. On either chip it says what 01's list of places says, with the bits that the chip's registers store.
+pub fn list() -> &'static [[u8; COLUMNS]; ROWS]
+    ensures { Listed result.now }
 {
-    LIST
+    &LIST
 }

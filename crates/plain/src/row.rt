@@ -1,12 +1,12 @@
 // A row of the list, read off its line.
-ghost use Rattle.std.specs.Prelude.{◌≡◌, ◌+◌, ◌*◌, ◌<◌, drop};
-ghost use Rattle.plain.specs.Rows.{row_count, columns, digit as digitOf, two_digits, four_digits, place_named, row_of};
+ghost use Rattle.std.specs.Prelude.{◌≡◌, ◌+◌, ◌<◌};
+ghost use Rattle.plain.specs.Rows.{columns, digit as digitOf, two_digits, four_digits, place_named, row_of};
 
-use crate::list::{BYTES, COLUMNS};
+use crate::list::COLUMNS;
 use places::Place;
 
-// The first letters of its space and of its index, the number that the index has to be, and the other columns. A row where lines pass is among those that
-// read: its kind of record, 6, is even as theirs are.
+// The first letters of its space and of its index, as the line has them, the number that the index has to be, and the other columns. A row where lines
+// pass is among those that read: its kind of record, 6, is even as theirs are.
 #[derive(Clone, Copy)]
 pub struct Row {
     pub space: u8,
@@ -20,27 +20,27 @@ pub struct Row {
     pub place: Place,
 }
 
-// The row of a number, from 0 on.
-pub fn row_at(list: &[u8; BYTES], n: usize) -> Row
-    requires { n < row_count }
-    ensures { result ≡ row_of (drop (columns * n) list.now) }
+// The row that a line says.
+#[tactic(auto, unfolding(crate::specs::Rows::row_of))]
+pub fn row_of(line: &[u8; COLUMNS]) -> Row
+    ensures { result ≡ row_of line.now }
 {
-    let at = COLUMNS * n;
-    let place = place_named(list[at + 24], four_digits(list, at + 30));
+    let place = place_named(line[24], four_digits(line, 30));
     Row {
-        space: list[at],
-        address: four_digits(list, at + 4),
-        index: list[at + 9],
-        nth: two_digits(list, at + 11),
-        reads: list[at + 14] != b' ',
-        writes: list[at + 15] != b' ',
-        width: list[at + 17] % 16,
-        stored: four_digits(list, at + 19),
+        space: line[0],
+        address: four_digits(line, 4),
+        index: line[9],
+        nth: two_digits(line, 11),
+        reads: line[14] != b' ',
+        writes: line[15] != b' ',
+        width: line[17] % 16,
+        stored: four_digits(line, 19),
         place,
     }
 }
 
 // What stands there, by a letter and a number.
+#[tactic(auto, unfolding(crate::specs::Rows::place_named))]
 fn place_named(letter: u8, number: u16) -> Place
     ensures { result ≡ place_named letter number }
 {
@@ -64,33 +64,31 @@ fn place_named(letter: u8, number: u16) -> Place
     }
 }
 
-fn four_digits(list: &[u8; BYTES], at: usize) -> u16
-    requires { at + 3 < row_count * columns }
-    ensures { result ≡ four_digits list.now at }
+#[tactic(auto, unfolding(crate::specs::Rows::four_digits))]
+fn four_digits(line: &[u8; COLUMNS], at: usize) -> u16
+    requires { at + 3 < columns }
+    ensures { result ≡ four_digits line.now at }
 {
-    256 * two_digits(list, at) + two_digits(list, at + 2)
+    256 * two_digits(line, at) + two_digits(line, at + 2)
 }
 
-fn two_digits(list: &[u8; BYTES], at: usize) -> u16
-    requires { at + 1 < row_count * columns }
-    ensures { (result ≡ two_digits list.now at) × (result < 256) }
+#[tactic(auto, unfolding(crate::specs::Rows::two_digits))]
+fn two_digits(line: &[u8; COLUMNS], at: usize) -> u16
+    requires { at + 1 < columns }
+    ensures { (result ≡ two_digits line.now at) × (result < 256) }
 {
-    16 * digit(list[at]) + digit(list[at + 1])
+    16 * digit(line[at]) + digit(line[at + 1])
 }
 
 // A hexadecimal digit; a blank counts as 0.
+#[tactic(auto, unfolding(crate::specs::Rows::digit))]
 fn digit(byte: u8) -> u16
     ensures { (result ≡ digitOf byte) × (result < 16) }
 {
+    let number = u16::from(byte);
     if byte < b'A' {
-        wide(byte) % 16
+        number % 16
     } else {
-        (wide(byte) + 9) % 16
+        (number + 9) % 16
     }
-}
-
-fn wide(byte: u8) -> u16
-    ensures { result ≡ byte }
-{
-    byte as u16
 }

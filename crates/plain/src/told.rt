@@ -1,4 +1,4 @@
-// What an access tells: its answer, and the file after it.
+// What an access tells: its answer, and the file after it. No `Result`: a refusal leaves the file as given, and code 1 may flip the toggle.
 ghost use Rattle.std.specs.Prelude.{◌≡◌};
 ghost use Rattle.file.specs.File.{with_state};
 

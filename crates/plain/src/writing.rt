@@ -1,18 +1,16 @@
 // A write at a row, or lines that pass.
 ghost use Rattle.std.specs.Prelude.{◌≡◌, ◌<◌, T};
-ghost use Rattle.file.specs.File.{crtc_locked};
 ghost use Rattle.file.specs.Registers.{register_count};
 ghost use Rattle.places.specs.EngineCells.{in_file, takes_bytes};
 ghost use Rattle.places.specs.Profile.{profile, stores_to, sets_address, writes_pixel, passes_lines};
 ghost use Rattle.file.specs.Effects.{paint_in};
-ghost use Rattle.access.specs.Access.{locked_out, in_bank, entry_number};
+ghost use Rattle.access.specs.Access.{in_bank, entry_number};
 ghost use Rattle.plain.specs.Told.{row_reach, write_told, pixel_written};
 
-use crate::lines::line_after;
-use crate::reading::{is_in_bank, is_palette_up};
 use crate::row::Row;
 use crate::told::{Told, leaving, with_state};
-use file::{Answer, B0, BANK, CAPTURE_Y_START, CR0, CR6, CR7, CR11, Colour, File, Pointer};
+use access::{is_in_bank, is_locked, is_locked_out, is_palette_up, line_after};
+use file::{Answer, B0, BANK, CAPTURE_Y_START, CR7, Colour, File, Pointer};
 use places::Place;
 
 // What a write at a row answers, and the file after it. The pointer's places take a byte.
@@ -28,15 +26,15 @@ pub fn write_row(row: Row, whole: File, value: u16) -> Told
         Place::Attribute(number) => write_register(row, whole, number, true, value),
         Place::PaletteState => write_register(row, whole, B0, false, value),
         Place::VPortState => write_register(row, whole, CAPTURE_Y_START, false, value),
-        Place::ReadAddress => write_address(whole, true, byte(value)),
-        Place::WriteAddress => write_address(whole, false, byte(value)),
-        Place::PixelData => write_pixel(whole, byte(value)),
-        Place::Fixed(_) => leaving(whole, Answer::ReadOnly),
-        Place::DeviceId => leaving(whole, Answer::ReadOnly),
-        Place::ToggleState => leaving(whole, Answer::ReadOnly),
-        Place::AttributeIndex => leaving(whole, Answer::ReadOnly),
-        Place::ToggleReset => leaving(whole, Answer::ReadOnly),
-        Place::CurrentLine => leaving(whole, Answer::ReadOnly),
+        Place::ReadAddress => write_address(whole, true, value as u8),
+        Place::WriteAddress => write_address(whole, false, value as u8),
+        Place::PixelData => write_pixel(whole, value as u8),
+        Place::Fixed(_)
+        | Place::DeviceId
+        | Place::ToggleState
+        | Place::AttributeIndex
+        | Place::ToggleReset
+        | Place::CurrentLine => leaving(whole, Answer::ReadOnly),
         Place::Passing => pass_lines(whole, value),
         Place::Unnamed => leaving(whole, Answer::NoRegister),
         Place::UnnamedAttribute => Told {
@@ -51,7 +49,7 @@ fn write_register(row: Row, whole: File, number: usize, flips: bool, value: u16)
     requires { number < register_count }
     ensures { result ≡ write_told whole row.stored (stores_to number flips) value }
 {
-    if is_locked_out(whole, number) {
+    if is_locked_out(&whole.registers, number) {
         return leaving(whole, Answer::Locked);
     }
     let reach = reach(row, whole, number);
@@ -64,43 +62,15 @@ fn write_register(row: Row, whole: File, number: usize, flips: bool, value: u16)
     }
 }
 
-// Code 8: the lock, CR11[7], refuses CR0 to CR6.
-fn is_locked_out(whole: File, number: usize) -> bool
-    ensures { result ≡ locked_out whole number }
-{
-    if is_locked(whole) {
-        if CR0 <= number {
-            return number <= CR6;
-        }
-    }
-    false
-}
-
-// The lock is on.
-fn is_locked(whole: File) -> bool
-    ensures { result ≡ crtc_locked whole }
-{
-    whole.registers[CR11] / 128 % 2 == 1
-}
-
 // The bits that a write may change: the row's stored bits; under the lock bit 4 alone of CR7.
 fn reach(row: Row, whole: File, number: usize) -> u16
     ensures { result ≡ row_reach whole row.stored number }
 {
-    if number == CR7 {
-        if is_locked(whole) {
-            return 0x10;
-        }
+    if is_locked(&whole.registers) && number == CR7 {
+        0x10
+    } else {
+        row.stored
     }
-    row.stored
-}
-
-// A value that fits one byte.
-fn byte(value: u16) -> u8
-    requires { value < 256 }
-    ensures { result ≡ value }
-{
-    value as u8
 }
 
 // 3C7h and 3C8h: the pointer at a new address, in read or write mode.
@@ -118,7 +88,7 @@ fn write_address(whole: File, reading: bool, address: u8) -> Told
 fn write_pixel(whole: File, byte: u8) -> Told
     ensures { result ≡ write_told whole 0 writes_pixel byte }
 {
-    if !is_palette_up(whole) {
+    if !is_palette_up(&whole.registers) {
         return leaving(whole, Answer::PaletteDown);
     }
     Told {
@@ -147,7 +117,7 @@ fn store_entry(whole: File, colour: Colour) -> File
     let pointer = whole.state.pointer;
     let at = pointer.address as usize;
     let mut file = whole;
-    if is_in_bank(whole) {
+    if is_in_bank(&whole.registers) {
         file.bank[at % BANK] = colour;
     } else {
         file.palette[at] = colour;
@@ -159,7 +129,7 @@ fn store_entry(whole: File, colour: Colour) -> File
 fn pass_lines(whole: File, lines: u16) -> Told
     ensures { result ≡ write_told whole 0 passes_lines lines }
 {
-    let line = line_after(whole, lines);
+    let line = line_after(&whole.registers, whole.state, lines);
     Told {
         answer: Answer::Done(0),
         file: with_state(whole, whole.state.passing(line)),

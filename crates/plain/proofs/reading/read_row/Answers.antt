@@ -1,6 +1,7 @@
 -- `read_row` meets its contract. Assumes nothing.
 use Prim.Native.Nat.{ℕ}
 use mathlib.Core.Path.{◌≡◌, refl, sym, ap, ◌∙◌}
+use mathlib.Core.Logic.{inl, inr}
 use mathlib.Core.Bool.{cond}
 use native.Mathlib.Omega.{arith}
 use Rattle.file.specs.declared.answer.Answer.TheVariants.{Done}
@@ -11,36 +12,33 @@ use Rattle.places.specs.Profile.{profile}
 use Rattle.access.specs.Access.{answer_of_read, read_effect, shown_state}
 use Rattle.access.proofs.PassedChecks.{register-below, attribute-below}
 use Rattle.plain.specs.Told.{told, told_of_read}
+use Rattle.plain.proofs.SeenWhole.{port_seen, shown_seen, display_seen}
 use Rattle.plain.proofs.reading.read_row.Goals as goal
 use Rattle.plain.proofs.reading.read_row.Goals.{then-state, else-state}
 
-pub offset_bounds-whole-number : goal.offset_bounds-whole-number
-offset_bounds-whole-number c = record { fits = omega (arith, register-below _ _ c.in-Register.is c.requires) }
+pub offset_bounds-registers-number : goal.offset_bounds-registers-number
+offset_bounds-registers-number c =
+    elim c.in-Register.is [
+      | inl e ↦ record { fits = omega (arith, register-below _ _ e c.requires) }
+      | inr e ↦ record { fits = omega (arith, attribute-below _ _ e c.requires) }
+    ]
 
-pub bounds-whole-number : goal.bounds-whole-number
-bounds-whole-number c = register-below _ _ c.in-Register.is c.requires
-
-pub offset_bounds-whole-number-in-Attribute : goal.offset_bounds-whole-number-in-Attribute
-offset_bounds-whole-number-in-Attribute c = record { fits = omega (arith, attribute-below _ _ c.in-Attribute.is c.requires) }
-
-pub bounds-whole-number-in-Attribute : goal.bounds-whole-number-in-Attribute
-bounds-whole-number-in-Attribute c = attribute-below _ _ c.in-Attribute.is c.requires
+pub bounds-registers-number : goal.bounds-registers-number
+bounds-registers-number c =
+    elim c.in-Register.is [ inl e ↦ register-below _ _ e c.requires | inr e ↦ attribute-below _ _ e c.requires ]
 
 pub returns-in-Register : goal.returns-in-Register
 unfolding profile told_of_read told answer_of_read read_effect refused code_of apply register shown_state
-returns-in-Register c = rw c.in-Register.is c.leaving.ensures
-
-pub returns-in-Attribute : goal.returns-in-Attribute
-unfolding profile told_of_read told answer_of_read read_effect refused code_of apply register shown_state
-returns-in-Attribute c = rw c.in-Attribute.is c.leaving-in-Attribute.ensures
+returns-in-Register c =
+    elim c.in-Register.is [ inl e ↦ rw e c.leaving-in-Register.ensures | inr e ↦ rw e c.leaving-in-Register.ensures ]
 
 pub returns-in-PaletteState : goal.returns-in-PaletteState
 unfolding profile told_of_read told answer_of_read read_effect refused code_of apply register shown_state
-returns-in-PaletteState c = rw (c.in-PaletteState.is, ← c.store-shown.ensures) c.leaving-in-PaletteState.ensures
+returns-in-PaletteState c = rw (c.in-PaletteState.is, ← c.palette_state.ensures) c.leaving.ensures
 
 pub returns-in-VPortState : goal.returns-in-VPortState
 unfolding profile told_of_read told answer_of_read read_effect refused code_of apply register shown_state
-returns-in-VPortState c = rw (c.in-VPortState.is, ← c.v_port_control.ensures) c.leaving-in-VPortState.ensures
+returns-in-VPortState c = rw (c.in-VPortState.is, ← (c.v_port_state.ensures ∙ port_seen c.args.whole)) c.leaving-in-VPortState.ensures
 
 pub returns-in-Fixed : goal.returns-in-Fixed
 unfolding profile told_of_read told answer_of_read read_effect refused code_of apply register shown_state
@@ -76,20 +74,16 @@ returns-in-PixelData c = rw c.in-PixelData.is c.read_pixel.ensures
 pub returns-in-ToggleReset : goal.returns-in-ToggleReset
 unfolding profile told_of_read told answer_of_read read_effect refused code_of apply register shown_state
 returns-in-ToggleReset c =
-    rw (c.in-ToggleReset.is, c.with_state.ensures, c.toggling.ensures, c.display_state.ensures)
+    rw (c.in-ToggleReset.is, c.with_state.ensures, c.toggling.ensures, c.display_state.ensures ∙ display_seen c.args.whole)
 
 pub returns-in-Unnamed : goal.returns-in-Unnamed
 unfolding profile told_of_read told answer_of_read read_effect refused code_of apply register shown_state
-returns-in-Unnamed c = rw c.in-Unnamed.is c.leaving-in-Unnamed.ensures
-
-pub returns-in-UnnamedAttribute : goal.returns-in-UnnamedAttribute
-unfolding profile told_of_read told answer_of_read read_effect refused code_of apply register shown_state
-returns-in-UnnamedAttribute c = rw c.in-UnnamedAttribute.is c.leaving-in-UnnamedAttribute.ensures
+returns-in-Unnamed c =
+    elim c.in-Unnamed.is [
+      | inl e ↦ rw e c.leaving-in-Unnamed.ensures
+      | inr a ↦ elim a [ inl e ↦ rw e c.leaving-in-Unnamed.ensures | inr e ↦ rw e c.leaving-in-Unnamed.ensures ]
+    ]
 
 pub returns-in-CurrentLine : goal.returns-in-CurrentLine
 unfolding profile told_of_read told answer_of_read read_effect refused code_of apply register shown_state
-returns-in-CurrentLine c = rw (c.in-CurrentLine.is, ← c.line_shown.ensures) c.leaving-in-CurrentLine.ensures
-
-pub returns-in-Passing : goal.returns-in-Passing
-unfolding profile told_of_read told answer_of_read read_effect refused code_of apply register shown_state
-returns-in-Passing c = rw c.in-Passing.is c.leaving-in-Passing.ensures
+returns-in-CurrentLine c = rw (c.in-CurrentLine.is, ← (c.line_shown.ensures ∙ shown_seen c.args.whole)) c.leaving-in-CurrentLine.ensures

@@ -2,7 +2,6 @@ use Prim.Native.Nat.{ℕ, ◌*◌}
 use mathlib.Core.Path.{◌≡◌, refl, sym, ap, ◌∙◌}
 use mathlib.Core.List.{◌++◌}
 use native.Mathlib.Omega.{arith}
-use borrow.Author.Tests.{not-true, not-false}
 use lib.ListN.{length, drop}
 use Rattle.trace.specs.Records.{item_count, items}
 use Rattle.trace.specs.Run.{run, ran, run_count, file_after, replies}
@@ -14,7 +13,7 @@ is_sound-requires c = tt
 
 pub returns-then-not-is_sound : goal.returns-then-not-is_sound
 unfolding run
-returns-then-not-is_sound c = rw (sym c.is_sound.ensures ∙ not-true _ c.if-not-is_sound.true-raw) (record { answer_value = (refl, refl, refl); replies_after = refl })
+returns-then-not-is_sound c = rw (sym c.is_sound.ensures ∙ c.if-not-is_sound.true) (record { answer_value = (refl, refl, refl); replies_after = refl })
 
 pub loop-n-init : goal.loop-n-init
 unfolding file_after items replies
@@ -25,13 +24,10 @@ run_one-file-requires c =
     let turn = c.loop-n in
     let more = c.loop-n-test.true in
     let count = c.reply_count-count.ensures in
-    let room = has-place turn.n _ (length c.args.trace.now) (length c.args.replies.now) more count in record {
-      listed = c.list-list.ensures;
-      n_in_bounds = (
-        has-record turn.n _ (length c.args.trace.now) (length c.args.replies.now) more count,
-        omega (arith, room, buffer-long _ _ _ turn.invariant (omega (arith, room))),
-      );
-    }
+    let room = has-place turn.n _ (length c.args.trace.now) (length c.args.replies.now) more count in (
+      has-record turn.n _ (length c.args.trace.now) (length c.args.replies.now) more count,
+      omega (arith, room, buffer-long _ _ _ turn.invariant (omega (arith, room))),
+    )
 
 pub overflow_step-n : goal.overflow_step-n
 overflow_step-n c = record { fits = omega (arith, has-place c.loop-n.n _ (length c.args.trace.now) (length c.args.replies.now) c.loop-n-test.true c.reply_count-count.ensures) }
@@ -52,7 +48,7 @@ returns c =
     let inv = c.loop-n.invariant in
     let all : c.loop-n.n ≡ c.reply_count-count.result = omega (arith, c.loop-n-test.false, inv.reached) in
     let count = c.reply_count-count.ensures in
-    rw (sym c.is_sound.ensures ∙ not-false _ c.if-not-is_sound.false-raw) (record {
+    rw (sym c.is_sound.ensures ∙ c.if-not-is_sound.false) (record {
       answer_value = (refl, inv.file ∙ ap (λ (k : ℕ). file_after c.args.whole (items k c.args.trace.now)) (all ∙ count), count);
       replies_after =
           inv.said

@@ -14,7 +14,7 @@ use Rattle.plain.proofs.RunByItems.{record-in}
 use Rattle.plain.proofs.running.run_one.Goals as goal
 
 pub returns : goal.returns
-unfolding item_told
+unfolding item_told reply_to
 returns c =
     let trace = c.args.trace.now in
     let at : ℕ = 8 * c.args.n in
@@ -25,7 +25,8 @@ returns c =
     let asked : c.record_of.result ≡ record_of (take 8 (drop at trace)) =
     c.record_of.ensures ∙ ap (λ (l : List ℕ). record_of (take 8 l)) (part_left trace at) in record {
       value = ap (λ (t : Told). t.file) told;
-      replies_after = c.put_reply.ensures
+      replies_after = c.put_reply.ensures.replies_after c.requires.1
+          ∙ (λ i. take at c.args.replies.now ++ reply_bytes (record { code = c.code.ensures i; kind = c.record_of.result.kind; address = c.record_of.result.address; value = c.value.ensures i }) ++ drop (at + 8) c.args.replies.now)
           ∙ ap₂ (λ (r : Record) (a : Answer). take at c.args.replies.now ++ reply_bytes (reply_to r a) ++ drop (at + 8) c.args.replies.now)
           (asked ∙ record-in (take 8 (drop at trace))) (ap (λ (t : Told). t.answer) told);
     }

@@ -36,14 +36,14 @@ pub returns-in-105 : goal.returns-in-105
 unfolding selected of_chip index_of selects register attribute_index
 returns-in-105 c = rw c.in-105.is
 
-pub returns-then-toggle : goal.returns-then-toggle
+pub returns-then-state : goal.returns-then-state
 unfolding selected of_chip index_of selects register attribute_index
-returns-then-toggle c = rw (c.in-100.is, c.if-toggle.true, five-bits)
+returns-then-state c = rw (c.in-100.is, c.if-state.true, five-bits)
 
-pub returns-else-toggle : goal.returns-else-toggle
+pub returns-else-state : goal.returns-else-state
 unfolding selected of_chip index_of selects register attribute_index
-returns-else-toggle c = rw (c.in-100.is, c.if-toggle.false)
+returns-else-state c = rw (c.in-100.is, c.if-state.false)
 
 pub returns-in_default : goal.returns-in_default
 unfolding selected of_chip index_of selects register attribute_index
-returns-in_default c = rw (ne_eqb _ _ c.in_default.in_default-own.rest.0.0.0.0.0.1, ne_eqb _ _ c.in_default.in_default-own.rest.0.0.0.0.1, ne_eqb _ _ c.in_default.in_default-own.rest.0.0.0.1, ne_eqb _ _ c.in_default.in_default-own.rest.0.0.1, ne_eqb _ _ c.in_default.in_default-own.rest.0.1, ne_eqb _ _ c.in_default.in_default-own.rest.1, and-true) c.is_of_chip.ensures
+returns-in_default c = grind (arith, c.is_of_chip.ensures)

@@ -1,4 +1,5 @@
 -- `write_row` meets its contract. Assumes nothing.
+use mathlib.Core.Logic.{inl, inr}
 use mathlib.Core.Path.{subst, sym}
 use lib.Dec.{T}
 use Rattle.file.specs.Answers.{code_of, refused}
@@ -17,17 +18,17 @@ write_register-requires c = register-below _ _ c.in-Register.is c.requires.t
 pub write_register-requires-in-Attribute : goal.write_register-requires-in-Attribute
 write_register-requires-in-Attribute c = attribute-below _ _ c.in-Attribute.is c.requires.t
 
-pub byte-requires : goal.byte-requires
+pub overflow_cast-value : goal.overflow_cast-value
 unfolding takes_bytes profile
-byte-requires c = c.requires.value_bound (subst (λ (p : Place). T (takes_bytes (profile p).writing)) (sym c.in-ReadAddress.is) tt)
+overflow_cast-value c = record { fits = c.requires.value_bound (subst (λ (p : Place). T (takes_bytes (profile p).writing)) (sym c.in-ReadAddress.is) tt) }
 
-pub byte-requires-in-WriteAddress : goal.byte-requires-in-WriteAddress
+pub overflow_cast-value-in-WriteAddress : goal.overflow_cast-value-in-WriteAddress
 unfolding takes_bytes profile
-byte-requires-in-WriteAddress c = c.requires.value_bound (subst (λ (p : Place). T (takes_bytes (profile p).writing)) (sym c.in-WriteAddress.is) tt)
+overflow_cast-value-in-WriteAddress c = record { fits = c.requires.value_bound (subst (λ (p : Place). T (takes_bytes (profile p).writing)) (sym c.in-WriteAddress.is) tt) }
 
-pub byte-requires-in-PixelData : goal.byte-requires-in-PixelData
+pub overflow_cast-value-in-PixelData : goal.overflow_cast-value-in-PixelData
 unfolding takes_bytes profile
-byte-requires-in-PixelData c = c.requires.value_bound (subst (λ (p : Place). T (takes_bytes (profile p).writing)) (sym c.in-PixelData.is) tt)
+overflow_cast-value-in-PixelData c = record { fits = c.requires.value_bound (subst (λ (p : Place). T (takes_bytes (profile p).writing)) (sym c.in-PixelData.is) tt) }
 
 pub returns-in-Register : goal.returns-in-Register
 unfolding profile write_told told write_answer write_effect refused code_of apply
@@ -47,39 +48,35 @@ returns-in-VPortState c = rw c.in-VPortState.is c.write_register-in-VPortState.e
 
 pub returns-in-ReadAddress : goal.returns-in-ReadAddress
 unfolding profile write_told told write_answer write_effect refused code_of apply
-returns-in-ReadAddress c = rw (c.in-ReadAddress.is, ← c.byte.ensures) c.write_address.ensures
+returns-in-ReadAddress c = rw c.in-ReadAddress.is c.write_address.ensures
 
 pub returns-in-WriteAddress : goal.returns-in-WriteAddress
 unfolding profile write_told told write_answer write_effect refused code_of apply
-returns-in-WriteAddress c = rw (c.in-WriteAddress.is, ← c.byte-in-WriteAddress.ensures) c.write_address-in-WriteAddress.ensures
+returns-in-WriteAddress c = rw c.in-WriteAddress.is c.write_address-in-WriteAddress.ensures
 
 pub returns-in-PixelData : goal.returns-in-PixelData
 unfolding profile write_told told write_answer write_effect refused code_of apply
-returns-in-PixelData c = rw (c.in-PixelData.is, ← c.byte-in-PixelData.ensures) c.write_pixel.ensures
+returns-in-PixelData c = rw c.in-PixelData.is c.write_pixel.ensures
 
 pub returns-in-Fixed : goal.returns-in-Fixed
 unfolding profile write_told told write_answer write_effect refused code_of apply
-returns-in-Fixed c = rw c.in-Fixed.is c.leaving.ensures
-
-pub returns-in-DeviceId : goal.returns-in-DeviceId
-unfolding profile write_told told write_answer write_effect refused code_of apply
-returns-in-DeviceId c = rw c.in-DeviceId.is c.leaving-in-DeviceId.ensures
-
-pub returns-in-ToggleState : goal.returns-in-ToggleState
-unfolding profile write_told told write_answer write_effect refused code_of apply
-returns-in-ToggleState c = rw c.in-ToggleState.is c.leaving-in-ToggleState.ensures
-
-pub returns-in-AttributeIndex : goal.returns-in-AttributeIndex
-unfolding profile write_told told write_answer write_effect refused code_of apply
-returns-in-AttributeIndex c = rw c.in-AttributeIndex.is c.leaving-in-AttributeIndex.ensures
-
-pub returns-in-ToggleReset : goal.returns-in-ToggleReset
-unfolding profile write_told told write_answer write_effect refused code_of apply
-returns-in-ToggleReset c = rw c.in-ToggleReset.is c.leaving-in-ToggleReset.ensures
-
-pub returns-in-CurrentLine : goal.returns-in-CurrentLine
-unfolding profile write_told told write_answer write_effect refused code_of apply
-returns-in-CurrentLine c = rw c.in-CurrentLine.is c.leaving-in-CurrentLine.ensures
+returns-in-Fixed c =
+    elim c.in-Fixed.is [
+      | inl (v, e) ↦ rw e c.leaving.ensures
+      | inr a ↦
+          elim a [
+            | inl e ↦ rw e c.leaving.ensures
+            | inr b ↦
+                elim b [
+                  | inl e ↦ rw e c.leaving.ensures
+                  | inr d ↦
+                      elim d [
+                        | inl e ↦ rw e c.leaving.ensures
+                        | inr f ↦ elim f [ inl e ↦ rw e c.leaving.ensures | inr e ↦ rw e c.leaving.ensures ]
+                      ]
+                ]
+          ]
+    ]
 
 pub returns-in-Passing : goal.returns-in-Passing
 unfolding profile write_told told write_answer write_effect refused code_of apply
