@@ -3,37 +3,20 @@ use access::Item;
 use std::io;
 use trace::record_bytes;
 
-pub fn print_number(rt: &impl Print, n: usize) -> io::Result<()> {
-    rt.println(n)
-}
-
-// A reply's number, code and value.
-fn print_reply(rt: &impl Print, replies: &[u8], number: usize) -> io::Result<()> {
-    if replies.len() / 8 <= number {
-        return Ok(());
-    }
-    let at = 8 * number;
-    let code = replies[at];
-    let high = replies[at + 5];
-    let low = replies[at + 4];
-    println!(rt; "{number} {code} {high:02x}{low:02x}")
-}
-
-pub fn print_replies(rt: &impl Print, replies: &[u8], count: usize) -> io::Result<()> {
-    let mut n: usize = 0;
-    while n < count {
-        print_reply(rt, replies, n)?;
-        n += 1;
+// The replies of a trace of 26 items, each by its number, code and value.
+pub fn print_replies(rt: &impl Print, replies: &[u8]) -> io::Result<()> {
+    for (number, reply) in replies.chunks_exact(8).take(26).enumerate() {
+        let code = reply[0];
+        let high = reply[5];
+        let low = reply[4];
+        println!(rt; "{number} {code} {high:02x}{low:02x}")?;
     }
     Ok(())
 }
 
 fn print_bytes(rt: &impl Print, bytes: [u8; 8]) -> io::Result<()> {
-    let mut n: usize = 0;
-    while n < 8 {
-        let byte = bytes[n];
+    for byte in bytes {
         print!(rt; "{byte:02x}")?;
-        n += 1;
     }
     rt.println("")
 }

@@ -6,9 +6,8 @@ use native.Mathlib.Omega.{arith}
 use lib.ListN.{length, take, drop, length-take, length-drop, drop_of_length-le}
 use lib.Seq.{drop-drop}
 use borrow.Author.Tests.{lt-ltb, le-ltb}
+use Rattle.std.specs.Prelude.{Option, Some, None}
 use Rattle.access.specs.declared.record.Item.{Item}
-use Rattle.reader.specs.declared.reader.Next.{Next}
-use Rattle.reader.specs.declared.reader.Next.TheVariants.{Item as Stands, End}
 use Rattle.bits.proofs.Test.{by-test}
 use Rattle.file.specs.declared.registers.File.{File}
 use Rattle.file.specs.Sound.{sound}
@@ -24,11 +23,11 @@ pub nothing_left : (xs : List ℕ) (at : ℕ) → length xs ≤ at → take (len
 nothing_left xs at h = part_left xs (length xs) ∙ drop_of_length-le xs {i = length xs} (omega arith) ∙ sym (drop_of_length-le xs {i = at} h)
 
 -- what stands next
-pub next-read : (xs : List ℕ) (at : ℕ) (r : Item) → at < length xs → r ≡ item_of (take 8 (take (length xs - at) (drop at xs))) → Stands r ≡ next_at xs at
+pub next-read : (xs : List ℕ) (at : ℕ) (r : Item) → at < length xs → r ≡ item_of (take 8 (take (length xs - at) (drop at xs))) → Some r ≡ next_at xs at
 unfolding next_at
-next-read xs at r h e = rw (lt-ltb at (length xs) h) (ap {B = Next} (λ (i : Item). Stands i) (e ∙ ap (λ (ys : List ℕ). item_of (take 8 ys)) (part_left xs at)))
+next-read xs at r h e = rw (lt-ltb at (length xs) h) (ap {B = Option Item} (λ (i : Item). Some i) (e ∙ ap (λ (ys : List ℕ). item_of (take 8 ys)) (part_left xs at)))
 
-pub end_read : (xs : List ℕ) (at : ℕ) → length xs ≤ at → End ≡ next_at xs at
+pub end_read : (xs : List ℕ) (at : ℕ) → length xs ≤ at → None ≡ next_at xs at
 unfolding next_at
 end_read xs at h = rw (le-ltb at (length xs) h) refl
 

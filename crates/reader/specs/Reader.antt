@@ -1,22 +1,25 @@
 -- 01, 'the part of the trace not yet read': a trace and a position in it.
 -- Assumes nothing.
-use Rattle.std.specs.Prelude.{ℕ, ◌+◌, ◌*◌, cond, List, ltb, length, take, drop}
-use Rattle.reader.specs.declared.reader.Next.{Next}
-use Rattle.reader.specs.declared.reader.Next.TheVariants.{Item, End}
+use Rattle.std.specs.Prelude.{ℕ, ◌+◌, ◌*◌, cond, List, ltb, length, take, drop, Option, Some, None}
+use Rattle.access.specs.declared.record.Item.{Item}
 use Rattle.reader.specs.declared.reader.HandedBack.{HandedBack}
 use Rattle.reader.specs.declared.reader.RanAt.{RanAt}
 use Rattle.reader.specs.declared.reader.Reader.{Reader}
 use Rattle.file.specs.declared.registers.File.{File}
-use Rattle.trace.specs.Records.{item_of}
+use Rattle.trace.specs.Records.{item_of, items, item_count}
 use Rattle.trace.specs.Run.{run}
 
--- what stands at a position of a trace: a record or the last fragment, or its end
-unfoldable pub next_at : List ℕ → ℕ → Next
-next_at trace at = cond (ltb at (length trace)) (Item (item_of (take 8 (drop at trace)))) End
+-- what stands at a position of a trace: a record or the last fragment; nothing at its end
+unfoldable pub next_at : List ℕ → ℕ → Option Item
+next_at trace at = cond (ltb at (length trace)) (Some (item_of (take 8 (drop at trace)))) None
 
 -- the position after it: as many bytes on as it has
 unfoldable pub after_next : List ℕ → ℕ → ℕ
 after_next trace at = at + length (take 8 (drop at trace))
+
+-- the items that a reader has left
+unfoldable pub left_of : Reader → List Item
+left_of reader = items (item_count (drop reader.at reader.trace.now)) (drop reader.at reader.trace.now)
 
 -- the position after so many of them
 unfoldable pub after_many : ℕ → List ℕ → ℕ → ℕ

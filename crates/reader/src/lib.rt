@@ -3,4 +3,4 @@
 
 mod reader;
 
-pub use reader::{HandedBack, Next, NextAt, RanAt, Reader, next_from, run_from, unread};
+pub use reader::{HandedBack, NextAt, RanAt, Reader, next_from, run_from, unread};

@@ -1,36 +1,28 @@
 // A reader: a lent trace, and the position of what is not yet read. The work is done by functions on a slice and a number.
-ghost use Rattle.std.specs.Prelude.{◌≡◌, ◌*◌, min, length, drop};
-ghost use Rattle.reader.specs.Reader.{next_at, after_next, after_many, ran_at, handed_back};
+ghost use Rattle.std.specs.Prelude.{◌≡◌, ◌*◌, ⊤, min, length, drop};
+ghost use Rattle.std.specs.Iterator.{YieldsFirst, MakesProgress, item_count as count_of};
+ghost use Rattle.reader.specs.Reader.{next_at, after_next, after_many, left_of, ran_at, handed_back};
 ghost use Rattle.trace.specs.Run.{run as run_of};
 
 use access::Item;
 use file::File;
 use trace::{Ran, item_of, run};
 
-// What stands next in a trace: a record or the last fragment, or its end.
-#[derive(Clone, Copy)]
-pub enum Next {
-    Item(Item),
-    End,
-}
-
 // What is left of a trace from a position on.
 pub fn left_at(trace: &[u8], at: usize) -> &[u8]
     ensures { result.now ≡ drop at trace.now }
 {
-    let n = trace.len();
-    if at < n { &trace[at..] } else { &trace[n..] }
+    &trace[at.min(trace.len())..]
 }
 
-// What stands at a position.
-pub fn next_at(trace: &[u8], at: usize) -> Next
+// What stands at a position: a record or the last fragment; nothing at the trace's end.
+pub fn next_at(trace: &[u8], at: usize) -> Option<Item>
     ensures { result ≡ next_at trace.now at }
 {
     if at < trace.len() {
-        let left = &trace[at..];
-        Next::Item(item_of(left))
+        Some(item_of(&trace[at..]))
     } else {
-        Next::End
+        None
     }
 }
 
@@ -38,19 +30,14 @@ pub fn next_at(trace: &[u8], at: usize) -> Next
 pub fn after_at(trace: &[u8], at: usize) -> usize
     ensures { result ≡ after_next trace.now at }
 {
-    let n = trace.len();
-    if n <= at {
-        return at;
-    }
-    if n - at < 8 { n } else { at + 8 }
+    at + left_at(trace, at).len().min(8)
 }
 
 // How far a trace is read after so many records.
 pub fn place_after(trace: &[u8], count: usize) -> usize
     ensures { result ≡ min (8 * count) (length trace.now) }
 {
-    let n = trace.len();
-    if count <= n / 8 { 8 * count } else { n }
+    count.saturating_mul(8).min(trace.len())
 }
 
 // The position after so many records, or a last fragment among them.
@@ -102,13 +89,6 @@ impl<'a> Reader<'a> {
         Reader { trace, at: 0 }
     }
 
-    // What stands next.
-    pub fn next(self) -> Next
-        ensures { result ≡ next_at self.entry.trace.now self.entry.at }
-    {
-        next_at(self.trace, self.at)
-    }
-
     // The reader past what stands next.
     pub fn advanced(self) -> Reader<'a>
         ensures { (result.trace ≡ self.entry.trace) × (result.at ≡ after_next self.entry.trace.now self.entry.at) }
@@ -141,6 +121,27 @@ impl<'a> Reader<'a> {
     }
 }
 
+// The items that are left, each with the reader past it.
+impl<'a> Iterator for Reader<'a> {
+    type Item = Item;
+
+    ghost next_gives = { YieldsFirst left_of };
+
+    ghost remaining = { count_of left_of };
+
+    // What stands next; nothing at the end.
+    fn next(&mut self) -> Option<Item>
+        ensures steps { YieldsFirst left_of self.old result self.new }
+        ensures goes { MakesProgress (λ _. ⊤) (count_of left_of) self.old result self.new }
+        ensures stands { result ≡ next_at self.old.trace.now self.old.at }
+        ensures past { (self.new.trace ≡ self.old.trace) × (self.new.at ≡ after_next self.old.trace.now self.old.at) }
+    {
+        let next = next_at(self.trace, self.at);
+        self.at = after_at(self.trace, self.at);
+        next
+    }
+}
+
 // The part of a trace not yet read after so many records.
 pub fn unread<'a>(trace: &'a [u8], count: usize) -> &'a [u8]
     ensures { result.now ≡ drop (8 * count) trace.now }
@@ -152,7 +153,7 @@ pub fn unread<'a>(trace: &'a [u8], count: usize) -> &'a [u8]
 // What stands at a position of a trace, and the position past it.
 #[derive(Clone, Copy)]
 pub struct NextAt {
-    pub next: Next,
+    pub next: Option<Item>,
     pub at: usize,
 }
 
@@ -160,11 +161,11 @@ pub struct NextAt {
 pub fn next_from<'a>(trace: &'a [u8], at: usize) -> NextAt
     ensures { (result.next ≡ next_at trace.now at) × (result.at ≡ after_next trace.now at) }
 {
-    let reader = Reader { trace, at };
+    let mut reader = Reader { trace, at };
     let next = reader.next();
     NextAt {
         next,
-        at: reader.advanced().at,
+        at: reader.at,
     }
 }
 

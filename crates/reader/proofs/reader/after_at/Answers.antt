@@ -1,13 +1,10 @@
 -- `after_at` meets its contract. Assumes nothing.
+use mathlib.Core.Path.{ap}
 use native.Mathlib.Omega.{arith}
+use lib.ListN.{length, length-drop}
 use Rattle.reader.proofs.Positions.{after_is}
 use Rattle.reader.proofs.reader.after_at.Goals as goal
 
-pub returns-then-n-at : goal.returns-then-n-at
-returns-then-n-at c = omega (arith, after_is c.args.trace.now c.args.at)
-
-pub returns-then-n-at-lt8 : goal.returns-then-n-at-lt8
-returns-then-n-at-lt8 c = omega (arith, after_is c.args.trace.now c.args.at)
-
-pub returns-else-n-at-lt8 : goal.returns-else-n-at-lt8
-returns-else-n-at-lt8 c = omega (arith, after_is c.args.trace.now c.args.at)
+pub returns : goal.returns
+returns c =
+    omega (arith, c.min.ensures, ap length c.left_at.ensures, length-drop c.args.at c.args.trace.now, after_is c.args.trace.now c.args.at)

@@ -1,6 +1,0 @@
--- `same_files` is safe and ends. Assumes nothing.
-use Prim.Native.Nat.{◌-◌}
-use Rattle.pieces.proofs.same.same_files.Given as goal
-
-abbrev pub decreases-loop-n : goal.decreases-loop-n
-decreases-loop-n l = 256 - l.n
