@@ -1,11 +1,16 @@
 -- 01, 'Accesses and replies', 02, 6/13 and 9/13: what a plan and a restore answer.
 -- Assumes nothing.
-use Rattle.std.specs.Prelude.{ℕ, cond, eqb, leb}
+use Rattle.std.specs.Prelude.{ℕ, cond, Result, Ok, Err, eqb, leb}
 use Rattle.file.specs.declared.answer.Answer.{Answer}
 use Rattle.file.specs.declared.answer.Answer.TheVariants.{Done, ShortBuffer, NotSound, NotBeforeRed, OtherChip}
 use Rattle.file.specs.declared.registers.File.{File}
 use Rattle.file.specs.Chips.{same_chip}
 use Rattle.file.specs.Sound.{sound}
+
+-- what a result answers: that it is done, or its refusal
+abbrev pub answer_of : {A : Type 0} → Result A Answer → Answer
+answer_of (Ok told) = Done 0
+answer_of (Err a) = a
 
 -- 'Plan: 12, 13, 11', by the wanted file and the length of the buffer
 unfoldable pub plan_answer : File → ℕ → Answer

@@ -13,7 +13,7 @@ use Rattle.file.specs.declared.registers.File.{File}
 use Rattle.file.specs.File.{register, black, palette_count, bank_count}
 use Rattle.file.specs.Registers.{register_count}
 use Rattle.touched.specs.declared.set.Touched.{Touched}
-use Rattle.touched.specs.Outside.{same_bools, same_colour, same_pointer, register_agrees, palette_agrees, bank_agrees, state_agrees, agrees_outside, SameElsewhere}
+use Rattle.touched.specs.Outside.{same_bools, same_colour, same_pointer, register_agrees, palette_agrees, bank_agrees, agrees_at, state_agrees, agrees_outside, SameElsewhere}
 
 -- ---- the tests of single parts
 
@@ -76,7 +76,7 @@ each_below test (suc k) h = both (test k) (every_below test k) (h k (omega arith
 
 module _ (s : Touched) (f w : File) where
   pub agrees-elsewhere : T (agrees_outside s f w) → SameElsewhere s f w
-  unfolding agrees_outside register_agrees palette_agrees bank_agrees state_agrees
+  unfolding agrees_outside register_agrees palette_agrees bank_agrees state_agrees agrees_at register
   agrees-elsewhere t =
       record {
         registers = λ n h e. eqb→eq (register f n) (register w n) (unless (get_or s.registers n false) _ (below (register_agrees s f w) register_count (search (left, right)) n h) e);
@@ -89,20 +89,20 @@ module _ (s : Touched) (f w : File) where
 
   -- and the other way
   registers-agree : SameElsewhere s f w → T (every_below (register_agrees s f w) register_count)
-  unfolding register_agrees
+  unfolding register_agrees agrees_at register
   registers-agree same =
       each_below (register_agrees s f w) register_count
       (λ n h. or_same (get_or s.registers n false) (eqb (register f n) (register w n)) (λ e. rw (same.registers n h e) (eqb_refl (register w n))))
 
   palette-agrees : SameElsewhere s f w → T (every_below (palette_agrees s f w) palette_count)
-  unfolding palette_agrees
+  unfolding palette_agrees agrees_at
   palette-agrees same =
       each_below (palette_agrees s f w) palette_count
       (λ n h. or_same (get_or s.palette n false) (same_colour (get_or f.palette n black) (get_or w.palette n black))
       (λ e. rw (same.palette n h e) (colour-same (get_or w.palette n black))))
 
   bank-agrees : SameElsewhere s f w → T (every_below (bank_agrees s f w) bank_count)
-  unfolding bank_agrees
+  unfolding bank_agrees agrees_at
   bank-agrees same =
       each_below (bank_agrees s f w) bank_count
       (λ n h. or_same (get_or s.bank n false) (same_colour (get_or f.bank n black) (get_or w.bank n black))

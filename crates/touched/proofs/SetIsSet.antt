@@ -7,7 +7,7 @@ use Rattle.touched.specs.declared.set.Touched.{Touched}
 use Rattle.touched.specs.Things.{IsSet}
 use Rattle.touched.specs.contracts.set.Touched.{the_type}
 
--- `Is` is what a proof has of a parameter, as `c.good.0`
+-- `Is` is what a proof has of a parameter, as `c.well_formed.0`
 pub is-set : (s : Touched) (vs : List Val) → Is (row the_type) s vs → IsSet s
 is-set s vs g =
     record {

@@ -1,6 +1,7 @@
 -- 02, 11/13, 'the current file and saved file differ somewhere outside the set': what two files share where a set names nothing.
 -- Assumes nothing.
-use Rattle.std.specs.Prelude.{ℕ, ◌<◌, Bool, false, cond, not, ◌&&◌, ◌||◌, ◌≡◌, eqb, get_or}
+use Rattle.std.specs.Prelude.{ℕ, ◌<◌, Bool, false, List, ◌&&◌, ◌||◌, ◌≡◌, eqb, get_or}
+use Rattle.std.specs.Bool.{beq}
 use Rattle.bits.specs.Every.{every_below}
 use Rattle.file.specs.declared.palette.Colour.{Colour}
 use Rattle.file.specs.declared.palette.Pointer.{Pointer}
@@ -10,24 +11,28 @@ use Rattle.file.specs.Registers.{register_count}
 use Rattle.touched.specs.declared.set.Touched.{Touched}
 
 unfoldable pub same_bools : Bool → Bool → Bool
-same_bools a b = cond a b (not b)
+same_bools a b = beq a b
 
 unfoldable pub same_colour : Colour → Colour → Bool
-same_colour c d = eqb c.red d.red && eqb c.green d.green && eqb c.blue d.blue
+same_colour c d = eqb c.red d.red && (eqb c.green d.green && eqb c.blue d.blue)
 
 unfoldable pub same_pointer : Pointer → Pointer → Bool
 same_pointer p q =
-    eqb p.address q.address && same_bools p.reading q.reading && eqb p.next q.next && eqb p.red q.red && eqb p.green q.green
+    eqb p.address q.address && (same_bools p.reading q.reading && (eqb p.next q.next && (eqb p.red q.red && eqb p.green q.green)))
 
--- of two files' registers and entries: a set names the number, or both hold the same there
+-- at a number: it is named, or both lists hold the same there
+unfoldable pub agrees_at : {A : Type 0} → (A → A → Bool) → A → List Bool → List A → List A → ℕ → Bool
+agrees_at same none named from to n = get_or named n false || same (get_or from n none) (get_or to n none)
+
+-- of two files' registers and entries
 unfoldable pub register_agrees : Touched → File → File → ℕ → Bool
-register_agrees s f w n = get_or s.registers n false || eqb (register f n) (register w n)
+register_agrees s f w n = agrees_at eqb 0 s.registers f.registers w.registers n
 
 unfoldable pub palette_agrees : Touched → File → File → ℕ → Bool
-palette_agrees s f w n = get_or s.palette n false || same_colour (get_or f.palette n black) (get_or w.palette n black)
+palette_agrees s f w n = agrees_at same_colour black s.palette f.palette w.palette n
 
 unfoldable pub bank_agrees : Touched → File → File → ℕ → Bool
-bank_agrees s f w n = get_or s.bank n false || same_colour (get_or f.bank n black) (get_or w.bank n black)
+bank_agrees s f w n = agrees_at same_colour black s.bank f.bank w.bank n
 
 -- of pointer, marks and toggle
 unfoldable pub state_agrees : Touched → File → File → Bool
