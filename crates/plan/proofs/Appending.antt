@@ -1,12 +1,13 @@
--- Records appended to a buffer: one list behind another, a record as eight stores, and a loop that appends what is left of a list.
+-- Records appended to a buffer: one list behind another, a record's eight bytes, and a loop that appends what is left of a list.
 -- Assumes nothing.
-use Prim.Native.Nat.{ℕ, suc, ◌+◌, ◌*◌, ◌/◌, ◌%◌, ◌≤◌}
+use Prim.Native.Nat.{ℕ, suc, ◌+◌, ◌*◌, ◌≤◌}
 use mathlib.Core.Path.{◌≡◌, refl, sym, ap, ◌∙◌}
 use mathlib.Core.List.{List, [], ◌∷◌, ◌++◌, append_assoc}
 use native.Mathlib.Nat.{add-zero, add-suc, suc-add}
 use native.Mathlib.Omega.{arith}
-use lib.ListN.{length, set, length-append}
-use lib.Seq.{sets, length-sets}
+use borrow.Rule.Slice.PartMut.{put_mid}
+use lib.ListN.{length, set, take, drop, length-append}
+use lib.Seq.{sets, length-sets, sets-eq, drop-drop}
 use Rattle.access.specs.declared.record.Record.{Record}
 use Rattle.trace.specs.Records.{bytes_of}
 use Rattle.plan.specs.Appended.{Appended}
@@ -60,21 +61,17 @@ room-behind more v h = omega (arith, v.place, append-length v)
 
 -- ---- one record
 
-pub append-one : (l : List ℕ) (at : ℕ) (r : Record)
-    → Appended l at (r ∷ [])
-    (set (set (set (set (set (set (set (set l at r.kind) (at + 1) r.width) (at + 2) (r.address % 256)) (at + 3) (r.address / 256))
-    (at + 4) (r.value % 256)) (at + 5) (r.value / 256 % 256)) (at + 6) (r.value / 65536 % 256)) (at + 7) (r.value / 16777216))
-    (at + 8)
+-- bytes copied into the place of as many
+copied : (l : List ℕ) (at k : ℕ) (part bytes : List ℕ) → at + k ≤ length l → k ≡ length bytes → part ≡ bytes → put_mid at k l part ≡ sets l at bytes
+copied l at k part bytes room e same =
+    rw (same, e, drop-drop (length bytes) at l)
+    (sym (append_assoc (take at l) bytes (drop (at + length bytes) l)) ∙ sym (sets-eq bytes l at (omega (arith, room, e))))
+
+pub append-copied : (l : List ℕ) (at k : ℕ) (part : List ℕ) (r : Record) → at + 8 ≤ length l → k ≡ 8 → part ≡ bytes_of r
+    → Appended l at (r ∷ []) (put_mid at k l part) (at + 8)
 unfolding trace_of bytes_of
-append-one l at r =
-    let one : at + 1 ≡ suc at = omega arith in
-    let two : at + 2 ≡ suc (suc at) = omega arith in
-    let three : at + 3 ≡ suc (suc (suc at)) = omega arith in
-    let four : at + 4 ≡ suc (suc (suc (suc at))) = omega arith in
-    let five : at + 5 ≡ suc (suc (suc (suc (suc at)))) = omega arith in
-    let six : at + 6 ≡ suc (suc (suc (suc (suc (suc at))))) = omega arith in
-    let seven : at + 7 ≡ suc (suc (suc (suc (suc (suc (suc at)))))) = omega arith in
-    record { bytes = rw (one, two, three, four, five, six, seven); place = refl }
+append-copied l at k part r room e same =
+    record { bytes = copied l at k part (bytes_of r ++ []) (omega (arith, room, e)) e same; place = refl }
 
 -- ---- a loop
 

@@ -5,17 +5,17 @@ use mathlib.Core.Bool.{Bool, cond}
 use mathlib.Core.List.{List, [], ◌∷◌}
 use lib.Dec.{T, eqb, leb}
 use lib.ListN.{length}
+use Rattle.std.specs.Prelude.{Result}
 use Rattle.bits.proofs.Test.{chosen}
 use Rattle.file.specs.declared.answer.Answer.{Answer}
 use Rattle.file.specs.declared.answer.Answer.TheVariants.{Done, ShortBuffer, NotSound, NotBeforeRed}
 use Rattle.file.specs.declared.registers.File.{File}
 use Rattle.file.specs.Answers.{code_of, among, listed, one_of}
 use Rattle.file.specs.Sound.{sound}
-use Rattle.roads.specs.Refusals.{plan_answer}
-use Rattle.plan.specs.declared.planning.Planned.{Planned}
+use Rattle.roads.specs.Refusals.{answer_of, plan_answer}
 use Rattle.plan.specs.Promises.{PlanKept}
 use Rattle.plan.specs.declared.short_answer.ShortAnswer.{ShortAnswer}
-use Rattle.plan.specs.declared.short_answer.ShortAnswer.TheVariants.{Done as ShortDone, ShortBuffer as ShortRoom, NotSound as Unsound, NotBeforeRed as AwayFromRed, OtherChip, Elsewhere}
+use Rattle.plan.specs.declared.short_answer.ShortAnswer.TheVariants.{ShortBuffer as ShortRoom, NotSound as Unsound, NotBeforeRed as AwayFromRed, OtherChip, Elsewhere}
 use Rattle.plan.specs.ShortAnswers.{number_of}
 
 abbrev pub planning : Answer → Bool
@@ -29,12 +29,11 @@ answer-planning w room =
     (chosen planning (leb 8192 room) (Done 0) ShortBuffer tt tt) tt)
     tt
 
-pub plan-codes : (w : File) (before after : List ℕ) (r : Planned) → PlanKept w before after r → T (planning r.answer)
+pub plan-codes : (w : File) (before after : List ℕ) (r : Result ℕ Answer) → PlanKept w before after r → T (planning (answer_of r))
 plan-codes w before after r kept = subst (λ (a : Answer). T (planning a)) (sym kept.answered) (answer-planning w (length before))
 
 pub short-listed : (a : ShortAnswer) → T (among listed (number_of a))
 unfolding among listed number_of
-short-listed ShortDone = tt
 short-listed ShortRoom = tt
 short-listed Unsound = tt
 short-listed AwayFromRed = tt

@@ -32,7 +32,7 @@ each-bytes (c ∷ cs) [] g = absurd g
 each-bytes (c ∷ cs) (u ∷ us) g =
     both (ltb c.red 256 && ltb c.green 256 && ltb c.blue 256) (bytes cs) (colour-bytes c (u ∷ []) g.0) (each-bytes cs us g.1)
 
--- `Is` is what a proof has of a parameter, as `c.good.0`
+-- `Is` is what a proof has of a parameter, as `c.well_formed.0`
 pub is-file : (f : File) (vs : List Val) → Is (row the_type) f vs → IsFile f
 is-file f vs g =
     record {

@@ -1,14 +1,13 @@
 -- The rows that are named, one behind the other. Assumes nothing.
-use Prim.Native.Nat.{ℕ, ◌%◌, ◌≤◌, ◌<◌}
+use Prim.Native.Nat.{ℕ, suc, ◌+◌, ◌%◌, ◌≤◌, ◌<◌}
 use mathlib.Core.Path.{◌≡◌, sym, ap, ◌∙◌, subst}
 use mathlib.Core.Bool.{Bool, true, false}
 use mathlib.Core.List.{List, [], ◌∷◌, ◌++◌, map}
-use native.Mathlib.Omega.{arith}
-use lib.ListN.{length, get_or}
+use native.Mathlib.Numerals.{add-one}
+use lib.ListN.{length, get_or, drop, drop_of_length-le}
 use lib.Seq.{drop-cons}
 use Rattle.bits.proofs.Test.{by-test}
 use Rattle.access.specs.declared.record.Record.{Record}
-use Rattle.trace.proofs.RecordBytes.{part_left}
 use Rattle.plan.specs.Appended.{Appended}
 use Rattle.plan.specs.EngineRows.{road_of}
 use Rattle.roads.specs.Roads.{Road}
@@ -16,7 +15,6 @@ use Rattle.roads.specs.RoadRecords.{along}
 use Rattle.roads.proofs.RegisterStageRuns.{along-behind}
 use Rattle.short_roads.specs.ShortPlan.{named_roads}
 use Rattle.plan.proofs.Appending.{Left, none_left}
-use Rattle.plan.proofs.RowsAsRoads.{others}
 
 -- the records of a road that may be named, and of those behind it
 named-behind : (w : List ℕ) (named : List Bool) (road : Road) (roads : List Road)
@@ -25,21 +23,20 @@ unfolding named_roads along
 named-behind w named road roads =
     by-test (get_or named road.register false) (λ e. rw e (along-behind w road (named_roads named roads))) (λ e. rw e)
 
--- what is left of some rows: the first one's records, and the others'
-pub first-named-left : {before : List ℕ} {at : ℕ} {all : List Record} {there : List ℕ} {here : ℕ} (w : List ℕ) (named : List Bool) (rows : List ℕ) → 0 < length rows
-    → Left before at all there here (along w (named_roads named (map road_of rows)))
-    → Left before at all there here (along w (named_roads named (road_of (get_or rows 0 0) ∷ [])) ++ along w (named_roads named (map road_of (others rows))))
-first-named-left {before} {at} {all} {there} {here} w named rows h =
-    subst (λ (rs : List Record). Left before at all there here rs)
-    (ap (λ (rs : List ℕ). along w (named_roads named (map road_of rs))) (drop-cons rows 0 0 h ∙ ap (λ (rs : List ℕ). get_or rows 0 0 ∷ rs) (sym (part_left rows 1)))
-    ∙ sym (named-behind w named (road_of (get_or rows 0 0)) (map road_of (others rows))))
+module _ {before : List ℕ} {at : ℕ} {all : List Record} {there : List ℕ} {here : ℕ} (w : List ℕ) (named : List Bool) (rows : List ℕ) (i : ℕ) where
+  -- what is left of some rows: the next one's records, and the others'
+  pub next-named-left : i < length rows → Left before at all there here (along w (named_roads named (map road_of (drop i rows))))
+      → Left before at all there here (along w (named_roads named (road_of (get_or rows i 0) ∷ [])) ++ along w (named_roads named (map road_of (drop (i + 1) rows))))
+  next-named-left h =
+      rw add-one
+      (subst (λ (rs : List Record). Left before at all there here rs)
+      (ap (λ (rs : List ℕ). along w (named_roads named (map road_of rs))) (drop-cons rows i 0 h)
+      ∙ sym (named-behind w named (road_of (get_or rows i 0)) (map road_of (drop (suc i) rows)))))
 
--- no row is left
-pub no-named-left : {before : List ℕ} {at : ℕ} {all : List Record} {there : List ℕ} {here : ℕ} (w : List ℕ) (named : List Bool) (rows : List ℕ) → length rows ≤ 0
-    → Left before at all there here (along w (named_roads named (map road_of rows))) → Appended before at all there here
-unfolding along named_roads
-no-named-left w named [] h l = none_left l
-no-named-left w named (row ∷ rows) h l = absurd (omega arith)
+  -- no row is left
+  pub no-named-left : length rows ≤ i → Left before at all there here (along w (named_roads named (map road_of (drop i rows)))) → Appended before at all there here
+  unfolding along named_roads
+  no-named-left h l = none_left (rw (drop_of_length-le rows {i = i} h) at l)
 
 -- a row's register, by whether it is named
 pub named-one : (w : List ℕ) (named : List Bool) (row : ℕ) → get_or named (row % 0x100) false ≡ true

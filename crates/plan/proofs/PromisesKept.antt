@@ -1,12 +1,13 @@
 -- What a plan promises, from what the code did, and what its run comes to. Assumes nothing.
 use Prim.Native.Nat.{ℕ, ◌+◌, ◌*◌, ◌/◌, ◌≤◌, ◌<◌}
 use mathlib.Core.Path.{◌≡◌, refl, sym, ap, ap₂, ◌∙◌, subst}
-use mathlib.Core.Bool.{true, false, true≢false}
+use mathlib.Core.Bool.{true, false}
 use mathlib.Core.List.{List, [], ◌++◌, map, append-nil}
 use native.Mathlib.Omega.{arith}
 use borrow.Author.Tests.{eq-eqb, ne_eqb, le-leb, lt-leb}
 use lib.ListN.{get_or, length, take, drop, length-append, length-map}
 use lib.Seq.{sets-eq, take_at}
+use Rattle.std.specs.Prelude.{Result, Ok, Err}
 use Rattle.bits.proofs.Test.{passes}
 use Rattle.file.specs.declared.answer.Answer.{Answer}
 use Rattle.file.specs.declared.answer.Answer.TheVariants.{Done, ShortBuffer, NotSound, NotBeforeRed}
@@ -17,11 +18,10 @@ use Rattle.file.specs.Sound.{sound}
 use Rattle.access.specs.declared.record.Item.TheVariants.{Whole}
 use Rattle.trace.specs.Records.{item_count, items}
 use Rattle.trace.specs.Run.{file_after, run_count, ran, run}
-use Rattle.plan.specs.declared.planning.Planned.{Planned}
 use Rattle.plan.specs.Appended.{Appended}
 use Rattle.roads.specs.Plan.{plan_records}
 use Rattle.plan.specs.Promises.{PlanKept}
-use Rattle.roads.specs.Refusals.{plan_answer}
+use Rattle.roads.specs.Refusals.{answer_of, plan_answer}
 use Rattle.roads.specs.Restores.{trace_of, IsFile, Restores, PlanWritten}
 use Rattle.plan.proofs.Appending.{trace-count}
 use Rattle.roads.proofs.PlanCount.{plan-room}
@@ -32,36 +32,28 @@ use Rattle.roads.proofs.PlanServes.{plan-serves, written-items, planned-runs, pl
 -- ---- a plan
 
 module _ (w : File) (before : List ℕ) where
-  plan-refused : (a : Answer) → a ≡ plan_answer w (length before) → refused a ≡ true → (r : Planned) → r ≡ record { answer = a; count = 0 }
-      → PlanKept w before before r
-  plan-refused a e t r q =
-      subst (λ (x : Planned). PlanKept w before before x) (sym q)
-      (record { answered = e; made = λ n. absurd (true≢false (sym t ∙ n)); counted = λ n. absurd (true≢false (sym t ∙ n)); none = λ _. refl; kept = λ _. refl })
-
-  pub plan-unsound : sound w ≡ false → (r : Planned) → r ≡ record { answer = NotSound; count = 0 } → PlanKept w before before r
+  pub plan-unsound : sound w ≡ false → PlanKept w before before (Err NotSound)
   unfolding plan_answer refused code_of
-  plan-unsound s = plan-refused NotSound (rw s) refl
+  plan-unsound s = record { answered = rw s; told = (refl, refl) }
 
-  pub plan-not-red : sound w ≡ true → (w.state.pointer.next ≡ 0 → ⊥) → (r : Planned) → r ≡ record { answer = NotBeforeRed; count = 0 }
-      → PlanKept w before before r
+  pub plan-not-red : sound w ≡ true → (w.state.pointer.next ≡ 0 → ⊥) → PlanKept w before before (Err NotBeforeRed)
   unfolding plan_answer refused code_of
-  plan-not-red s n = plan-refused NotBeforeRed (rw (s, ne_eqb w.state.pointer.next 0 n)) refl
+  plan-not-red s n = record { answered = rw (s, ne_eqb w.state.pointer.next 0 n); told = (refl, refl) }
 
-  pub plan-short : sound w ≡ true → w.state.pointer.next ≡ 0 → length before < 8192 → (r : Planned)
-      → r ≡ record { answer = ShortBuffer; count = 0 } → PlanKept w before before r
+  pub plan-short : sound w ≡ true → w.state.pointer.next ≡ 0 → length before < 8192 → PlanKept w before before (Err ShortBuffer)
   unfolding plan_answer refused code_of
-  plan-short s e l = plan-refused ShortBuffer (rw (s, eq-eqb w.state.pointer.next 0 e, lt-leb 8192 (length before) l)) refl
+  plan-short s e l = record { answered = rw (s, eq-eqb w.state.pointer.next 0 e, lt-leb 8192 (length before) l); told = (refl, refl) }
 
   pub plan-made : IsFile w → sound w ≡ true → w.state.pointer.next ≡ 0 → 8192 ≤ length before → {after : List ℕ} {end : ℕ}
-      → Appended before 0 (plan_records w) after end → PlanKept w before after (record { answer = Done 0; count = end / 8 })
-  unfolding plan_answer refused code_of
+      → Appended before 0 (plan_records w) after end → PlanKept w before after (Ok (end / 8))
+  unfolding plan_answer
   plan-made wf s e l {after} {end} wrote =
       record {
         answered = rw (s, eq-eqb w.state.pointer.next 0 e, le-leb 8192 (length before) l);
-        made = λ _. record { records = plan_records w; plans = plan-serves w wf (passes (sound w) s) e; counted = counted; filled = filled };
-        counted = λ _. counted;
-        none = λ t. absurd (true≢false (sym t));
-        kept = λ t. absurd (true≢false (sym t));
+        told = record {
+          written = record { records = plan_records w; plans = plan-serves w wf (passes (sound w) s) e; counted = counted; filled = filled };
+          counted = counted;
+        };
       }
     where
       counted : end / 8 ≡ length (plan_records w)
@@ -77,12 +69,6 @@ module _ (w : File) (before : List ℕ) where
           ∙ ap (λ (n : ℕ). trace_of (plan_records w) ++ drop n before) size
 
 -- ---- a plan that is run
-
--- an answer that is no refusal has a plan in the buffer
-pub plan-written : {w : File} {before after : List ℕ} (p : Planned) → PlanKept w before after p → {code : ℕ} → code ≡ code_of p.answer → code < 2
-    → PlanWritten w before after p.count
-unfolding refused
-plan-written p done e small = done.made (lt-leb 2 (code_of p.answer) (rw e at small))
 
 module _ {w : File} {before after : List ℕ} {count : ℕ} (p : PlanWritten w before after count) where
   -- its records stand whole in the buffer
@@ -153,6 +139,6 @@ module _ {w : File} {before after : List ℕ} {count : ℕ} (p : PlanWritten w b
 -- ---- what the promise settles
 
 -- two plans of one file and buffer answer the same; their bytes may differ, since several plans serve
-pub plans-alike : (w : File) (before after other : List ℕ) (p q : Planned) → PlanKept w before after p → PlanKept w before other q
-    → p.answer ≡ q.answer
+pub plans-alike : (w : File) (before after other : List ℕ) (p q : Result ℕ Answer) → PlanKept w before after p → PlanKept w before other q
+    → answer_of p ≡ answer_of q
 plans-alike w before after other p q s t = s.answered ∙ sym t.answered

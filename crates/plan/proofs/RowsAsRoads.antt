@@ -1,16 +1,15 @@
 -- A row's number and its road: what selects its index, and the rows one behind the other. Assumes nothing.
-use Prim.Native.Nat.{ℕ, ◌-◌, ◌≤◌, ◌<◌}
+use Prim.Native.Nat.{ℕ, suc, ◌+◌, ◌≤◌, ◌<◌}
 use mathlib.Core.Path.{◌≡◌, sym, ap, ◌∙◌, subst}
 use mathlib.Core.Bool.{cond}
 use mathlib.Core.List.{List, [], ◌∷◌, ◌++◌, map}
-use native.Mathlib.Omega.{arith}
+use native.Mathlib.Numerals.{add-one}
 use borrow.Author.Tests.{eqb-true}
 use lib.Dec.{eqb}
-use lib.ListN.{length, get_or, take, drop}
+use lib.ListN.{length, get_or, drop, drop_of_length-le}
 use lib.Seq.{drop-cons}
 use Rattle.bits.proofs.Test.{by-test}
 use Rattle.access.specs.declared.record.Record.{Record}
-use Rattle.trace.proofs.RecordBytes.{part_left}
 use Rattle.plan.specs.Appended.{Appended}
 use Rattle.plan.specs.EngineRows.{index_port, index_by, road_of}
 use Rattle.roads.specs.Plan.{port_write}
@@ -26,22 +25,16 @@ selecting-by port n =
     (λ e. rw e (by-test (eqb port 0x3CE) (λ f. rw (f, eqb-true port 0x3CE f))
     (λ f. rw f (by-test (eqb port 0x3C0) (λ g. rw (g, eqb-true port 0x3C0 g)) (λ g. rw g)))))
 
--- the rows behind the first, as the code takes them
-abbrev pub others : List ℕ → List ℕ
-others rows = take (length rows - 1) (drop 1 rows)
+module _ {before : List ℕ} {at : ℕ} {all : List Record} {there : List ℕ} {here : ℕ} (w rows : List ℕ) (i : ℕ) where
+  -- what is left of some rows: the next one's records, and the others'
+  pub next-left : i < length rows → Left before at all there here (along w (map road_of (drop i rows)))
+      → Left before at all there here (along w (road_of (get_or rows i 0) ∷ []) ++ along w (map road_of (drop (i + 1) rows)))
+  next-left h =
+      rw add-one
+      (subst (λ (rs : List Record). Left before at all there here rs)
+      (ap (λ (rs : List ℕ). along w (map road_of rs)) (drop-cons rows i 0 h) ∙ sym (along-behind w (road_of (get_or rows i 0)) (map road_of (drop (suc i) rows)))))
 
--- what is left of some rows: the first one's records, and the others'
-pub first-left : {before : List ℕ} {at : ℕ} {all : List Record} {there : List ℕ} {here : ℕ} (w rows : List ℕ) → 0 < length rows
-    → Left before at all there here (along w (map road_of rows))
-    → Left before at all there here (along w (road_of (get_or rows 0 0) ∷ []) ++ along w (map road_of (others rows)))
-first-left {before} {at} {all} {there} {here} w rows h =
-    subst (λ (rs : List Record). Left before at all there here rs)
-    (ap (λ (rs : List ℕ). along w (map road_of rs)) (drop-cons rows 0 0 h ∙ ap (λ (rs : List ℕ). get_or rows 0 0 ∷ rs) (sym (part_left rows 1)))
-    ∙ sym (along-behind w (road_of (get_or rows 0 0)) (map road_of (others rows))))
-
--- no row is left
-pub no-row-left : {before : List ℕ} {at : ℕ} {all : List Record} {there : List ℕ} {here : ℕ} (w rows : List ℕ) → length rows ≤ 0
-    → Left before at all there here (along w (map road_of rows)) → Appended before at all there here
-unfolding along
-no-row-left w [] h l = none_left l
-no-row-left w (row ∷ rows) h l = absurd (omega arith)
+  -- no row is left
+  pub no-row-left : length rows ≤ i → Left before at all there here (along w (map road_of (drop i rows))) → Appended before at all there here
+  unfolding along
+  no-row-left h l = none_left (rw (drop_of_length-le rows {i = i} h) at l)

@@ -11,6 +11,6 @@ mod short_stages;
 mod stages;
 
 pub use chips::on_one_chip;
-pub use planning::{Planned, plan};
+pub use planning::plan;
 pub use short_answer::ShortAnswer;
-pub use short_planning::{ShortPlanned, short_plan};
+pub use short_planning::short_plan;

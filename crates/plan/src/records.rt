@@ -1,4 +1,5 @@
-// Records appended to a lent buffer: each function stores 8 bytes from a place on and hands back the place behind them.
+// Records appended to a lent buffer: each function stores 8 bytes from a place on and hands back the place behind them. Buffer and place stay two parameters,
+// since `Appended` speaks of the buffer before and after, by which the stages are joined.
 ghost use Rattle.std.specs.Prelude.{◌≡◌, cond, [], ◌∷◌, ◌+◌, ◌≤◌, eqb, length};
 ghost use Rattle.bits.specs.Store.{bit};
 ghost use Rattle.plan.specs.Appended.{Appended};
@@ -12,17 +13,11 @@ pub fn put(written: Record, buffer: &mut [u8], at: usize) -> usize
     requires { at + 8 ≤ length buffer.old }
     ensures { Appended buffer.old at (written ∷ []) buffer.new result }
 {
-    let bytes = record_bytes(written);
-    buffer[at] = bytes[0];
-    buffer[at + 1] = bytes[1];
-    buffer[at + 2] = bytes[2];
-    buffer[at + 3] = bytes[3];
-    buffer[at + 4] = bytes[4];
-    buffer[at + 5] = bytes[5];
-    buffer[at + 6] = bytes[6];
-    buffer[at + 7] = bytes[7];
+    buffer[at..at + 8].copy_from_slice(&record_bytes(written));
     at + 8
 }
+
+// One function for each kind of record, as `roads/specs/Plan.antt` has them: a name says more than numbers for kind and width at each call.
 
 // A word to config space.
 pub fn config_write(address: u16, value: u32, buffer: &mut [u8], at: usize) -> usize

@@ -139,30 +139,15 @@ pub fn closing_rows() -> [u64; 4]
 pub fn held(registers: &[u16], number: usize) -> u32
     ensures { result ≡ get_or registers.now number 0 }
 {
-    if number < registers.len() {
-        wide_word(registers[number])
-    } else {
-        0
-    }
-}
-
-fn wide_word(x: u16) -> u32
-    ensures { result ≡ x }
-{
-    x as u32
+    registers.get(number).map_or(0, |word| u32::from(*word))
 }
 
 // A port that selects an index.
+#[tactic(auto, unfolding(crate::specs::EngineRows::index_port))]
 fn is_index_port(port: u16) -> bool
     ensures { result ≡ index_port port }
 {
-    if port == 0x3C4 {
-        return true;
-    }
-    if port == 0x3CE {
-        return true;
-    }
-    port == 0x3C0
+    port == 0x3C4 || port == 0x3CE || port == 0x3C0
 }
 
 // Selects an index, if the port is one that does.
@@ -198,10 +183,8 @@ pub fn put_registers(rows: &[u64], registers: &[u16], buffer: &mut [u8], at: usi
     ensures { Appended buffer.old at (along registers.now (map road_of rows.now)) buffer.new result }
 {
     let mut at = at;
-    let mut rest = rows;
-    while rest.len() > 0 {
-        at = put_register(rest[0], registers, buffer, at);
-        rest = &rest[1..];
+    for row in rows {
+        at = put_register(*row, registers, buffer, at);
     }
     at
 }

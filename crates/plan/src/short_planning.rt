@@ -14,13 +14,6 @@ use crate::stages::{put_closing, put_indices, put_marks, put_opening};
 use file::{File, is_sound};
 use touched::{Touched, agrees_outside};
 
-// What a short plan answers, and how many records it has; 0 if it is refused.
-#[derive(Clone, Copy)]
-pub struct ShortPlanned {
-    pub answer: ShortAnswer,
-    pub count: usize,
-}
-
 // The records of a short plan, stage by stage; none for an empty set.
 fn put_short(saved: File, set: Touched, buffer: &mut [u8], at: usize) -> usize
     requires { at + 8 * length (short_records saved set) ≤ length buffer.old }
@@ -37,61 +30,52 @@ fn put_stages(saved: File, set: Touched, buffer: &mut [u8], at: usize) -> usize
     requires { at + 8 * length (stage_records saved set) ≤ length buffer.old }
     ensures { Appended buffer.old at (stage_records saved set) buffer.new result }
 {
-    let all = saved.registers;
-    let registers = &all[..];
-    let marks = set.registers;
-    let named = &marks[..];
-    let palette = saved.palette;
-    let bank = saved.bank;
+    let registers = &saved.registers;
     let rows = register_rows();
     let at = put_opening(registers, buffer, at);
-    let at = put_short_colours(set, palette, bank, buffer, at);
+    let at = put_short_colours(set, &saved.palette, &saved.bank, buffer, at);
     let at = put_marks(saved.state.marks, buffer, at);
-    let at = put_named_registers(&rows, named, registers, buffer, at);
+    let at = put_named_registers(&rows, &set.registers, registers, buffer, at);
     let at = put_indices(registers, saved.state.toggle, buffer, at);
     put_closing(registers, saved.state.pointer, buffer, at)
 }
 
 // What refuses a short plan but for its buffer: 12 by the current file and by the saved one, 15, 13, 20.
-fn refusal(current: File, saved: File, set: Touched) -> ShortAnswer
+#[tactic(auto, unfolding(crate::specs::ShortAnswers::without_room))]
+fn refusal(current: File, saved: File, set: Touched) -> Result<(), ShortAnswer>
     ensures { result ≡ without_room current saved set }
 {
     if !is_sound(current) {
-        return ShortAnswer::NotSound;
+        return Err(ShortAnswer::NotSound);
     }
     if !is_sound(saved) {
-        return ShortAnswer::NotSound;
+        return Err(ShortAnswer::NotSound);
     }
     if !on_one_chip(current, saved) {
-        return ShortAnswer::OtherChip;
+        return Err(ShortAnswer::OtherChip);
     }
     if saved.state.pointer.next != 0 {
-        return ShortAnswer::NotBeforeRed;
+        return Err(ShortAnswer::NotBeforeRed);
     }
     if !agrees_outside(set, current, saved) {
-        return ShortAnswer::Elsewhere;
+        return Err(ShortAnswer::Elsewhere);
     }
-    ShortAnswer::Done
+    Ok(())
 }
 
-// A short plan back to the saved file, for a file that differs from it inside the set only: 12, 15, 13, 20, 11, or 0 with the buffer's first 8 bytes times the
-// count filled. Its records go by the saved file and the set alone. A refusal leaves the buffer as found.
-pub fn short_plan(current: File, saved: File, set: Touched, buffer: &mut [u8]) -> ShortPlanned
+// A short plan back to the saved file, for a file that differs from it inside the set only, and how many records it has: 12, 15, 13, 20, 11, or the buffer's
+// first 8 bytes times the count filled. Its records go by the saved file and the set alone. A refusal leaves the buffer as found.
+pub fn short_plan(
+    current: File,
+    saved: File,
+    set: Touched,
+    buffer: &mut [u8],
+) -> Result<usize, ShortAnswer>
     ensures { ShortKept current saved set buffer.old buffer.new result }
 {
-    let answer = refusal(current, saved, set);
-    if answer.code() != 0 {
-        return ShortPlanned { answer, count: 0 };
-    }
+    refusal(current, saved, set)?;
     if buffer.len() < 8192 {
-        return ShortPlanned {
-            answer: ShortAnswer::ShortBuffer,
-            count: 0,
-        };
+        return Err(ShortAnswer::ShortBuffer);
     }
-    let end = put_short(saved, set, buffer, 0);
-    ShortPlanned {
-        answer,
-        count: end / 8,
-    }
+    Ok(put_short(saved, set, buffer, 0) / 8)
 }

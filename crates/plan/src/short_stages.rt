@@ -35,46 +35,17 @@ fn put_entry(
     put_pixel(colour, buffer, at)
 }
 
-fn word(n: usize) -> u32
-    requires { n ≤ 256 }
-    ensures { result ≡ n }
-{
-    n as u32
-}
-
-// The entries of the palette that are named.
-fn put_named_palette(
-    named: [bool; 256],
-    colours: [Colour; 256],
-    buffer: &mut [u8],
-    at: usize,
-) -> usize
-    requires { at + 8 * length (entries_named true 0 named colours) ≤ length buffer.old }
-    ensures { Appended buffer.old at (entries_named true 0 named colours) buffer.new result }
+// The entries that are named, of so many marks.
+fn put_entries_named(named: &[bool], colours: &[Colour], buffer: &mut [u8], at: usize) -> usize
+    requires marks { (length named.now ≡ length colours.now) × (length colours.now ≤ 256) }
+    requires room { at + 8 * length (entries_named true 0 named.now colours.now) ≤ length buffer.old }
+    ensures { Appended buffer.old at (entries_named true 0 named.now colours.now) buffer.new result }
 {
     let mut at = at;
     let mut apart = true;
-    let mut i: usize = 0;
-    while i < 256 {
-        at = put_entry(named[i], apart, word(i), colours[i], buffer, at);
+    for (i, colour) in colours.iter().enumerate() {
+        at = put_entry(named[i], apart, i as u32, *colour, buffer, at);
         apart = !named[i];
-        i += 1;
-    }
-    at
-}
-
-// The entries of the bank that are named.
-fn put_named_bank(named: [bool; 16], colours: [Colour; 16], buffer: &mut [u8], at: usize) -> usize
-    requires { at + 8 * length (entries_named true 0 named colours) ≤ length buffer.old }
-    ensures { Appended buffer.old at (entries_named true 0 named colours) buffer.new result }
-{
-    let mut at = at;
-    let mut apart = true;
-    let mut i: usize = 0;
-    while i < 16 {
-        at = put_entry(named[i], apart, word(i), colours[i], buffer, at);
-        apart = !named[i];
-        i += 1;
     }
     at
 }
@@ -82,31 +53,26 @@ fn put_named_bank(named: [bool; 16], colours: [Colour; 16], buffer: &mut [u8], a
 // The palette's, and with B0[3]=1 the bank's, of which the last is always written.
 pub fn put_short_colours(
     set: Touched,
-    palette: [Colour; 256],
-    bank: [Colour; 16],
+    palette: &[Colour; 256],
+    bank: &[Colour; 16],
     buffer: &mut [u8],
     at: usize,
 ) -> usize
-    requires { at + 8 * length (short_colours set palette bank) ≤ length buffer.old }
-    ensures { Appended buffer.old at (short_colours set palette bank) buffer.new result }
+    requires { at + 8 * length (short_colours set palette.now bank.now) ≤ length buffer.old }
+    ensures { Appended buffer.old at (short_colours set palette.now bank.now) buffer.new result }
 {
-    let named = set.palette;
     let mut in_bank = set.bank;
     in_bank[15] = true;
-    let at = put_named_palette(named, palette, buffer, at);
+    let at = put_entries_named(&set.palette, palette, buffer, at);
     let at = mmio_write(0xB0, 0x08, buffer, at);
-    put_named_bank(in_bank, bank, buffer, at)
+    put_entries_named(&in_bank, bank, buffer, at)
 }
 
 // Whether a number is marked; one that there isn't is not.
 fn is_marked(named: &[bool], number: usize) -> bool
     ensures { result ≡ get_or named.now number false }
 {
-    if number < named.len() {
-        named[number]
-    } else {
-        false
-    }
+    named.get(number).copied().unwrap_or(false)
 }
 
 // The register of a row, if it is named.
@@ -132,10 +98,8 @@ pub fn put_named_registers(
     ensures { Appended buffer.old at (along registers.now (named_roads named.now (map road_of rows.now))) buffer.new result }
 {
     let mut at = at;
-    let mut rest = rows;
-    while rest.len() > 0 {
-        at = put_if_named(rest[0], named, registers, buffer, at);
-        rest = &rest[1..];
+    for row in rows {
+        at = put_if_named(*row, named, registers, buffer, at);
     }
     at
 }

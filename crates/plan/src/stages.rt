@@ -21,63 +21,41 @@ pub fn put_opening(registers: &[u16], buffer: &mut [u8], at: usize) -> usize
     port_read(by_half(misc, 0x3BA, 0x3DA), buffer, at)
 }
 
-fn wide_byte(x: u8) -> u32
-    ensures { result ≡ x }
-{
-    x as u32
-}
-
 // The three bytes of an entry.
 pub fn put_pixel(colour: Colour, buffer: &mut [u8], at: usize) -> usize
     requires { at + 8 * 3 ≤ length buffer.old }
     ensures { Appended buffer.old at (pixel colour) buffer.new result }
 {
-    let at = mmio_write(0xAC, wide_byte(colour.red), buffer, at);
-    let at = mmio_write(0xAC, wide_byte(colour.green), buffer, at);
-    mmio_write(0xAC, wide_byte(colour.blue), buffer, at)
+    let at = mmio_write(0xAC, u32::from(colour.red), buffer, at);
+    let at = mmio_write(0xAC, u32::from(colour.green), buffer, at);
+    mmio_write(0xAC, u32::from(colour.blue), buffer, at)
 }
 
-// The entries of the palette, from the first on.
-fn put_palette(colours: [Colour; 256], buffer: &mut [u8], at: usize) -> usize
-    requires { at + 8 * length (entries 0 colours) ≤ length buffer.old }
-    ensures { Appended buffer.old at (entries 0 colours) buffer.new result }
+// The entries of the palette or of the bank, from the first on.
+fn put_entries(colours: &[Colour], buffer: &mut [u8], at: usize) -> usize
+    requires { at + 8 * length (entries 0 colours.now) ≤ length buffer.old }
+    ensures { Appended buffer.old at (entries 0 colours.now) buffer.new result }
 {
     let mut at = mmio_write(0xA8, 0, buffer, at);
-    let mut i: usize = 0;
-    while i < 256 {
-        at = put_pixel(colours[i], buffer, at);
-        i += 1;
-    }
-    at
-}
-
-// The entries of the bank, from the first on.
-fn put_bank(colours: [Colour; 16], buffer: &mut [u8], at: usize) -> usize
-    requires { at + 8 * length (entries 0 colours) ≤ length buffer.old }
-    ensures { Appended buffer.old at (entries 0 colours) buffer.new result }
-{
-    let mut at = mmio_write(0xA8, 0, buffer, at);
-    let mut i: usize = 0;
-    while i < 16 {
-        at = put_pixel(colours[i], buffer, at);
-        i += 1;
+    for colour in colours {
+        at = put_pixel(*colour, buffer, at);
     }
     at
 }
 
 // The palette, and with B0[3]=1 the bank.
 pub fn put_colours(
-    palette: [Colour; 256],
-    bank: [Colour; 16],
+    palette: &[Colour; 256],
+    bank: &[Colour; 16],
     buffer: &mut [u8],
     at: usize,
 ) -> usize
-    requires { at + 8 * length (colours palette bank) ≤ length buffer.old }
-    ensures { Appended buffer.old at (colours palette bank) buffer.new result }
+    requires { at + 8 * length (colours palette.now bank.now) ≤ length buffer.old }
+    ensures { Appended buffer.old at (colours palette.now bank.now) buffer.new result }
 {
-    let at = put_palette(palette, buffer, at);
+    let at = put_entries(palette, buffer, at);
     let at = mmio_write(0xB0, 0x08, buffer, at);
-    put_bank(bank, buffer, at)
+    put_entries(bank, buffer, at)
 }
 
 // A pixel data access: a read, or a write of 0.
@@ -97,20 +75,19 @@ pub fn put_marks(marks: u8, buffer: &mut [u8], at: usize) -> usize
     ensures { Appended buffer.old at (marking marks) buffer.new result }
 {
     let reading = marks / 4 == 1;
-    let colour = marks % 4;
-    if colour == 0 {
-        return put_step(reading, buffer, at);
+    match (marks % 4, reading) {
+        (0, _) => put_step(reading, buffer, at),
+        (1, _) => {
+            let at = put_step(reading, buffer, at);
+            put_step(reading, buffer, at)
+        }
+        (_, false) => at,
+        (_, true) => {
+            let at = mmio_read(0xAC, buffer, at);
+            let at = mmio_read(0xAC, buffer, at);
+            mmio_read(0xAC, buffer, at)
+        }
     }
-    if colour == 1 {
-        let at = put_step(reading, buffer, at);
-        return put_step(reading, buffer, at);
-    }
-    if !reading {
-        return at;
-    }
-    let at = mmio_read(0xAC, buffer, at);
-    let at = mmio_read(0xAC, buffer, at);
-    mmio_read(0xAC, buffer, at)
 }
 
 // What leaves the toggle, which is at data, as wanted: a 3C0h read moves nothing, a 3?Ah read sets it to index.
@@ -148,9 +125,9 @@ fn put_pointer(pointer: Pointer, buffer: &mut [u8], at: usize) -> usize
     ensures { Appended buffer.old at (pointer_write pointer ∷ []) buffer.new result }
 {
     if pointer.reading {
-        return mmio_write(0xA4, wide_byte(pointer.address), buffer, at);
+        return mmio_write(0xA4, u32::from(pointer.address), buffer, at);
     }
-    mmio_write(0xA8, wide_byte(pointer.address), buffer, at)
+    mmio_write(0xA8, u32::from(pointer.address), buffer, at)
 }
 
 // The pointer; then B0, CR1A, CR11 and PCI04 as wanted.

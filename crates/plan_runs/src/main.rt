@@ -1,7 +1,7 @@
 // 01's runs of plan and restore over the compiled code, a line for each: code, count, and what became of file and buffer.
 #![tactic(auto)]
 
-use file::{Chip, Colour, File, Pointer, REGISTERS, State};
+use file::{Answer, Chip, Colour, File, Pointer, REGISTERS, State};
 use paper::set_register;
 use plan::plan;
 use restoring::restore;
@@ -10,73 +10,15 @@ use std::io;
 // What every buffer is filled with before.
 const FILL: u8 = 0xA5;
 
-fn print_code_and_count(rt: &impl Print, code: u8, count: usize) -> io::Result<()> {
-    print!(rt; "{code} {count}")
-}
-
-// Every byte from a place on is as it was filled.
-fn is_filled(buffer: &[u8], from: usize) -> bool {
-    let mut i = from;
-    while i < buffer.len() {
-        if buffer[i] != FILL {
-            return false;
-        }
-        i += 1;
-    }
-    true
-}
-
-fn same_registers(a: File, b: File) -> bool {
-    for i in 0..REGISTERS {
-        if a.registers[i] != b.registers[i] {
-            return false;
-        }
-    }
-    true
-}
-
-fn same_colour(a: Colour, b: Colour) -> bool {
-    a.red == b.red && a.green == b.green && a.blue == b.blue
-}
-
-// The same entries, of palette and bank.
-fn same_entries(a: File, b: File) -> bool {
-    for i in 0..256 {
-        let n = i % 16;
-        if same_colour(a.palette[i], b.palette[i]) && same_colour(a.bank[n], b.bank[n]) {
-            continue;
-        }
-        return false;
-    }
-    true
-}
-
-fn same_pointer(a: Pointer, b: Pointer) -> bool {
-    a.address == b.address
-        && a.reading == b.reading
-        && a.next == b.next
-        && a.red == b.red
-        && a.green == b.green
-}
-
-// What PCI02 reads, which tells the chip.
-fn device_id(file: File) -> u16 {
-    let state = file.state;
-    let chip = state.chip;
-    chip.device_id()
-}
-
 // The same file: all but the line is.
 fn same(a: File, b: File) -> bool {
-    same_registers(a, b)
-        && same_entries(a, b)
-        && same_pointer(a.state.pointer, b.state.pointer)
-        && a.state.toggle == b.state.toggle
-        && a.state.marks == b.state.marks
-        && device_id(a) == device_id(b)
+    a.registers == b.registers
+        && a.palette == b.palette
+        && a.bank == b.bank
+        && a.state.passing(0) == b.state.passing(0)
 }
 
-// A number and a byte that differ from place to place.
+// A number that differs from place to place.
 fn word_at(i: usize) -> u16 {
     (i % 65536 * 40503 % 65536) as u16
 }
@@ -91,8 +33,8 @@ fn colour_at(i: usize) -> Colour {
 
 fn varied_registers(chip: Chip) -> [u16; REGISTERS] {
     let mut registers = [0u16; REGISTERS];
-    for i in 0..REGISTERS {
-        registers[i] = bits::store(File::stored_bits(chip, i), 0, word_at(i + 1));
+    for (i, register) in registers.iter_mut().enumerate() {
+        *register = bits::store(File::stored_bits(chip, i), 0, word_at(i + 1));
     }
     registers
 }
@@ -101,11 +43,11 @@ fn varied_registers(chip: Chip) -> [u16; REGISTERS] {
 fn varied(chip: Chip) -> File {
     let mut palette = [colour_at(0); 256];
     let mut bank = [colour_at(0); 16];
-    for i in 0..256 {
-        let entry = colour_at(i);
-        palette[i] = entry;
-        let colour = colour_at(i + 1000);
-        bank[i % 16] = colour;
+    for (i, entry) in palette.iter_mut().enumerate() {
+        *entry = colour_at(i);
+    }
+    for (i, entry) in bank.iter_mut().enumerate() {
+        *entry = colour_at(i + 1240);
     }
     File {
         registers: varied_registers(chip),
@@ -152,28 +94,29 @@ fn everything_set(chip: Chip) -> File {
     }
 }
 
-fn with_pointer(file: File, pointer: Pointer) -> File {
-    let mut set = file;
-    let state = set.state.pointing(pointer);
-    set.state = state;
-    set
+fn with_pointer(mut file: File, pointer: Pointer) -> File {
+    file.state = file.state.pointing(pointer);
+    file
+}
+
+// A code and a count: of a refusal its code, and 0.
+fn print_told(rt: &impl Print, title: &str, told: Result<usize, Answer>) -> io::Result<()> {
+    let code = told.map_or_else(Answer::code, |_| 0);
+    let count = told.unwrap_or(0);
+    rt.print(title)?;
+    print!(rt; "{code} {count}")
 }
 
 // A plan's code and count, and whether the buffer behind it is as found.
 fn print_plan(rt: &impl Print, title: &str, wanted: File, buffer: &mut [u8]) -> io::Result<()> {
     let planned = plan(wanted, buffer);
-    let answer = planned.answer;
-    let count = planned.count;
-    rt.print(title)?;
-    print_code_and_count(rt, answer.code(), count)?;
-    print_found(rt, buffer, count)
+    print_told(rt, title, planned)?;
+    print_found(rt, buffer, planned.unwrap_or(0))
 }
 
 fn print_found(rt: &impl Print, buffer: &[u8], count: usize) -> io::Result<()> {
-    if count <= 1024 {
-        if is_filled(buffer, 8 * count) {
-            rt.print(", the rest as found")?;
-        }
+    if count <= 1024 && buffer.iter().skip(8 * count).all(|byte| *byte == FILL) {
+        rt.print(", the rest as found")?;
     }
     rt.println("")
 }
@@ -182,10 +125,7 @@ fn print_found(rt: &impl Print, buffer: &[u8], count: usize) -> io::Result<()> {
 fn print_restore(rt: &impl Print, title: &str, current: File, wanted: File) -> io::Result<()> {
     let mut buffer = [FILL; 8192];
     let restored = restore(current, wanted, &mut buffer);
-    let answer = restored.answer;
-    let count = restored.count;
-    rt.print(title)?;
-    print_code_and_count(rt, answer.code(), count)?;
+    print_told(rt, title, restored.count)?;
     if same(restored.file, wanted) {
         rt.print(", the wanted file")?;
     }
@@ -195,7 +135,7 @@ fn print_restore(rt: &impl Print, title: &str, current: File, wanted: File) -> i
     if restored.file.state.line == current.state.line {
         rt.print(", the line as given")?;
     }
-    print_found(rt, &buffer, count)
+    print_found(rt, &buffer, restored.count.unwrap_or(0))
 }
 
 fn print_colour(rt: &impl Print, colour: Colour) -> io::Result<()> {
@@ -210,13 +150,13 @@ fn print_reads(rt: &impl Print, current: File, wanted: File) -> io::Result<()> {
     let mut buffer = [FILL; 8192];
     let end = restore(current, wanted, &mut buffer).file;
     rt.print("E8 ")?;
-    rt.print(end.register_named(b"E8").value())?;
+    rt.print(end.register_named(b"E8").unwrap_or(0))?;
     rt.print(", palette ")?;
-    print_colour(rt, end.palette_entry(255).colour)?;
+    print_colour(rt, end.palette_entry(255).unwrap_or_default())?;
     rt.print(", bank ")?;
-    print_colour(rt, end.bank_entry(15).colour)?;
+    print_colour(rt, end.bank_entry(15).unwrap_or_default())?;
     rt.print(", address ")?;
-    rt.println(end.pointer_now().pointer.address)
+    rt.println(end.pointer_now().map_or(0, |pointer| pointer.address))
 }
 
 fn plans(rt: &impl Print, chip: Chip) -> io::Result<()> {

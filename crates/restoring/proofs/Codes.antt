@@ -12,7 +12,7 @@ use Rattle.file.specs.declared.registers.File.{File}
 use Rattle.file.specs.Answers.{code_of, one_of}
 use Rattle.file.specs.Chips.{same_chip}
 use Rattle.file.specs.Sound.{sound}
-use Rattle.roads.specs.Refusals.{plan_answer, restore_answer}
+use Rattle.roads.specs.Refusals.{answer_of, plan_answer, restore_answer}
 use Rattle.restoring.specs.declared.Restored.{Restored}
 use Rattle.restoring.specs.Promises.{RestoreKept}
 
@@ -26,7 +26,7 @@ planned-restoring w room =
     chosen restoring (sound w) _ NotSound
     (chosen restoring (eqb w.state.pointer.next 0) _ NotBeforeRed (chosen restoring (leb 8192 room) (Done 0) ShortBuffer tt tt) tt) tt
 
-pub restore-codes : (f w : File) (before after : List ℕ) (r : Restored) → RestoreKept f w before after r → T (restoring r.answer)
+pub restore-codes : (f w : File) (before after : List ℕ) (r : Restored) → RestoreKept f w before after r → T (restoring (answer_of r.count))
 unfolding restore_answer one_of code_of
 restore-codes f w before after r kept =
     subst (λ (a : Answer). T (restoring a)) (sym kept.answered)

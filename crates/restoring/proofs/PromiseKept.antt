@@ -1,11 +1,11 @@
 -- What a restore promises, from what the code did. Assumes nothing.
-use Prim.Native.Nat.{ℕ, ◌≤◌, ◌<◌}
+use Prim.Native.Nat.{ℕ}
 use mathlib.Core.Path.{◌≡◌, refl, sym, ap, ◌∙◌, subst}
-use mathlib.Core.Bool.{true, false, true≢false, cond}
+use mathlib.Core.Bool.{true, false, true≢false}
 use mathlib.Core.List.{List}
-use borrow.Author.Tests.{le-leb, lt-leb}
 use lib.ListN.{length}
-use Rattle.bits.proofs.Test.{by-test, passes}
+use Rattle.std.specs.Prelude.{Result, Ok, Err, MatchResult}
+use Rattle.bits.proofs.Test.{passes}
 use Rattle.file.specs.declared.answer.Answer.{Answer}
 use Rattle.file.specs.declared.answer.Answer.TheVariants.{NotSound, OtherChip}
 use Rattle.file.specs.declared.registers.File.{File}
@@ -15,93 +15,80 @@ use Rattle.file.specs.File.{with_line, Same}
 use Rattle.file.specs.Sound.{sound}
 use Rattle.trace.specs.Records.{items}
 use Rattle.trace.specs.Run.{file_after}
-use Rattle.plan.specs.declared.planning.Planned.{Planned}
 use Rattle.plan.specs.Promises.{PlanKept}
-use Rattle.roads.specs.Refusals.{plan_answer, restore_answer}
+use Rattle.roads.specs.Refusals.{answer_of, restore_answer}
 use Rattle.roads.specs.Restores.{IsFile}
 use Rattle.roads.proofs.PlanServes.{same-chip, planned-runs, planned-line, Between, fifteen-between, fifteen-only-between}
 use Rattle.restoring.specs.declared.Restored.{Restored}
-use Rattle.restoring.specs.Promises.{RestoreKept}
+use Rattle.restoring.specs.Promises.{PlannedFrom, RestoreDone, RestoreRefused, RestoreKept}
 
-module _ (f : File) {w : File} {before : List ℕ} where
-  restore-refused : {after : List ℕ} (a : Answer) → a ≡ restore_answer f w (length before) → refused a ≡ true → after ≡ before
-      → (r : Restored) → r ≡ record { answer = a; count = 0; file = f } → RestoreKept f w before after r
-  unfolding items file_after
-  restore-refused {after} a e t same r q =
-      subst (λ (x : Restored). RestoreKept f w before after x) (sym q)
-      (record {
-        answered = e;
-        made = λ n. absurd (true≢false (sym t ∙ n));
-        ran = refl;
-        restored = λ n. absurd (true≢false (sym t ∙ n));
-        line = refl;
-        none = λ _. refl;
-        back = λ _. refl;
-        kept = λ _. same;
-      })
+-- ---- a plan to run
 
-  pub restore-unsound : sound f ≡ false → (r : Restored) → r ≡ record { answer = NotSound; count = 0; file = f } → RestoreKept f w before before r
+module _ (f w : File) (before : List ℕ) where
+  pub unsound-current : sound f ≡ false → PlannedFrom f w before before (Err NotSound)
   unfolding restore_answer refused code_of
-  restore-unsound s = restore-refused NotSound (rw s) refl refl
+  unsound-current s = record { answered = rw s; told = (refl, refl) }
+
+  pub unsound-wanted : sound f ≡ true → sound w ≡ false → PlannedFrom f w before before (Err NotSound)
+  unfolding restore_answer refused code_of
+  unsound-wanted s t = record { answered = rw (s, t); told = (refl, refl) }
 
   -- 02, 6/13: between different chips
-  pub restore-elsewhere : sound f ≡ true → same_chip f.state.chip w.state.chip ≡ false → (r : Restored)
-      → r ≡ record { answer = cond (sound w) OtherChip NotSound; count = 0; file = f } → RestoreKept f w before before r
+  pub elsewhere : sound f ≡ true → sound w ≡ true → same_chip f.state.chip w.state.chip ≡ false → PlannedFrom f w before before (Err OtherChip)
   unfolding restore_answer refused code_of
-  restore-elsewhere s c =
-      restore-refused (cond (sound w) OtherChip NotSound) (rw (s, c)) (by-test (sound w) (λ e. rw e refl) (λ e. rw e refl)) refl
+  elsewhere s t c = record { answered = rw (s, t, c); told = (refl, refl) }
 
-  module _ (s : sound f ≡ true) (c : same_chip f.state.chip w.state.chip ≡ true) {after : List ℕ} (p : Planned) (done : PlanKept w before after p) where
-    as-planned : p.answer ≡ restore_answer f w (length before)
-    unfolding restore_answer plan_answer
-    as-planned = done.answered ∙ rw (s, c) (by-test (sound w) (λ e. rw e refl) (λ e. rw e refl))
+  pub between : sound f ≡ true → sound w ≡ true → same_chip f.state.chip w.state.chip ≡ true → {after : List ℕ} (p : Result ℕ Answer) → PlanKept w before after p
+      → PlannedFrom f w before after p
+  unfolding restore_answer
+  between s t c (Ok count) kept =
+      record { answered = kept.answered ∙ sym (rw (s, t, c)); told = record { current = s; chips = c; written = kept.told.written } }
+  between s t c (Err a) kept = record { answered = kept.answered ∙ sym (rw (s, t, c)); told = kept.told }
 
-    pub restore-unplanned : {code : ℕ} → code ≡ code_of p.answer → 2 ≤ code → (r : Restored) → r ≡ record { answer = p.answer; count = 0; file = f }
-        → RestoreKept f w before after r
-    unfolding refused
-    restore-unplanned e large =
-        let no = le-leb 2 (code_of p.answer) (rw e at large) in
-        restore-refused p.answer as-planned no (done.kept no)
+-- ---- and the run
 
-    pub restore-done : {code : ℕ} → code ≡ code_of p.answer → code < 2 → IsFile f → (g : File) → g ≡ file_after f (items p.count after)
-        → RestoreKept f w before after (record { answer = p.answer; count = p.count; file = g })
-    unfolding refused
-    restore-done same small ff g e =
-        let yes = lt-leb 2 (code_of p.answer) (rw same at small) in
-        record {
-          answered = as-planned;
-          made = done.made;
+module _ {f w : File} {before after : List ℕ} where
+  pub restore-refused : (a : Answer) → PlannedFrom f w before after (Err a) → RestoreKept f w before after (record { count = Err a; file = f })
+  restore-refused a p = record { answered = p.answered; line = refl; told = record { refuses = p.told.0; back = refl; kept = p.told.1 } }
+
+  pub restore-done : (count : ℕ) → PlannedFrom f w before after (Ok count) → IsFile f → (g : File) → g ≡ file_after f (items count after)
+      → RestoreKept f w before after (record { count = Ok count; file = g })
+  restore-done count p ff g e =
+      let wrote = p.told.written in
+      record {
+        answered = p.answered;
+        line = ap (λ (h : File). h.state.line) e ∙ planned-line w before after count wrote f;
+        told = record {
+          made = wrote;
           ran = e;
-          restored = λ _. subst (λ (h : File). Same h w) (sym e) (planned-runs w before after p.count (done.made yes) f ff (passes (sound f) s) (same-chip _ _ c)).1;
-          line = ap (λ (h : File). h.state.line) e ∙ planned-line w before after p.count (done.made yes) f;
-          none = λ n. absurd (true≢false (sym n ∙ yes));
-          back = λ n. absurd (true≢false (sym n ∙ yes));
-          kept = λ n. absurd (true≢false (sym n ∙ yes));
-        }
+          restored = subst (λ (h : File). Same h w) (sym e) (planned-runs w before after count wrote f ff (passes (sound f) p.told.current) (same-chip _ _ p.told.chips)).1;
+        };
+      }
 
 -- ---- what the promise settles
 
 -- 02, 6/13: between two sound files 15 is answered where their chips differ
 pub kept-fifteen : (f w : File) (before after : List ℕ) (r : Restored) → RestoreKept f w before after r → sound f ≡ true → sound w ≡ true
-    → same_chip f.state.chip w.state.chip ≡ false → code_of r.answer ≡ 15
+    → same_chip f.state.chip w.state.chip ≡ false → code_of (answer_of r.count) ≡ 15
 kept-fifteen f w before after r p s t c = ap code_of p.answered ∙ fifteen-between f w (length before) s t c
 
 -- and nowhere else
-pub kept-only-fifteen : (f w : File) (before after : List ℕ) (r : Restored) → RestoreKept f w before after r → code_of r.answer ≡ 15 → Between f w
+pub kept-only-fifteen : (f w : File) (before after : List ℕ) (r : Restored) → RestoreKept f w before after r → code_of (answer_of r.count) ≡ 15 → Between f w
 kept-only-fifteen f w before after r p e = fifteen-only-between f w (length before) (sym (ap code_of p.answered) ∙ e)
 
 -- two restores answer the same and end in the same file
 pub restores-alike : (f w : File) (before after other : List ℕ) (p q : Restored) → RestoreKept f w before after p → RestoreKept f w before other q
-    → (p.answer ≡ q.answer) × (p.file ≡ q.file)
-unfolding Same
-restores-alike f w before after other p q s t = (same, files)
+    → (answer_of p.count ≡ answer_of q.count) × (p.file ≡ q.file)
+unfolding Same refused code_of
+restores-alike f w before after other p q s t = (same, files p.count q.count same s.told t.told)
   where
-    same : p.answer ≡ q.answer
+    same : answer_of p.count ≡ answer_of q.count
     same = s.answered ∙ sym t.answered
 
     -- the wanted file with the current one's line, or the current file
-    files : p.file ≡ q.file
-    files =
-        by-test (refused p.answer)
-        (λ e. s.back e ∙ sym (t.back (sym (ap refused same) ∙ e)))
-        (λ e. s.restored e ∙ ap (λ (n : ℕ). with_line n w) (s.line ∙ sym t.line) ∙ sym (t.restored (sym (ap refused same) ∙ e)))
+    files : (m n : Result ℕ Answer) → answer_of m ≡ answer_of n → MatchResult m (RestoreDone f w p.file before after) (RestoreRefused f p.file before after)
+        → MatchResult n (RestoreDone f w q.file before other) (RestoreRefused f q.file before other) → p.file ≡ q.file
+    files (Ok m) (Ok n) e d d' = d.restored ∙ ap (λ (k : ℕ). with_line k w) (s.line ∙ sym t.line) ∙ sym d'.restored
+    files (Ok m) (Err a) e d r = absurd (true≢false (sym r.refuses ∙ sym (ap refused e)))
+    files (Err a) (Ok n) e r d = absurd (true≢false (sym r.refuses ∙ ap refused e))
+    files (Err a) (Err b) e r r' = r.back ∙ sym r'.back

@@ -1,20 +1,17 @@
 // A restore: the plan of a wanted file, written and run.
 #![tactic(auto)]
 
-ghost use Rattle.std.specs.Prelude.{◌≡◌, cond};
-ghost use Rattle.file.specs.declared.answer.Answer.TheVariants.{OtherChip as OtherChipAnswer, NotSound as NotSoundAnswer};
-ghost use Rattle.file.specs.Sound.{sound};
-ghost use Rattle.restoring.specs.Promises.{RestoreKept};
+ghost use Rattle.restoring.specs.Promises.{PlannedFrom, RestoreKept};
 
 use file::{Answer, File, is_sound};
 use plan::{on_one_chip, plan};
 use trace::run;
 
-// What a restore answers: also how many records its plan has, 0 if it is refused, and the file that the run ends in.
-#[derive(Clone, Copy)]
+// How many records the plan of a restore has, or its refusal; and the file that the run ends in, which is the current one with a refusal, and so stands beside
+// the Result.
+#[derive(Clone, Copy, Debug, PartialEq, Eq)]
 pub struct Restored {
-    pub answer: Answer,
-    pub count: usize,
+    pub count: Result<usize, Answer>,
     pub file: File,
 }
 
@@ -23,47 +20,34 @@ pub struct Restored {
 pub fn restore(current: File, wanted: File, buffer: &mut [u8]) -> Restored
     ensures { RestoreKept current wanted buffer.old buffer.new result }
 {
+    match plan_from(current, wanted, buffer) {
+        Ok(count) => {
+            let mut replies = [0u8; 8192];
+            let ran = run(current, &buffer[..8 * count], &mut replies);
+            Restored {
+                count: Ok(count),
+                file: ran.file,
+            }
+        }
+        Err(answer) => Restored {
+            count: Err(answer),
+            file: current,
+        },
+    }
+}
+
+// The plan of the wanted file, where the current one may be restored to it.
+fn plan_from(current: File, wanted: File, buffer: &mut [u8]) -> Result<usize, Answer>
+    ensures { PlannedFrom current wanted buffer.old buffer.new result }
+{
     if !is_sound(current) {
-        return not_restored(Answer::NotSound, current);
+        return Err(Answer::NotSound);
+    }
+    if !is_sound(wanted) {
+        return Err(Answer::NotSound);
     }
     if !on_one_chip(current, wanted) {
-        return other_chip(current, wanted);
+        return Err(Answer::OtherChip);
     }
-    let planned = plan(wanted, buffer);
-    let answer = planned.answer;
-    let count = planned.count;
-    if 2 <= answer.code() {
-        return not_restored(answer, current);
-    }
-    let mut replies = [0u8; 8192];
-    let size = 8 * count;
-    let ran = run(current, &buffer[..size], &mut replies);
-    let file = ran.file;
-    Restored {
-        answer,
-        count,
-        file,
-    }
-}
-
-// Between different chips: an unsound wanted file is told first.
-fn other_chip(current: File, wanted: File) -> Restored
-    ensures { result ≡ record { answer = cond (sound wanted) OtherChipAnswer NotSoundAnswer; count = 0; file = current } }
-{
-    if is_sound(wanted) {
-        not_restored(Answer::OtherChip, current)
-    } else {
-        not_restored(Answer::NotSound, current)
-    }
-}
-
-// A refusal has no records and leaves the file.
-fn not_restored(answer: Answer, current: File) -> Restored
-    ensures { result ≡ record { answer = answer; count = 0; file = current } }
-{
-    Restored {
-        answer,
-        count: 0,
-        file: current,
-    }
+    plan(wanted, buffer)
 }

@@ -3,11 +3,11 @@ use plan::ShortAnswer;
 use restoring::Restored;
 use touched::Touched;
 
-// What a restore by a short plan answers: also the file that the run ends in, and the set after it, which is empty unless it is refused.
+// How many records the plan of a restore by a short plan has, or its refusal; the file that the run ends in, and the set after it, which is empty. A refusal leaves both, so
+// they stand beside the Result.
 #[derive(Clone, Copy)]
 pub struct ShortRestored {
-    pub answer: ShortAnswer,
-    pub count: usize,
+    pub count: Result<usize, ShortAnswer>,
     pub file: File,
     pub touched: Touched,
 }

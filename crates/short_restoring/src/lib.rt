@@ -18,27 +18,21 @@ use trace::run;
 pub fn short_restore(current: File, saved: File, set: Touched, buffer: &mut [u8]) -> ShortRestored
     ensures { ShortRestoreKept current saved set buffer.old buffer.new result }
 {
-    let planned = short_plan(current, saved, set, buffer);
-    let answer = planned.answer;
-    let count = planned.count;
-    if answer.code() != 0 {
-        return ShortRestored {
-            answer,
-            count: 0,
+    match short_plan(current, saved, set, buffer) {
+        Ok(count) => {
+            let mut replies = [0u8; 8192];
+            let ran = run(current, &buffer[..8 * count], &mut replies);
+            ShortRestored {
+                count: Ok(count),
+                file: ran.file,
+                touched: Touched::nothing(),
+            }
+        }
+        Err(answer) => ShortRestored {
+            count: Err(answer),
             file: current,
             touched: set,
-        };
-    }
-    let mut replies = [0u8; 8192];
-    let size = 8 * count;
-    let ran = run(current, &buffer[..size], &mut replies);
-    let file = ran.file;
-    let touched = Touched::nothing();
-    ShortRestored {
-        answer,
-        count,
-        file,
-        touched,
+        },
     }
 }
 
@@ -47,10 +41,10 @@ pub fn restore_noting(current: File, wanted: File, set: Touched, buffer: &mut [u
     ensures { RestoreNotedKept current wanted set buffer.old buffer.new result }
 {
     let done = restore(current, wanted, buffer);
-    let answer = done.answer;
-    if 2 <= answer.code() {
-        return RestoreNoted { done, touched: set };
-    }
-    let touched = Touched::nothing();
+    let touched = if done.count.is_ok() {
+        Touched::nothing()
+    } else {
+        set
+    };
     RestoreNoted { done, touched }
 }

@@ -4,38 +4,25 @@ use mathlib.Core.Path.{sym, ◌∙◌}
 use native.Mathlib.Omega.{arith}
 use lib.Seq.{length-take-le}
 use Rattle.plan.proofs.FileIsFile.{is-file}
-use Rattle.short_restoring.proofs.ShortPromiseKept.{short_back, short-wrote, could, short-done}
+use Rattle.short_restoring.proofs.ShortPromiseKept.{could, short-done}
 use Rattle.short_restoring.proofs.ShortRunEnds.{short-room, short-few, short-run-file}
 use Rattle.short_restoring.proofs.short_restore.Goals as goal
 
-pub returns-then-code-ne0 : goal.returns-then-code-ne0
-returns-then-code-ne0 c =
-    let planned = c.short_plan-planned in
-    short_back planned.result planned.ensures c.code.ensures c.if-code-ne0.true
-
-pub overflow_mul-size : goal.overflow_mul-size
-overflow_mul-size c =
-    let wrote = short-wrote c.short_plan-planned.result c.short_plan-planned.ensures c.code.ensures c.if-code-ne0.false in
-    omega (arith, short-few wrote (is-file c.args.saved _ c.well_formed.1.0))
+pub overflow_mul-count : goal.overflow_mul-count
+overflow_mul-count c = omega (arith, short-few c.in-Ok.ensures.told (is-file c.args.saved _ c.well_formed.1.0))
 
 pub slice_bounds-run-end : goal.slice_bounds-run-end
-slice_bounds-run-end c =
-    let planned = c.short_plan-planned in
-    short-room (short-wrote planned.result planned.ensures c.code.ensures c.if-code-ne0.false)
+slice_bounds-run-end c = short-room c.in-Ok.ensures.told
 
-pub slice_bounds-run-end-2 : goal.slice_bounds-run-end-2
-slice_bounds-run-end-2 c =
-    let planned = c.short_plan-planned in
-    sym (length-take-le _ _ (short-room (short-wrote planned.result planned.ensures c.code.ensures c.if-code-ne0.false)))
+pub slice_bounds-run-end-in-Ok : goal.slice_bounds-run-end-in-Ok
+slice_bounds-run-end-in-Ok c = sym (length-take-le _ _ (short-room c.in-Ok.ensures.told))
 
-pub returns : goal.returns
-returns c =
-    let plan = c.short_plan-planned in
-    let told = c.code.ensures in
-    let ran = c.run-ran in
-    let current-file = is-file c.args.current _ c.well_formed.0 in
-    let wrote = short-wrote plan.result plan.ensures told c.if-code-ne0.false in
-    let enough : 8 * plan.result.count ≤ 8192 = omega (arith, short-few wrote (is-file c.args.saved _ c.well_formed.1.0)) in
-    short-done plan.result plan.ensures told c.if-code-ne0.false current-file ran.result.file
-    (ran.ensures.answer_value.1 ∙ short-run-file wrote c.args.current (could plan.result plan.ensures told c.if-code-ne0.false).current _ enough)
-    c.nothing-touched.result c.nothing-touched.ensures
+pub returns-in-Ok : goal.returns-in-Ok
+returns-in-Ok c =
+    let planned = c.in-Ok.ensures in
+    let wrote = planned.told in
+    let current = c.args.current in
+    let enough : 8 * c.in-Ok.count ≤ 8192 = omega (arith, short-few wrote (is-file c.args.saved _ c.well_formed.1.0)) in
+    short-done planned (is-file current _ c.well_formed.0) c.run-ran.result.file
+    (c.run-ran.ensures.answer_value.1 ∙ short-run-file wrote current (could planned).current _ enough)
+    c.nothing.result c.nothing.ensures

@@ -1,51 +1,32 @@
 use mathlib.Core.List.{[], ◌∷◌, map}
-use native.Mathlib.Omega.{arith}
-use lib.ListN.{get_or, length-take, length-drop}
+use Prim.Native.Nat.{◌+◌}
+use lib.ListN.{get_or, drop}
 use Rattle.plan.specs.EngineRows.{road_of}
 use Rattle.roads.specs.RoadRecords.{along}
 use Rattle.short_roads.specs.ShortPlan.{named_roads}
 use Rattle.plan.proofs.Appending.{all_left, less-left, room-left}
-use Rattle.plan.proofs.NamedRows.{first-named-left, no-named-left}
-use Rattle.plan.proofs.RowsAsRoads.{others}
+use Rattle.plan.proofs.NamedRows.{next-named-left, no-named-left}
 use Rattle.plan.proofs.short_stages.put_named_registers.Goals as goal
 
-pub loop-rest-init : goal.loop-rest-init
-loop-rest-init c =
+pub loop-row-init : goal.loop-row-init
+loop-row-init c =
     let args = c.args in
     all_left args.buffer.now args.at (along args.registers.now (named_roads args.named.now (map road_of args.rows.now)))
 
-pub bounds-rest-0 : goal.bounds-rest-0
-bounds-rest-0 c = omega arith
-
 pub put_if_named-at-requires : goal.put_if_named-at-requires
 put_if_named-at-requires c =
-    let here = c.loop-rest in
+    let rows = c.args.rows.now in
     let w = c.args.registers.now in
     let named = c.args.named.now in
-    room-left (along w (named_roads named (road_of (get_or here.rest.now 0 0) ∷ []))) (along w (named_roads named (map road_of (others here.rest.now))))
-    (first-named-left w named here.rest.now (omega arith) here.invariant) c.requires
+    let i = c.loop-row.row-index in
+    room-left (along w (named_roads named (road_of (get_or rows i 0) ∷ []))) (along w (named_roads named (map road_of (drop (i + 1) rows))))
+    (next-named-left w named rows i c.loop-row-test.true c.loop-row.invariant) c.requires
 
-pub slice_bounds-rest-count : goal.slice_bounds-rest-count
-slice_bounds-rest-count c = omega arith
-
-pub slice_bounds-rest-start : goal.slice_bounds-rest-start
-slice_bounds-rest-start c = omega arith
-
-pub slice_bounds-rest-end : goal.slice_bounds-rest-end
-slice_bounds-rest-end c = omega arith
-
-pub loop-rest-smaller : goal.loop-rest-smaller
-loop-rest-smaller c = simp (length-take, length-drop) (omega arith)
-
-pub loop-rest-preserved : goal.loop-rest-preserved
-loop-rest-preserved c =
-    let here = c.loop-rest in
-    less-left (first-named-left c.args.registers.now c.args.named.now here.rest.now (omega arith) here.invariant)
+pub loop-row-preserved : goal.loop-row-preserved
+loop-row-preserved c =
+    less-left (next-named-left c.args.registers.now c.args.named.now c.args.rows.now c.loop-row.row-index c.loop-row-test.true c.loop-row.invariant)
     c.put_if_named-at.ensures
-
-pub shape_of-buffer : goal.shape_of-buffer
-shape_of-buffer c = c.loop-rest.invariant.size
 
 pub returns : goal.returns
 returns c =
-    no-named-left c.args.registers.now c.args.named.now c.loop-rest.rest.now (omega arith) c.loop-rest.invariant
+    no-named-left c.args.registers.now c.args.named.now c.args.rows.now c.loop-row.row-index c.loop-row-test.false c.loop-row.invariant

@@ -3,7 +3,6 @@ use Prim.Native.Nat.{ℕ}
 use mathlib.Core.Path.{◌≡◌}
 use mathlib.Core.Bool.{cond}
 use mathlib.Core.List.{[], ◌∷◌}
-use borrow.Author.Tests.{not-true, not-false}
 use Rattle.file.specs.Palette.{marked_read, marked_colour}
 use Rattle.file.proofs.Colours.{blue-left}
 use Rattle.roads.specs.Plan.{mmio_read, pixel_step, marking}
@@ -26,21 +25,18 @@ at-blue m r g =
     blue-left (marked_colour m) (pixel_step (marked_read m) ∷ []) (pixel_step (marked_read m) ∷ pixel_step (marked_read m) ∷ [])
     (cond (marked_read m) (mmio_read 0xAC ∷ mmio_read 0xAC ∷ mmio_read 0xAC ∷ []) []) r g
 
-pub returns-then-colour-eq0 : goal.returns-then-colour-eq0
-returns-then-colour-eq0 c =
-    rw (at-red c.args.marks c.if-colour-eq0.true) c.put_step.ensures
+pub returns-in-0-default : goal.returns-in-0-default
+returns-in-0-default c = rw (at-red c.args.marks c.in-0-default.is-0) c.put_step.ensures
 
-pub returns-then-colour-eq1 : goal.returns-then-colour-eq1
-returns-then-colour-eq1 c =
-    rw (at-green c.args.marks c.if-colour-eq1.true) (append-then c.put_step-at.ensures c.put_step-then-colour-eq1.ensures)
+pub returns-in-1-default : goal.returns-in-1-default
+returns-in-1-default c =
+    rw (at-green c.args.marks c.in-1-default.is-0) (append-then c.put_step-at.ensures c.put_step-in-1-default.ensures)
 
-pub returns-then-not-reading : goal.returns-then-not-reading
-returns-then-not-reading c =
-    let m = c.args.marks in
-    rw (at-blue m c.if-colour-eq0.false c.if-colour-eq1.false, not-true (marked_read m) c.if-not-reading.true-raw) (append-none _ _)
+pub returns-in_default-true : goal.returns-in_default-true
+returns-in_default-true c =
+    rw (at-blue c.args.marks c.in_default-true.is-0.0.1 c.in_default-true.is-0.1, c.in_default-true.is-1)
+    (append-then (append-then c.mmio_read-at.ensures c.mmio_read-at-in_default-true.ensures) c.mmio_read.ensures)
 
-pub returns : goal.returns
-returns c =
-    let m = c.args.marks in
-    rw (at-blue m c.if-colour-eq0.false c.if-colour-eq1.false, not-false (marked_read m) c.if-not-reading.false-raw)
-    (append-then (append-then c.mmio_read-at.ensures c.mmio_read-at-2.ensures) c.mmio_read.ensures)
+pub returns-in_default-false : goal.returns-in_default-false
+returns-in_default-false c =
+    rw (at-blue c.args.marks c.in_default-false.is-0.0.1 c.in_default-false.is-0.1, c.in_default-false.is-1) (append-none _ _)

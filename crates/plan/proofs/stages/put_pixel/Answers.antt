@@ -7,6 +7,5 @@ pub returns : goal.returns
 unfolding pixel
 returns c =
     append-then
-    (append-then (rw c.wide_byte.ensures at c.mmio_write-at.ensures)
-    (rw c.wide_byte-2.ensures at c.mmio_write-at-2.ensures))
-    (rw c.wide_byte-3.ensures at c.mmio_write.ensures)
+    (append-then (rw c.from.ensures at c.mmio_write-at.ensures) (rw c.from-2.ensures at c.mmio_write-at-2.ensures))
+    (rw c.from-3.ensures at c.mmio_write.ensures)
