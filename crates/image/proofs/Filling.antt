@@ -3,12 +3,13 @@
 use Prim.Native.Nat.{ℕ, zero, suc, ◌+◌, ◌*◌, ◌/◌, ◌%◌, ◌≤◌, ◌<◌}
 use mathlib.Core.Path.{◌≡◌, refl, sym, ap, ◌∙◌, subst}
 use mathlib.Core.Bool.{Bool, false}
-use mathlib.Core.List.{List, [], ◌∷◌, ◌++◌, append-nil}
+use mathlib.Core.List.{List, [], ◌∷◌, ◌++◌, append-nil, append_assoc}
 use native.Mathlib.Nat.{add-zero, add-suc, suc-add, zero-add}
 use native.Mathlib.Numerals.{add-one}
 use native.Mathlib.Omega.{arith}
-use lib.ListN.{length, get_or, set, drop, length-set, length-append}
-use lib.Seq.{sets, sets-eq, drop-cons, drop-length}
+use borrow.Rule.Slice.PartMut.{put_mid}
+use lib.ListN.{length, get_or, set, take, drop, length-set, length-append}
+use lib.Seq.{sets, sets-eq, drop-cons, drop-drop, drop-length}
 use Rattle.file.specs.declared.palette.Colour.{Colour}
 use Rattle.image.specs.Bytes.{word_bytes, words_in, colour_bytes, colours_in, flag_byte, is_set, flag_bytes, flags_in}
 
@@ -40,6 +41,10 @@ module _ {A : Type 0} {before : List A} {start : ℕ} {all : List A} where
       let behind : at + 2 + 1 ≡ at + 3 = omega arith in
       subst (λ (n : ℕ). Filling before start all (set (set (set now at v) (at + 1) w) (at + 2) x) n vs) behind (one x vs (two v w (x ∷ vs) f e) refl)
 
+  -- the same place by another name
+  pub moved : {now left : List A} {at to : ℕ} → at ≡ to → Filling before start all now at left → Filling before start all now to left
+  moved {now} {left} e f = subst (λ (n : ℕ). Filling before start all now n left) e f
+
   -- nothing is left
   pub done : {now left : List A} {at : ℕ} → Filling before start all now at left → left ≡ [] → now ≡ sets before start all
   done {now} {at = at} f e = sym (ap (sets now at) e) ∙ f.whole
@@ -51,6 +56,12 @@ all-stored {A} vs l e =
     ∙ ap (λ (n : ℕ). vs ++ drop n l) (zero-add (length vs) ∙ e)
     ∙ ap (λ (xs : List A). vs ++ xs) (drop-length l)
     ∙ append-nil vs
+
+-- a list copied into the place of as many
+pub copied : {A : Type 0} (l : List A) (at k : ℕ) (part vs : List A) → at + k ≤ length l → k ≡ length vs → part ≡ vs → put_mid at k l part ≡ sets l at vs
+copied l at k part vs room e same =
+    rw (same, e, drop-drop (length vs) at l)
+    (sym (append_assoc (take at l) vs (drop (at + length vs) l)) ∙ sym (sets-eq vs l at (omega (arith, room, e))))
 
 -- ---- what is left
 
@@ -80,11 +91,11 @@ dropped-two l k h =
     ∙ ap (λ (xs : List ℕ). get_or l k 0 ∷ xs) (dropped l (k + 1) 0 (omega (arith, h)))
     ∙ ap (λ (n : ℕ). get_or l k 0 ∷ get_or l (k + 1) 0 ∷ drop n l) behind
 
-pub words-read : (bytes : List ℕ) (k : ℕ) → k + 2 ≤ length bytes → words_in (drop k bytes) ≡ (get_or bytes k 0 + 256 * get_or bytes (k + 1) 0) ∷ words_in (drop (k + 2) bytes)
+words-read : (bytes : List ℕ) (k : ℕ) → k + 2 ≤ length bytes → words_in (drop k bytes) ≡ (get_or bytes k 0 + 256 * get_or bytes (k + 1) 0) ∷ words_in (drop (k + 2) bytes)
 unfolding words_in
 words-read bytes k h = ap words_in (dropped-two bytes k h)
 
-pub colours-read : (bytes : List ℕ) (k : ℕ) → k + 3 ≤ length bytes
+colours-read : (bytes : List ℕ) (k : ℕ) → k + 3 ≤ length bytes
     → colours_in (drop k bytes) ≡ record { red = get_or bytes k 0; green = get_or bytes (k + 1) 0; blue = get_or bytes (k + 2) 0 } ∷ colours_in (drop (k + 3) bytes)
 unfolding colours_in
 colours-read bytes k h =
@@ -93,6 +104,21 @@ colours-read bytes k h =
     (dropped-two bytes k (omega (arith, h))
     ∙ ap (λ (xs : List ℕ). get_or bytes k 0 ∷ get_or bytes (k + 1) 0 ∷ xs) (dropped bytes (k + 2) 0 (omega (arith, h)))
     ∙ ap (λ (n : ℕ). get_or bytes k 0 ∷ get_or bytes (k + 1) 0 ∷ get_or bytes (k + 2) 0 ∷ drop n bytes) behind)
+
+-- the same of the words and colours before, by how many they are
+pub words-next : (bytes : List ℕ) (i : ℕ) → 2 * i + 2 ≤ length bytes
+    → words_in (drop (2 * i) bytes) ≡ (get_or bytes (2 * i) 0 + 256 * get_or bytes (2 * i + 1) 0) ∷ words_in (drop (2 * (i + 1)) bytes)
+words-next bytes i h =
+    let behind : 2 * i + 2 ≡ 2 * (i + 1) = omega arith in
+    words-read bytes (2 * i) h ∙ ap (λ (n : ℕ). (get_or bytes (2 * i) 0 + 256 * get_or bytes (2 * i + 1) 0) ∷ words_in (drop n bytes)) behind
+
+pub colours-next : (bytes : List ℕ) (i : ℕ) → 3 * i + 3 ≤ length bytes
+    → colours_in (drop (3 * i) bytes)
+    ≡ record { red = get_or bytes (3 * i) 0; green = get_or bytes (3 * i + 1) 0; blue = get_or bytes (3 * i + 2) 0 } ∷ colours_in (drop (3 * (i + 1)) bytes)
+colours-next bytes i h =
+    let behind : 3 * i + 3 ≡ 3 * (i + 1) = omega arith in
+    colours-read bytes (3 * i) h
+    ∙ ap (λ (n : ℕ). record { red = get_or bytes (3 * i) 0; green = get_or bytes (3 * i + 1) 0; blue = get_or bytes (3 * i + 2) 0 } ∷ colours_in (drop n bytes)) behind
 
 pub flags-read : (bytes : List ℕ) (k : ℕ) → k < length bytes → flags_in (drop k bytes) ≡ is_set (get_or bytes k 0) ∷ flags_in (drop (k + 1) bytes)
 unfolding flags_in

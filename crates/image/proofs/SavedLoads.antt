@@ -10,7 +10,6 @@ use lib.Dec.{T}
 use lib.ListN.{length, take, drop, length-append}
 use lib.Seq.{take_at, drop_at, take_all}
 use Rattle.bits.proofs.Test.{is_true}
-use Rattle.file.specs.declared.answer.Answer.TheVariants.{Done}
 use Rattle.file.specs.declared.chip.Chip.TheVariants.{Gd5462, Gd5464}
 use Rattle.file.specs.declared.palette.Colour.{Colour}
 use Rattle.file.specs.declared.registers.File.{File}
@@ -19,6 +18,7 @@ use Rattle.file.specs.File.{palette_count, bank_count}
 use Rattle.file.specs.Registers.{register_count}
 use Rattle.image.specs.Bytes.{word_bytes, words_in, colour_bytes, colours_in, flag_byte, is_set}
 use Rattle.image.specs.Parts.{chip_byte, chip_in, state_bytes, state_in, rest_of, held_in, sound_in, rest_count, set_count}
+use Rattle.std.specs.Prelude.{Ok}
 use Rattle.image.specs.Image.{image_count, heading, image_of, registers_in, rest_in, set_kept, set_part, headed, loads, loaded_from}
 use Rattle.image.proofs.Filling.{words_count, colours-count}
 
@@ -116,10 +116,10 @@ module _ (kept : Bool) (registers rest set : List ℕ) (r : length registers ≡
   unfolding set_kept image_of heading
   kept_back = flag-back kept
 
-  -- a sound file's image loads to its parts, whatever stood there before
-  pub saved-loads : T (sound_in registers rest) → (registers₀ rest₀ set₀ : List ℕ)
-      → loaded_from image registers₀ rest₀ set₀ ≡ record { answer = Done 0; registers = registers; rest = rest; set = cond kept set set₀ }
+  -- a sound file's image loads to its parts, whatever set stood there before
+  pub saved-loads : T (sound_in registers rest) → (set₀ : List ℕ)
+      → loaded_from image set₀ ≡ Ok (record { registers = registers; rest = rest; set = cond kept set set₀ })
   unfolding loaded_from loads
-  saved-loads sound registers₀ rest₀ set₀ =
+  saved-loads sound set₀ =
       rw (eq-eqb (length image) image_count long, is-headed, ap₂ sound_in registers-back rest_back ∙ is_true (sound_in registers rest) sound)
-      (λ i. record { answer = Done 0; registers = registers-back i; rest = rest_back i; set = cond (kept_back i) (set_back i) set₀ })
+      (λ i. Ok (record { registers = registers-back i; rest = rest_back i; set = cond (kept_back i) (set_back i) set₀ }))

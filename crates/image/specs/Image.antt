@@ -1,7 +1,7 @@
 -- For a host in C: the image that a file is saved as. Its first eight bytes are the mark 'SGCL', the version, whether a set is kept, and two zeros; then the registers, the
 -- rest, with the chip as its tenth byte, and the set.
 -- Assumes nothing.
-use Rattle.std.specs.Prelude.{ℕ, Bool, cond, ◌&&◌, List, [], ◌∷◌, ◌++◌, eqb, leb, ltb, length, get_or, take, drop, replicate}
+use Rattle.std.specs.Prelude.{ℕ, Bool, cond, ◌&&◌, List, [], ◌∷◌, ◌++◌, Result, Ok, Err, eqb, leb, ltb, length, get_or, take, drop, replicate}
 use Rattle.std.proofs.lemmas.List.Edits.{sets}
 use Rattle.file.specs.declared.answer.Answer.{Answer}
 use Rattle.file.specs.declared.answer.Answer.TheVariants.{Done, ShortBuffer, NotSound}
@@ -60,9 +60,9 @@ unfoldable pub saved_in : Bool → List ℕ → List ℕ → List ℕ → List �
 saved_in kept registers rest set buffer =
     cond (sound_in registers rest) (cond (ltb (length buffer) image_count) buffer (sets buffer 0 (image_of kept registers rest (kept_set kept set)))) buffer
 
--- what a load hands back: the image's parts, and the set that was there where none is kept; 'with 12, the file as it was'
-unfoldable pub loaded_from : List ℕ → List ℕ → List ℕ → List ℕ → Loaded
-loaded_from image registers rest set =
+-- what a load hands back: the image's parts, and the set that was there where none is kept; or 12
+unfoldable pub loaded_from : List ℕ → List ℕ → Result Loaded Answer
+loaded_from image set =
     cond (loads image)
-    (record { answer = Done 0; registers = registers_in image; rest = rest_in image; set = cond (set_kept image) (set_part image) set })
-    (record { answer = NotSound; registers = registers; rest = rest; set = set })
+    (Ok (record { registers = registers_in image; rest = rest_in image; set = cond (set_kept image) (set_part image) set }))
+    (Err NotSound)

@@ -2,10 +2,16 @@
 ghost use Rattle.std.specs.Prelude.{◌≡◌, ◌*◌, get_or};
 ghost use Rattle.image.specs.Parts.{chip_byte, chip_in, state_bytes, state_in, fits_in, rest_of, held_in};
 
-use crate::bytes::{bank_in, flag_byte, is_set, palette_in, put_bank, put_bytes, put_palette, two};
-use file::{Chip, File, Pointer, REGISTERS, State};
+use crate::bytes::{colours_in, flag_byte, is_set, put_bytes, put_colours, two};
+use file::{BANK, Chip, Colour, File, PALETTE, Pointer, REGISTERS, State};
 
 pub const REST: usize = 826;
+
+const BLACK: Colour = Colour {
+    red: 0,
+    green: 0,
+    blue: 0,
+};
 
 fn chip_byte(chip: Chip) -> u8
     ensures { result ≡ chip_byte chip }
@@ -50,7 +56,7 @@ pub fn state_bytes(state: State) -> [u8; 10]
 fn byte_at(bytes: &[u8], at: usize) -> u8
     ensures { result ≡ get_or bytes.now at 0 }
 {
-    if at < bytes.len() { bytes[at] } else { 0 }
+    bytes.get(at).copied().unwrap_or(0)
 }
 
 // The state of a rest.
@@ -74,30 +80,26 @@ pub fn state_in(rest: &[u8]) -> State
 }
 
 // Mode, toggle and chip are 0 or 1.
+#[tactic(auto, unfolding(crate::specs::Parts::fits_in))]
 pub fn fits(rest: &[u8]) -> bool
     ensures { result ≡ fits_in rest.now }
 {
-    if 1 < byte_at(rest, 3) {
-        return false;
-    }
-    if 1 < byte_at(rest, 8) {
-        return false;
-    }
-    byte_at(rest, 9) <= 1
+    byte_at(rest, 3) <= 1 && byte_at(rest, 8) <= 1 && byte_at(rest, 9) <= 1
 }
 
 // The file of registers and a rest.
 pub fn held(registers: [u16; REGISTERS], rest: [u8; REST]) -> File
     ensures { result ≡ held_in registers rest }
 {
-    let palette = palette_in(&rest[10..778]);
-    let bank = bank_in(&rest[778..826]);
-    let state = state_in(&rest);
+    let mut palette = [BLACK; PALETTE];
+    colours_in(&rest[10..778], &mut palette);
+    let mut bank = [BLACK; BANK];
+    colours_in(&rest[778..826], &mut bank);
     File {
         registers,
         palette,
         bank,
-        state,
+        state: state_in(&rest),
     }
 }
 
@@ -105,12 +107,9 @@ pub fn held(registers: [u16; REGISTERS], rest: [u8; REST]) -> File
 pub fn rest_of(file: File) -> [u8; REST]
     ensures { result ≡ rest_of file }
 {
-    let state = state_bytes(file.state);
-    let palette = file.palette;
-    let bank = file.bank;
     let mut rest = [0; REST];
-    put_bytes(&state, &mut rest, 0);
-    put_palette(palette, &mut rest, 10);
-    put_bank(bank, &mut rest, 778);
+    put_bytes(&state_bytes(file.state), &mut rest, 0);
+    put_colours(&file.palette, &mut rest, 10);
+    put_colours(&file.bank, &mut rest, 778);
     rest
 }

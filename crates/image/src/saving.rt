@@ -11,10 +11,9 @@ use file::{Answer, REGISTERS};
 
 pub const IMAGE: usize = 1433;
 
-// What a load hands back: the parts as they are from then on.
-#[derive(Clone, Copy)]
+// What a load hands back: the parts of a file.
+#[derive(Clone, Copy, Debug, PartialEq, Eq)]
 pub struct Loaded {
-    pub answer: Answer,
     pub registers: [u16; REGISTERS],
     pub rest: [u8; REST],
     pub set: [u8; SET],
@@ -30,10 +29,7 @@ fn heading(kept: bool) -> [u8; 8]
 fn kept_set(kept: bool, set: [u8; SET]) -> [u8; SET]
     ensures { result ≡ kept_set kept set }
 {
-    if kept {
-        return set;
-    }
-    [0; SET]
+    if kept { set } else { [0; SET] }
 }
 
 // The image into a buffer that has room for it.
@@ -47,12 +43,10 @@ fn put_image(
     requires { image_count ≤ length buffer.old }
     ensures { buffer.new ≡ sets buffer.old 0 (image_of kept registers rest (kept_set kept set)) }
 {
-    let first = heading(kept);
-    let last = kept_set(kept, set);
-    put_bytes(&first, buffer, 0);
+    put_bytes(&heading(kept), buffer, 0);
     put_words(&registers, buffer, 8);
     put_bytes(&rest, buffer, 224);
-    put_bytes(&last, buffer, 1050);
+    put_bytes(&kept_set(kept, set), buffer, 1050);
 }
 
 // Saves a sound file, and its set where it is kept: 12, 11, or 0 with the image in the buffer's first bytes.
@@ -77,32 +71,19 @@ pub fn save(
 }
 
 // Mark, version, and the bytes behind.
+#[tactic(auto, unfolding(crate::specs::Image::headed))]
 fn is_headed(image: &[u8]) -> bool
     requires { length image.now ≡ image_count }
     ensures { result ≡ headed image.now }
 {
-    if image[0] != 0x53 {
-        return false;
-    }
-    if image[1] != 0x47 {
-        return false;
-    }
-    if image[2] != 0x43 {
-        return false;
-    }
-    if image[3] != 0x4C {
-        return false;
-    }
-    if image[4] != 1 {
-        return false;
-    }
-    if 1 < image[5] {
-        return false;
-    }
-    if image[6] != 0 {
-        return false;
-    }
-    image[7] == 0
+    image[0] == 0x53
+        && image[1] == 0x47
+        && image[2] == 0x43
+        && image[3] == 0x4C
+        && image[4] == 1
+        && image[5] <= 1
+        && image[6] == 0
+        && image[7] == 0
 }
 
 // The parts of an image.
@@ -120,7 +101,7 @@ fn rest_in(image: &[u8]) -> [u8; REST]
     ensures { result ≡ rest_in image.now }
 {
     let mut rest = [0; REST];
-    put_bytes(&image[224..1050], &mut rest, 0);
+    rest.copy_from_slice(&image[224..1050]);
     rest
 }
 
@@ -129,40 +110,32 @@ fn set_after(image: &[u8], set: [u8; SET]) -> [u8; SET]
     requires { length image.now ≡ image_count }
     ensures { result ≡ cond (set_kept image.now) (set_part image.now) set }
 {
-    if !is_set(image[5]) {
-        return set;
+    let mut after = set;
+    if is_set(image[5]) {
+        after.copy_from_slice(&image[1050..1433]);
     }
-    let mut named = [0; SET];
-    put_bytes(&image[1050..1433], &mut named, 0);
-    named
+    after
 }
 
-// Loads an image of a sound file; of any other the parts are handed back with 12. A set that the image doesn't keep stays.
-pub fn load(image: &[u8], registers: [u16; REGISTERS], rest: [u8; REST], set: [u8; SET]) -> Loaded
-    ensures { result ≡ loaded_from image.now registers rest set }
+// Loads an image of a sound file; of any other 12. A set that the image doesn't keep is the one that was there.
+pub fn load(image: &[u8], set: [u8; SET]) -> Result<Loaded, Answer>
+    ensures { result ≡ loaded_from image.now set }
 {
-    let refused = Loaded {
-        answer: Answer::NotSound,
-        registers,
-        rest,
-        set,
-    };
     if image.len() != IMAGE {
-        return refused;
+        return Err(Answer::NotSound);
     }
     if !is_headed(image) {
-        return refused;
+        return Err(Answer::NotSound);
     }
-    let words = registers_in(image);
-    let bytes = rest_in(image);
-    if !is_file(words, bytes) {
-        return refused;
+    let registers = registers_in(image);
+    let rest = rest_in(image);
+    let sound = is_file(registers, rest);
+    if !sound {
+        return Err(Answer::NotSound);
     }
-    let named = set_after(image, set);
-    Loaded {
-        answer: Answer::Done(0),
-        registers: words,
-        rest: bytes,
-        set: named,
-    }
+    Ok(Loaded {
+        registers,
+        rest,
+        set: set_after(image, set),
+    })
 }

@@ -32,13 +32,10 @@ pub fn set_in(bytes: [u8; SET]) -> Touched
 pub fn set_bytes(set: Touched) -> [u8; SET]
     ensures { result ≡ set_bytes set }
 {
-    let registers = set.registers;
-    let palette = set.palette;
-    let bank = set.bank;
     let mut bytes = [0; SET];
-    put_flags(&registers, &mut bytes, 0);
-    put_flags(&palette, &mut bytes, 108);
-    put_flags(&bank, &mut bytes, 364);
+    put_flags(&set.registers, &mut bytes, 0);
+    put_flags(&set.palette, &mut bytes, 108);
+    put_flags(&set.bank, &mut bytes, 364);
     bytes[380] = flag_byte(set.pointer);
     bytes[381] = flag_byte(set.marks);
     bytes[382] = flag_byte(set.toggle);

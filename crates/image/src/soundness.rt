@@ -9,8 +9,5 @@ use file::{REGISTERS, are_sound};
 pub fn is_file(registers: [u16; REGISTERS], rest: [u8; REST]) -> bool
     ensures { result ≡ sound_in registers rest }
 {
-    if fits(&rest) {
-        return are_sound(registers, state_in(&rest));
-    }
-    false
+    fits(&rest) && are_sound(registers, state_in(&rest))
 }

@@ -1,11 +1,14 @@
+-- `flag_byte` meets its contract. Assumes nothing.
+use mathlib.Core.Path.{◌≡◌, refl, ◌∙◌}
+use mathlib.Core.Bool.{Bool, true, false}
+use mir.Val.{bool_byte}
 use Rattle.image.specs.Bytes.{flag_byte}
-use borrow.Author.Rules.{rules}
 use Rattle.image.proofs.bytes.flag_byte.Goals as goal
 
-pub returns-then-flag : goal.returns-then-flag
+as_byte : (flag : Bool) → bool_byte flag ≡ flag_byte flag
 unfolding flag_byte
-returns-then-flag c = search rules
+as_byte true = refl
+as_byte false = refl
 
-pub returns-else-flag : goal.returns-else-flag
-unfolding flag_byte
-returns-else-flag c = search rules
+pub returns : goal.returns
+returns c = c.from.ensures ∙ as_byte c.args.flag

@@ -1,31 +1,14 @@
-use Prim.Native.Nat.{ℕ, ◌+◌}
-use mathlib.Core.Path.{ap, sym, ◌∙◌}
+use mathlib.Core.Path.{ap}
 use native.Mathlib.Omega.{arith}
-use mathlib.Core.List.{◌∷◌}
-use lib.ListN.{drop, drop_of_length-le}
+use lib.ListN.{drop_of_length-le}
 use Rattle.image.specs.Bytes.{flag_bytes}
-use Rattle.image.proofs.Filling.{begun, one, done, flags-left}
+use Rattle.image.proofs.Filling.{moved, one, done, flags-left}
 use Rattle.image.proofs.bytes.put_flags.Goals as goal
 
-pub loop-k-init : goal.loop-k-init
-loop-k-init c = (begun, omega arith, omega arith)
-
-pub bounds-buffer-to : goal.bounds-buffer-to
-bounds-buffer-to c =
-    omega (arith, c.loop-k.invariant.0.size, c.loop-k.invariant.1, c.loop-k-test.true, c.requires)
-
-pub loop-k-preserved : goal.loop-k-preserved
-loop-k-preserved c =
-    let flags = c.args.flags.now in (
-      one _ _ c.loop-k.invariant.0
-          (flags-left flags c.loop-k.k (omega (arith, c.loop-k-test.true)) ∙ ap (λ (b : ℕ). b ∷ flag_bytes (drop (c.loop-k.k + 1) flags)) (sym c.flag_byte.ensures)),
-      omega (arith, c.loop-k.invariant.1),
-      omega (arith, c.loop-k-test.true),
-    )
-
-pub shape_of-buffer : goal.shape_of-buffer
-shape_of-buffer c = c.loop-k.invariant.0.size
+pub loop-i-preserved : goal.loop-i-preserved
+loop-i-preserved c =
+    rw c.flag_byte.ensures (moved (omega arith) (one _ _ c.loop-i.invariant (flags-left c.args.flags.now c.loop-i.i c.loop-i-test.true)))
 
 pub returns : goal.returns
 unfolding flag_bytes
-returns c = done c.loop-k.invariant.0 (ap flag_bytes (drop_of_length-le c.args.flags.now {i = c.loop-k.k} (omega (arith, c.loop-k-test.false))))
+returns c = done c.loop-i.invariant (ap flag_bytes (drop_of_length-le c.args.flags.now {i = c.loop-i.i} c.loop-i-test.false))

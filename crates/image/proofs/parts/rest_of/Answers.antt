@@ -16,9 +16,9 @@ unfolding rest_of state_bytes
 returns c =
     let f = c.args.file in
     let was = c.well_formed.0 in
-    c.put_bank.ensures
-    ∙ ap (λ (l : List ℕ). sets l 778 (colour_bytes f.bank)) c.put_palette.ensures
+    c.put_colours-2.ensures
+    ∙ ap (λ (l : List ℕ). sets l 778 (colour_bytes f.bank)) c.put_colours.ensures
     ∙ ap (λ (l : List ℕ). sets (sets l 10 (colour_bytes f.palette)) 778 (colour_bytes f.bank))
-    (c.put_bytes.ensures ∙ ap (sets _ 0) c.state_bytes-state.ensures)
+    (c.put_bytes.ensures ∙ ap (sets _ 0) c.state_bytes.ensures)
     ∙ filled-by (replicate 826 0) (state_bytes f.state) (colour_bytes f.palette) (colour_bytes f.bank) 10 778 refl
     (omega (arith, colours-count f.palette, palette-count f _ was)) (omega (arith, colours-count f.bank, bank-count f _ was))

@@ -1,7 +1,7 @@
 -- `load` meets its contract. Assumes nothing.
 use mathlib.Core.Path.{sym, ap₂, ◌∙◌}
-use borrow.Author.Tests.{eq-eqb, ne_eqb, not-true, not-false}
-use Rattle.file.specs.declared.answer.Answer.TheVariants.{Done}
+use borrow.Author.Tests.{eq-eqb, ne_eqb}
+use Rattle.std.specs.Prelude.{Ok}
 use Rattle.image.specs.Parts.{sound_in}
 use Rattle.image.specs.Image.{image_count, loads, loaded_from}
 use Rattle.image.proofs.saving.load.Goals as goal
@@ -12,25 +12,25 @@ returns-then-image-ne-IMAGE c = rw (ne_eqb _ image_count c.if-image-ne-IMAGE.tru
 
 pub returns-then-not-is_headed : goal.returns-then-not-is_headed
 unfolding loaded_from loads
-returns-then-not-is_headed c = rw (eq-eqb _ image_count c.if-image-ne-IMAGE.false, sym c.is_headed.ensures ∙ not-true _ c.if-not-is_headed.true-raw)
+returns-then-not-is_headed c = rw (eq-eqb _ image_count c.if-image-ne-IMAGE.false, sym c.is_headed.ensures ∙ c.if-not-is_headed.true)
 
-pub returns-then-not-is_file : goal.returns-then-not-is_file
+pub returns-then-not-sound : goal.returns-then-not-sound
 unfolding loaded_from loads
-returns-then-not-is_file c =
+returns-then-not-sound c =
     rw (
       eq-eqb _ image_count c.if-image-ne-IMAGE.false,
-      sym c.is_headed.ensures ∙ not-false _ c.if-not-is_headed.false-raw,
-      sym (c.is_file.ensures ∙ ap₂ sound_in c.registers_in-words.ensures c.rest_in-bytes.ensures) ∙ not-true _ c.if-not-is_file.true-raw,
+      sym c.is_headed.ensures ∙ c.if-not-is_headed.false,
+      sym (c.is_file-sound.ensures ∙ ap₂ sound_in c.registers_in-registers.ensures c.rest_in-rest.ensures) ∙ c.if-not-sound.true,
     )
 
 pub returns : goal.returns
 unfolding loaded_from loads
 returns c =
-    let words = c.registers_in-words in
-    let bytes = c.rest_in-bytes in
+    let words = c.registers_in-registers in
+    let bytes = c.rest_in-rest in
     rw (
       eq-eqb _ image_count c.if-image-ne-IMAGE.false,
-      sym c.is_headed.ensures ∙ not-false _ c.if-not-is_headed.false-raw,
-      sym (c.is_file.ensures ∙ ap₂ sound_in words.ensures bytes.ensures) ∙ not-false _ c.if-not-is_file.false-raw,
+      sym c.is_headed.ensures ∙ c.if-not-is_headed.false,
+      sym (c.is_file-sound.ensures ∙ ap₂ sound_in words.ensures bytes.ensures) ∙ c.if-not-sound.false,
     )
-    (λ i. record { answer = Done 0; registers = words.ensures i; rest = bytes.ensures i; set = c.set_after-named.ensures i })
+    (λ i. Ok (record { registers = words.ensures i; rest = bytes.ensures i; set = c.set_after.ensures i }))

@@ -13,8 +13,8 @@ use Rattle.image.proofs.saving.put_image.Goals as goal
 pub returns : goal.returns
 unfolding image_of heading
 returns c =
-    let first = c.heading-first in
-    let last = c.kept_set-last in
+    let first = c.heading in
+    let last = c.kept_set in
     c.put_bytes-3.ensures
     ∙ ap (λ (l : List ℕ). sets l 1050 last.result) c.put_bytes-2.ensures
     ∙ ap (λ (l : List ℕ). sets (sets l 224 c.args.rest) 1050 last.result) c.put_words.ensures

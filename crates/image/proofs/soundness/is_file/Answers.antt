@@ -11,6 +11,6 @@ unfolding sound_in held_in sound seen
 returns-then-fits c =
     rw (sym c.fits.ensures ∙ c.if-fits.true) (c.are_sound.ensures ∙ ap (λ (s : State). sound (seen c.args.registers s)) c.state_in.ensures)
 
-pub returns : goal.returns
+pub returns-else-fits : goal.returns-else-fits
 unfolding sound_in
-returns c = rw (sym c.fits.ensures ∙ c.if-fits.false)
+returns-else-fits c = c.if-fits.false ∙ rw (sym c.fits.ensures ∙ c.if-fits.false)
