@@ -44,6 +44,15 @@ module _ {A : Type 0} (rest : List ℕ) (a : Answer) (numbers before : List A) w
   unfolding shown_by refused
   shown-done e number n h after s = let under = ap (leb 2) (sym n) ∙ lt-leb 2 number h in (rw e n, rw (e, under) s)
 
+-- so an answer and numbers that are a reader's leave what the reader leaves
+pub read_left : {A : Type 0} (rest : List ℕ) (a told : Answer) (ns numbers before after : List A) (number : ℕ) → a ≡ told → ns ≡ numbers
+    → (number ≡ (shown_by rest a ns before).code) × (after ≡ (shown_by rest a ns before).numbers)
+    → (number ≡ (shown_by rest told numbers before).code) × (after ≡ (shown_by rest told numbers before).numbers)
+read_left {A} rest a told ns numbers before after number ea en e = (
+  e.0 ∙ ap₂ (λ (x : Answer) (xs : List A). (shown_by rest x xs before).code) ea en,
+  e.1 ∙ ap₂ (λ (x : Answer) (xs : List A). (shown_by rest x xs before).numbers) ea en,
+)
+
 -- the cursor's address has 23 bits
 pub address_below : (f : File) → (read_geometry f).cursor.address < 2 ^ 31
 unfolding read_geometry cursor_in no_cursor bits

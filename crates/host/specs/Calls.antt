@@ -1,6 +1,9 @@
 -- For a host in C: what the calls of a host answer, and what they leave.
 -- Assumes nothing.
-use Rattle.std.specs.Prelude.{ℕ, cond, List, [], ◌∷◌, leb, get_or}
+use Rattle.std.specs.Prelude.{ℕ, cond, List, [], ◌∷◌, Result, Ok, Err, leb, get_or}
+use Rattle.file.specs.declared.answer.Answer.{Answer}
+use Rattle.file.specs.Answers.{code_of}
+use Rattle.image.specs.declared.saving.Loaded.{Loaded}
 use Rattle.file.specs.declared.registers.File.{File}
 use Rattle.file.specs.File.{power_on}
 use Rattle.file.specs.Registers.{register_count}
@@ -25,3 +28,20 @@ leaving code f = record { code = code; registers = f.registers; rest = rest_of f
 -- power-on by the chip's number; 2, 'malformed', for a number that is no chip's
 unfoldable pub powered_on : ℕ → List ℕ → List ℕ → Left
 powered_on chip registers rest = cond (leb chip 1) (leaving 0 (power_on (chip_in chip))) (record { code = 2; registers = registers; rest = rest })
+
+-- what is told of a load: 0, or its refusal's code; the parts of the image, or what stood there
+unfoldable pub code_told : Result Loaded Answer → ℕ
+code_told (Ok l) = 0
+code_told (Err a) = code_of a
+
+unfoldable pub registers_told : Result Loaded Answer → List ℕ → List ℕ
+registers_told (Ok l) registers = l.registers
+registers_told (Err a) registers = registers
+
+unfoldable pub rest_told : Result Loaded Answer → List ℕ → List ℕ
+rest_told (Ok l) rest = l.rest
+rest_told (Err a) rest = rest
+
+unfoldable pub set_told : Result Loaded Answer → List ℕ → List ℕ
+set_told (Ok l) set = l.set
+set_told (Err a) set = set

@@ -4,8 +4,11 @@ use Rattle.std.specs.Prelude.{ℕ, zero, suc, min, cond, List, [], ◌∷◌, �
 use Rattle.file.specs.declared.answer.Answer.{Answer}
 use Rattle.file.specs.declared.effect.Reach.{Reach}
 use Rattle.file.specs.Answers.{code_of, refused}
+use Rattle.std.specs.Result.{result_unwrap_or}
+use Rattle.file.specs.declared.effect.Effect.TheVariants.{Nothing}
+use Rattle.file.specs.Effects.{reach_of}
 use Rattle.access.specs.declared.record.Record.{Record}
-use Rattle.access.specs.Access.{read_reach}
+use Rattle.access.specs.Access.{read_reach, answer_with}
 use Rattle.geometry.specs.declared.Capture.{Capture}
 use Rattle.geometry.specs.declared.Cursor.{Cursor}
 use Rattle.geometry.specs.declared.Window.{Window}
@@ -76,7 +79,7 @@ unfoldable pub capture_read : List ℕ → List ℕ → List ℕ → Listed ℕ
 capture_read registers rest before = shown_by rest (read_geometry (held_in registers rest)).answer (capture_numbers (read_geometry (held_in registers rest)).capture) before
 
 unfoldable pub reach_told : List ℕ → List ℕ → Record → List ℕ → Listed ℕ
-reach_told registers rest asked before = shown_by rest (read_reach (held_in registers rest) asked).answer (reach_numbers (read_reach (held_in registers rest) asked).reach) before
+reach_told registers rest asked before = shown_by rest (answer_with (read_reach (held_in registers rest) asked)) (reach_numbers (result_unwrap_or (read_reach (held_in registers rest) asked) (reach_of Nothing))) before
 
 -- a number in 16 bits: what is more counts as the largest, which is in no range of 01's but the screen start's
 unfoldable pub clipped : ℕ → ℕ

@@ -35,15 +35,13 @@ fn pick(cells: &[u8; CELLS], from: usize, end: usize, step: usize, wanted: usize
     requires { (end ≤ cell_count) × (1 ≤ step) × (step ≤ 4) }
     ensures { (eqb result nothing_held ≡ false → (wanted < end) × (result ≡ get_or cells.now wanted 0)) × (step ≡ 1 → from ≤ wanted → result ≡ cond (ltb wanted end) (get_or cells.now wanted 0) nothing_held) }
 {
-    let mut at = from;
-    while at < end {
+    for at in (from..end).step_by(step) {
         let cell = cells[at];
         if cell != UNKNOWN {
             if at == wanted {
                 return cell;
             }
         }
-        at += step;
     }
     UNKNOWN
 }
@@ -88,24 +86,13 @@ pub fn cell_of(chip: Chip, kind: u8, address: u16) -> u8
     ensures { eqb result nothing_held ≡ false → (kind < 6) × (result ≡ cell_in (cell_table chip) kind address) }
 {
     let cells = places::cells(chip);
-    let at = address as usize;
-    let space = kind / 2;
-    if space == 2 {
-        return mmio_cell(&cells, at);
+    let at = usize::from(address);
+    match kind / 2 {
+        2 => mmio_cell(&cells, at),
+        1 => port_cell(&cells, kind % 2 == 1, at),
+        0 => pick(&cells, CONFIG, MMIO, 1, CONFIG + at),
+        _ => UNKNOWN,
     }
-    if space == 1 {
-        return port_cell(&cells, kind % 2 == 1, at);
-    }
-    if space == 0 {
-        return pick(&cells, CONFIG, MMIO, 1, CONFIG + at);
-    }
-    UNKNOWN
-}
-
-fn number(held: u16) -> usize
-    ensures { result ≡ held }
-{
-    held as usize
 }
 
 // The cell that the index registers choose behind an indexed port's; any other's is itself.
@@ -116,38 +103,34 @@ pub fn behind(chip: Chip, registers: &[u16; REGISTERS], cell: u8) -> u8
         return cell;
     }
     let cells = places::cells(chip);
-    if cell == 0x79 {
-        return pick(
-            &cells,
-            CRX_CELLS,
-            CRX_CELLS + CRX_END,
-            1,
-            CRX_CELLS + number(registers[CRX] % 64),
-        );
-    }
-    if cell == 0x78 {
-        return pick(
+    match cell {
+        0x78 => pick(
             &cells,
             SRX_CELLS,
             CRX_CELLS,
             1,
-            SRX_CELLS + number(registers[SRX] % 32),
-        );
-    }
-    if cell == 0x7A {
-        return pick(
+            SRX_CELLS + usize::from(registers[SRX] % 32),
+        ),
+        0x79 => pick(
+            &cells,
+            CRX_CELLS,
+            CRX_CELLS + CRX_END,
+            1,
+            CRX_CELLS + usize::from(registers[CRX] % 64),
+        ),
+        0x7A => pick(
             &cells,
             GRX_CELLS,
             GRX_CELLS + GRX_END,
             1,
-            GRX_CELLS + number(registers[GRX] % 64),
-        );
+            GRX_CELLS + usize::from(registers[GRX] % 64),
+        ),
+        _ => pick(
+            &cells,
+            ARX_CELLS,
+            CONFIG,
+            1,
+            ARX_CELLS + usize::from(registers[ARX] % 32),
+        ),
     }
-    pick(
-        &cells,
-        ARX_CELLS,
-        CONFIG,
-        1,
-        ARX_CELLS + number(registers[ARX] % 32),
-    )
 }

@@ -5,13 +5,13 @@ mod finding;
 mod lists;
 mod serving;
 
-ghost use Rattle.std.specs.Prelude.{◌≡◌};
+ghost use Rattle.std.specs.Prelude.{◌≡◌, ◌&&◌};
 ghost use Rattle.file.specs.Answers.{code_of};
 ghost use Rattle.file.specs.File.{power_on};
 ghost use Rattle.image.specs.Bytes.{is_set};
-ghost use Rattle.image.specs.Parts.{chip_in};
+ghost use Rattle.image.specs.Parts.{chip_in, fits_in, rest_of};
 ghost use Rattle.image.specs.Image.{save_answer, saved_in, loaded_from};
-ghost use Rattle.host.specs.Calls.{layout_of, powered_on};
+ghost use Rattle.host.specs.Calls.{code_told, layout_of, powered_on, registers_told, rest_told, set_told};
 ghost use Rattle.host.specs.Left.{AccessLeft, TimingLeft};
 ghost use Rattle.host.specs.Lists.{capture_read, cursor_read, reach_told, timing_read, window_read};
 ghost use Rattle.host.specs.Numbers.{record_in};
@@ -20,7 +20,7 @@ ghost use Rattle.host.specs.Runs.{PlanTold, RunTold, RestoreTold, NoteTold, Shor
 use crate::lists::{CAPTURE, CURSOR, REACH, TIMING, WINDOW};
 use file::{Chip, File, REGISTERS};
 use geometry::read_geometry;
-use image::{IMAGE, REST, SET, fits, held, load, rest_of, save, set_bytes, set_in};
+use image::{IMAGE, Loaded, REST, SET, fits, held, load, rest_of, save, set_bytes, set_in};
 use plan::{plan, short_plan};
 use restoring::restore;
 use short_restoring::short_restore;
@@ -59,6 +59,22 @@ fn powered(chip: u8) -> File
     File::power_on(Chip::Gd5464)
 }
 
+// A file put where its parts stand.
+fn put_file(registers: &mut [u16; REGISTERS], rest: &mut [u8; REST], file: File)
+    ensures { (registers.new ≡ file.registers) × (rest.new ≡ rest_of file) }
+{
+    let words = file.registers;
+    *registers = words;
+    *rest = rest_of(file);
+}
+
+// Two rests are both a file's.
+fn fit(rest: &[u8; REST], others: &[u8; REST]) -> bool
+    ensures { result ≡ (fits_in rest.now && fits_in others.now) }
+{
+    fits(rest) && fits(others)
+}
+
 // The file at power-on; 2 for a chip that is none.
 #[unsafe(no_mangle)]
 pub extern "C" fn sedgecoil_power_on_parts(
@@ -71,10 +87,7 @@ pub extern "C" fn sedgecoil_power_on_parts(
     if 1 < chip {
         return 2;
     }
-    let file = powered(chip);
-    let words = file.registers;
-    *registers = words;
-    *rest = rest_of(file);
+    put_file(registers, rest, powered(chip));
     0
 }
 
@@ -99,20 +112,8 @@ pub extern "C" fn sedgecoil_timing_parts(
 ) -> u32
     ensures { (result ≡ (timing_read registers.now rest.now numbers.old).code) × (numbers.new ≡ (timing_read registers.now rest.now numbers.old).numbers) }
 {
-    if !fits(rest) {
-        return 12;
-    }
-    let words = *registers;
-    let bytes = *rest;
-    let read = read_timing(held(words, bytes));
-    let answer = read.answer;
-    let code = answer.code();
-    if 2 <= code {
-        return code as u32;
-    }
-    let timing = read.timing;
-    *numbers = timing.numbers();
-    code as u32
+    let read = read_timing(held(*registers, *rest));
+    lists::leave_read(rest, read.answer, read.timing.numbers(), numbers)
 }
 
 // Writes fifteen timing numbers into the registers: 12, 8 or 10 with them as they were, or 0.
@@ -127,18 +128,15 @@ pub extern "C" fn sedgecoil_timing_write_parts(
     if !fits(rest) {
         return 12;
     }
-    let words = *registers;
-    let bytes = *rest;
-    let given = *numbers;
-    let written = write_timing(held(words, bytes), lists::timing_of(given));
+    let written = write_timing(held(*registers, *rest), lists::timing_of(*numbers));
     let file = written.file;
     let words_after = file.registers;
     *registers = words_after;
-    let answer = written.answer;
-    answer.code() as u32
+    u32::from(written.answer.code())
 }
 
-// The cursor as six numbers, of which left and top are signed: 0, or 12 with the numbers as they were.
+// The cursor as six numbers, of which left and top are signed: 0, or 12 with the numbers as they were. It, `sedgecoil_window_parts` and
+// `sedgecoil_capture_parts` are three names of the C interface, each with a list of its own; what they share is `lists::leave_read`.
 #[unsafe(no_mangle)]
 pub extern "C" fn sedgecoil_cursor_parts(
     registers: &[u16; REGISTERS],
@@ -147,19 +145,13 @@ pub extern "C" fn sedgecoil_cursor_parts(
 ) -> u32
     ensures { (result ≡ (cursor_read registers.now rest.now numbers.old).code) × (numbers.new ≡ (cursor_read registers.now rest.now numbers.old).numbers) }
 {
-    if !fits(rest) {
-        return 12;
-    }
-    let words = *registers;
-    let bytes = *rest;
-    let read = read_geometry(held(words, bytes));
-    let answer = read.answer;
-    let code = answer.code();
-    if 2 <= code {
-        return code as u32;
-    }
-    *numbers = lists::cursor_numbers(read.cursor);
-    code as u32
+    let read = read_geometry(held(*registers, *rest));
+    lists::leave_read(
+        rest,
+        read.answer,
+        lists::cursor_numbers(read.cursor),
+        numbers,
+    )
 }
 
 // Window 2 as ten numbers: 0, or 12 with the numbers as they were.
@@ -171,19 +163,13 @@ pub extern "C" fn sedgecoil_window_parts(
 ) -> u32
     ensures { (result ≡ (window_read registers.now rest.now numbers.old).code) × (numbers.new ≡ (window_read registers.now rest.now numbers.old).numbers) }
 {
-    if !fits(rest) {
-        return 12;
-    }
-    let words = *registers;
-    let bytes = *rest;
-    let read = read_geometry(held(words, bytes));
-    let answer = read.answer;
-    let code = answer.code();
-    if 2 <= code {
-        return code as u32;
-    }
-    *numbers = lists::window_numbers(read.window);
-    code as u32
+    let read = read_geometry(held(*registers, *rest));
+    lists::leave_read(
+        rest,
+        read.answer,
+        lists::window_numbers(read.window),
+        numbers,
+    )
 }
 
 // The capture window as four numbers: 0, or 12 with the numbers as they were.
@@ -195,19 +181,13 @@ pub extern "C" fn sedgecoil_capture_parts(
 ) -> u32
     ensures { (result ≡ (capture_read registers.now rest.now numbers.old).code) × (numbers.new ≡ (capture_read registers.now rest.now numbers.old).numbers) }
 {
-    if !fits(rest) {
-        return 12;
-    }
-    let words = *registers;
-    let bytes = *rest;
-    let read = read_geometry(held(words, bytes));
-    let answer = read.answer;
-    let code = answer.code();
-    if 2 <= code {
-        return code as u32;
-    }
-    *numbers = lists::capture_numbers(read.capture);
-    code as u32
+    let read = read_geometry(held(*registers, *rest));
+    lists::leave_read(
+        rest,
+        read.answer,
+        lists::capture_numbers(read.capture),
+        numbers,
+    )
 }
 
 // What an access may change, as nine numbers: 0, or 12 with the numbers as they were.
@@ -223,16 +203,13 @@ pub extern "C" fn sedgecoil_reach_parts(
     if !fits(rest) {
         return 12;
     }
-    let words = *registers;
-    let bytes = *rest;
-    let read = serving::record_in(asked).reach(held(words, bytes));
-    let answer = read.answer;
-    let code = answer.code();
-    if 2 <= code {
-        return code as u32;
+    match serving::record_in(asked).reach(held(*registers, *rest)) {
+        Err(refusal) => u32::from(refusal.code()),
+        Ok(reach) => {
+            *numbers = lists::reach_numbers(reach);
+            0
+        }
     }
-    *numbers = lists::reach_numbers(read.reach);
-    code as u32
 }
 
 // Saves a file, with its set where `kept` isn't 0: 12, 11, or 0 with the image in the buffer's first bytes.
@@ -247,11 +224,8 @@ pub extern "C" fn sedgecoil_save_parts(
     ensures value { result ≡ code_of (save_answer registers.now rest.now buffer.old) }
     ensures buffer_after { buffer.new ≡ saved_in (is_set kept) registers.now rest.now set.now buffer.old }
 {
-    let words = *registers;
-    let bytes = *rest;
-    let named = *set;
-    let answer = save(kept != 0, words, bytes, named, buffer);
-    answer.code() as u32
+    let answer = save(kept != 0, *registers, *rest, *set, buffer);
+    u32::from(answer.code())
 }
 
 // Loads an image: 0, or 12 with all as it was. A set that the image doesn't keep stays.
@@ -262,20 +236,22 @@ pub extern "C" fn sedgecoil_load_parts(
     set: &mut [u8; SET],
     image: &[u8],
 ) -> u32
-    ensures { (result ≡ code_of (loaded_from image.now registers.old rest.old set.old).answer) × (registers.new ≡ (loaded_from image.now registers.old rest.old set.old).registers) × (rest.new ≡ (loaded_from image.now registers.old rest.old set.old).rest) × (set.new ≡ (loaded_from image.now registers.old rest.old set.old).set) }
+    ensures { (result ≡ code_told (loaded_from image.now set.old)) × (registers.new ≡ registers_told (loaded_from image.now set.old) registers.old) × (rest.new ≡ rest_told (loaded_from image.now set.old) rest.old) × (set.new ≡ set_told (loaded_from image.now set.old) set.old) }
 {
-    let words = *registers;
-    let bytes = *rest;
-    let named = *set;
-    let loaded = load(image, words, bytes, named);
-    let words_after = loaded.registers;
-    let bytes_after = loaded.rest;
-    let named_after = loaded.set;
-    *registers = words_after;
-    *rest = bytes_after;
-    *set = named_after;
-    let answer = loaded.answer;
-    answer.code() as u32
+    match load(image, *set) {
+        Ok(loaded) => {
+            let Loaded {
+                registers: words,
+                rest: bytes,
+                set: named,
+            } = loaded;
+            *registers = words;
+            *rest = bytes;
+            *set = named;
+            0
+        }
+        Err(answer) => u32::from(answer.code()),
+    }
 }
 
 // A plan of the file: 12, 13, 11, or 0 with so many records in the buffer.
@@ -288,16 +264,17 @@ pub extern "C" fn sedgecoil_plan_parts(
 ) -> u32
     ensures { PlanTold registers.now rest.now buffer.old result count.new buffer.new }
 {
+    *count = 0;
     if !fits(rest) {
-        *count = 0;
         return 12;
     }
-    let words = *registers;
-    let bytes = *rest;
-    let planned = plan(held(words, bytes), buffer);
-    *count = planned.count;
-    let answer = planned.answer;
-    answer.code() as u32
+    match plan(held(*registers, *rest), buffer) {
+        Ok(made) => {
+            *count = made;
+            0
+        }
+        Err(answer) => u32::from(answer.code()),
+    }
 }
 
 // A run over a trace into replies: 12, or 0 with so many replies and the file after them.
@@ -311,24 +288,18 @@ pub extern "C" fn sedgecoil_run_parts(
 ) -> u32
     ensures { RunTold registers.old rest.old trace.now replies.old result count.new registers.new rest.new replies.new }
 {
+    *count = 0;
     if !fits(rest) {
-        *count = 0;
         return 12;
     }
-    let words = *registers;
-    let bytes = *rest;
-    let ran = run(held(words, bytes), trace, replies);
+    let ran = run(held(*registers, *rest), trace, replies);
     *count = ran.count;
-    let answer = ran.answer;
-    let code = answer.code();
+    let code = ran.answer.code();
     if 2 <= code {
-        return code as u32;
+        return u32::from(code);
     }
-    let file = ran.file;
-    let words_after = file.registers;
-    *registers = words_after;
-    *rest = rest_of(file);
-    code as u32
+    put_file(registers, rest, ran.file);
+    u32::from(code)
 }
 
 // Restores the first file to the second by a plan: 12, 15, 13, 11, or 0 with the plan's records in the buffer and the file that they lead to.
@@ -343,30 +314,19 @@ pub extern "C" fn sedgecoil_restore_parts(
 ) -> u32
     ensures { RestoreTold registers.old rest.old wanted.now others.now buffer.old result count.new registers.new rest.new buffer.new }
 {
-    if !fits(rest) {
-        *count = 0;
+    *count = 0;
+    if !fit(rest, others) {
         return 12;
     }
-    if !fits(others) {
-        *count = 0;
-        return 12;
+    let restored = restore(held(*registers, *rest), held(*wanted, *others), buffer);
+    match restored.count {
+        Ok(made) => {
+            *count = made;
+            put_file(registers, rest, restored.file);
+            0
+        }
+        Err(answer) => u32::from(answer.code()),
     }
-    let words = *registers;
-    let bytes = *rest;
-    let words_wanted = *wanted;
-    let bytes_wanted = *others;
-    let restored = restore(held(words, bytes), held(words_wanted, bytes_wanted), buffer);
-    *count = restored.count;
-    let answer = restored.answer;
-    let code = answer.code();
-    if 2 <= code {
-        return code as u32;
-    }
-    let file = restored.file;
-    let words_after = file.registers;
-    *registers = words_after;
-    *rest = rest_of(file);
-    code as u32
 }
 
 // Notes in a set what an access may change, before it is made: 0, or 12 with the set as it was.
@@ -382,18 +342,13 @@ pub extern "C" fn sedgecoil_note_parts(
     if !fits(rest) {
         return 12;
     }
-    let words = *registers;
-    let bytes = *rest;
-    let named = *set;
-    let read = serving::record_in(asked).reach(held(words, bytes));
-    let answer = read.answer;
-    let code = answer.code();
-    if 2 <= code {
-        return code as u32;
+    match serving::record_in(asked).reach(held(*registers, *rest)) {
+        Err(refusal) => u32::from(refusal.code()),
+        Ok(reach) => {
+            *set = set_bytes(set_in(*set).note(reach));
+            0
+        }
     }
-    let reach = read.reach;
-    *set = set_bytes(set_in(named).note(reach));
-    code as u32
 }
 
 // A short plan from the first file to the second: 12, 15, 13, 20, 11, or 0 with so many records in the buffer.
@@ -409,29 +364,24 @@ pub extern "C" fn sedgecoil_short_plan_parts(
 ) -> u32
     ensures { ShortTold registers.now rest.now saved.now others.now set.now buffer.old result count.new buffer.new }
 {
-    if !fits(rest) {
-        *count = 0;
+    *count = 0;
+    if !fit(rest, others) {
         return 12;
     }
-    if !fits(others) {
-        *count = 0;
-        return 12;
+    let current = held(*registers, *rest);
+    let wanted = held(*saved, *others);
+    let touched = set_in(*set);
+    match short_plan(current, wanted, touched, buffer) {
+        Ok(made) => {
+            *count = made;
+            0
+        }
+        Err(answer) => u32::from(answer.code()),
     }
-    let words = *registers;
-    let bytes = *rest;
-    let words_saved = *saved;
-    let bytes_saved = *others;
-    let named = *set;
-    let current = held(words, bytes);
-    let wanted = held(words_saved, bytes_saved);
-    let touched = set_in(named);
-    let planned = short_plan(current, wanted, touched, buffer);
-    *count = planned.count;
-    let answer = planned.answer;
-    answer.code() as u32
 }
 
-// A restore by it; where it is done the set is empty.
+// A restore by it; where it is done the set is empty. It and `sedgecoil_restore_parts` are two names of the C interface, and the set and its refusals are of
+// this one alone; what they share is `fit` and `put_file`.
 #[unsafe(no_mangle)]
 pub extern "C" fn sedgecoil_short_restore_parts(
     registers: &mut [u16; REGISTERS],
@@ -444,33 +394,21 @@ pub extern "C" fn sedgecoil_short_restore_parts(
 ) -> u32
     ensures { ShortRestoreTold registers.old rest.old saved.now others.now set.old buffer.old result count.new registers.new rest.new set.new buffer.new }
 {
-    if !fits(rest) {
-        *count = 0;
+    *count = 0;
+    if !fit(rest, others) {
         return 12;
     }
-    if !fits(others) {
-        *count = 0;
-        return 12;
-    }
-    let words = *registers;
-    let bytes = *rest;
-    let words_saved = *saved;
-    let bytes_saved = *others;
-    let named = *set;
-    let current = held(words, bytes);
-    let wanted = held(words_saved, bytes_saved);
-    let touched = set_in(named);
+    let current = held(*registers, *rest);
+    let wanted = held(*saved, *others);
+    let touched = set_in(*set);
     let restored = short_restore(current, wanted, touched, buffer);
-    *count = restored.count;
-    let answer = restored.answer;
-    let code = answer.code();
-    if 2 <= code {
-        return code as u32;
+    match restored.count {
+        Ok(made) => {
+            *count = made;
+            put_file(registers, rest, restored.file);
+            *set = set_bytes(restored.touched);
+            0
+        }
+        Err(answer) => u32::from(answer.code()),
     }
-    let file = restored.file;
-    let words_after = file.registers;
-    *registers = words_after;
-    *rest = rest_of(file);
-    *set = set_bytes(restored.touched);
-    code as u32
 }

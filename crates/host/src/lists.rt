@@ -1,10 +1,11 @@
 // What a file says as a list of numbers, and a timing out of one.
 ghost use Rattle.std.specs.Prelude.{◌≡◌, ◌≤◌, ◌<◌, ◌^◌};
 ghost use Rattle.image.specs.Bytes.{flag_byte};
-ghost use Rattle.host.specs.Lists.{capture_numbers, clipped as clippedOf, cursor_numbers, reach_numbers, timing_clipped, window_numbers};
+ghost use Rattle.host.specs.Lists.{capture_numbers, clipped as clippedOf, cursor_numbers, reach_numbers, shown_by, timing_clipped, window_numbers};
 
-use file::Reach;
+use file::{Answer, Reach};
 use geometry::{Capture, Cursor, Window};
+use image::{REST, fits};
 use timing::{Clocks, Scanlines, Timing};
 
 // How many numbers each list has.
@@ -18,11 +19,32 @@ pub const CAPTURE: usize = 4;
 
 pub const REACH: usize = 9;
 
+// What a reader of a file leaves in a lent list: the numbers that it read, or with a refusal the list as it was. A rest that is no file's is refused with 12.
+pub fn leave_read<A: Copy, const N: usize>(
+    rest: &[u8; REST],
+    answer: Answer,
+    numbers: [A; N],
+    list: &mut [A; N],
+) -> u32
+    ensures { (result ≡ (shown_by rest.now answer numbers list.old).code) × (list.new ≡ (shown_by rest.now answer numbers list.old).numbers) }
+{
+    if !fits(rest) {
+        return 12;
+    }
+    let code = answer.code();
+    if 2 <= code {
+        return u32::from(code);
+    }
+    *list = numbers;
+    u32::from(code)
+}
+
 // A number in 16 bits: one that has more is in no range, and neither is what stands for it.
+#[tactic(auto, unfolding(crate::specs::Lists::clipped))]
 fn clipped(number: u32) -> u16
     ensures { result ≡ clippedOf number }
 {
-    if number < 65535 { number as u16 } else { 65535 }
+    number.min(65535) as u16
 }
 
 // The timing of fifteen numbers in 01's order.
@@ -52,20 +74,7 @@ pub fn timing_of(numbers: [u32; TIMING]) -> Timing
 fn number_of(flag: bool) -> u32
     ensures { (result ≡ flag_byte flag) × (result ≤ 1) }
 {
-    if flag { 1 } else { 0 }
-}
-
-// Numbers of 16 bits in 32.
-fn wide(number: u16) -> u32
-    ensures { (result ≡ number) × (result < 2 ^ 16) }
-{
-    number as u32
-}
-
-fn wide_signed(number: i16) -> i32
-    ensures { result ≡ number }
-{
-    number as i32
+    u32::from(flag)
 }
 
 // Enabled, left, top, width, height, address.
@@ -75,10 +84,10 @@ pub fn cursor_numbers(cursor: Cursor) -> [i32; CURSOR]
 {
     [
         number_of(cursor.enabled) as i32,
-        wide_signed(cursor.left.0),
-        wide_signed(cursor.top.0),
-        wide(cursor.width.0) as i32,
-        wide(cursor.height.0) as i32,
+        i32::from(cursor.left.0),
+        i32::from(cursor.top.0),
+        u32::from(cursor.width.0) as i32,
+        u32::from(cursor.height.0) as i32,
         cursor.address as i32,
     ]
 }
@@ -90,14 +99,14 @@ pub fn window_numbers(window: Window) -> [u32; WINDOW]
     [
         number_of(window.enabled),
         number_of(window.video),
-        wide(window.left.0),
-        wide(window.top.0),
-        wide(window.right.0),
-        wide(window.bottom.0),
+        u32::from(window.left.0),
+        u32::from(window.top.0),
+        u32::from(window.right.0),
+        u32::from(window.bottom.0),
         number_of(window.empty),
         number_of(window.fault),
-        wide(window.start.0),
-        wide(window.stop.0),
+        u32::from(window.start.0),
+        u32::from(window.stop.0),
     ]
 }
 
@@ -106,10 +115,10 @@ pub fn capture_numbers(capture: Capture) -> [u32; CAPTURE]
     ensures { result ≡ capture_numbers capture }
 {
     [
-        wide(capture.xstart.0),
-        wide(capture.xstop.0),
-        wide(capture.ystart.0),
-        wide(capture.ystop.0),
+        u32::from(capture.xstart.0),
+        u32::from(capture.xstop.0),
+        u32::from(capture.ystart.0),
+        u32::from(capture.ystop.0),
     ]
 }
 

@@ -5,7 +5,7 @@ ghost use Rattle.file.specs.declared.state.State.{State};
 ghost use Rattle.file.specs.File.{seen, bank_count};
 ghost use Rattle.file.specs.Palette.{component as componentOf};
 ghost use Rattle.file.specs.Sound.{all_within, sound};
-ghost use Rattle.file.specs.Registers.{register_count, stored_table};
+ghost use Rattle.file.specs.Registers.{stored_table};
 ghost use Rattle.places.specs.EngineCells.{nothing_held, plain_place};
 ghost use Rattle.places.specs.Profile.{profile};
 ghost use Rattle.access.specs.Access.{in_bank};
@@ -24,7 +24,7 @@ ghost use Rattle.host.specs.Quick.{limit_of, Known};
 use crate::finding::{UNKNOWN, behind, cell_of};
 use access::{Record, decide, is_in_bank};
 use file::{Chip, Colour, File, MISC, PCI04, REGISTERS, State, state_sound};
-use image::{fits, state_bytes, state_in};
+use image::{REST, fits, state_bytes, state_in};
 use quick::{
     CLASSES, SMALLS, code_in, colour_in, is_pixel, paints, paints_bank, read_place, smalls_of,
     state_in as small_state, told as said, value_in, write_place,
@@ -103,8 +103,7 @@ fn bank_place(state: State) -> usize
 }
 
 // The component of the next colour, of the entry that the pointer names.
-fn shown(registers: &[u16; REGISTERS], rest: &[u8], state: State) -> u16
-    requires { length rest.now ≡ rest_count }
+fn shown(registers: &[u16; REGISTERS], rest: &[u8; REST], state: State) -> u16
     ensures { result ≡ componentOf (cond (in_bank (seen registers.now state)) (colour_at rest.now (bank_at + 3 * (state.pointer.address % bank_count))) (colour_at rest.now (palette_at + 3 * state.pointer.address))) state.pointer.next }
 {
     let bank = is_in_bank(registers);
@@ -114,8 +113,7 @@ fn shown(registers: &[u16; REGISTERS], rest: &[u8], state: State) -> u16
 }
 
 // What the reply says was read.
-fn value_of(registers: &[u16; REGISTERS], rest: &[u8], state: State, served: Served) -> u16
-    requires { length rest.now ≡ rest_count }
+fn value_of(registers: &[u16; REGISTERS], rest: &[u8; REST], state: State, served: Served) -> u16
     ensures { result ≡ cond served.pixel (componentOf (cond (in_bank (seen registers.now state)) (colour_at rest.now (bank_at + 3 * (state.pointer.address % bank_count))) (colour_at rest.now (palette_at + 3 * state.pointer.address))) state.pointer.next) served.value }
 {
     if served.pixel {
@@ -125,21 +123,10 @@ fn value_of(registers: &[u16; REGISTERS], rest: &[u8], state: State, served: Ser
 }
 
 // The state's ten bytes.
-fn put_state(rest: &mut [u8], state: State)
-    requires { length rest.old ≡ rest_count }
+fn put_state(rest: &mut [u8; REST], state: State)
     ensures { rest.new ≡ sets rest.old 0 (state_bytes state) }
 {
-    let bytes = state_bytes(state);
-    rest[0] = bytes[0];
-    rest[1] = bytes[1];
-    rest[2] = bytes[2];
-    rest[3] = bytes[3];
-    rest[4] = bytes[4];
-    rest[5] = bytes[5];
-    rest[6] = bytes[6];
-    rest[7] = bytes[7];
-    rest[8] = bytes[8];
-    rest[9] = bytes[9];
+    rest[..10].copy_from_slice(&state_bytes(state));
 }
 
 // The entry that is painted, where the pointer stood.
@@ -153,8 +140,7 @@ fn painted_place(stood: State, bank: bool) -> usize
 }
 
 // What a served access leaves in the rest.
-fn leave(rest: &mut [u8], stood: State, served: Served)
-    requires { length rest.old ≡ rest_count }
+fn leave(rest: &mut [u8; REST], stood: State, served: Served)
     ensures { rest.new ≡ rest_left stood served rest.old }
 {
     if !served.paints {
@@ -309,8 +295,7 @@ fn serve_known(
 }
 
 // The reply to what was served, and what it leaves in the rest.
-fn finish(registers: &[u16; REGISTERS], rest: &mut [u8], state: State, served: Served) -> u32
-    requires { length rest.old ≡ rest_count }
+fn finish(registers: &[u16; REGISTERS], rest: &mut [u8; REST], state: State, served: Served) -> u32
     ensures value { result ≡ told_of served.code (cond served.pixel (componentOf (cond (in_bank (seen registers.now state)) (colour_at rest.old (bank_at + 3 * (state.pointer.address % bank_count))) (colour_at rest.old (palette_at + 3 * state.pointer.address))) state.pointer.next) served.value) }
     ensures rest_after { rest.new ≡ rest_left state served rest.old }
 {
@@ -320,23 +305,19 @@ fn finish(registers: &[u16; REGISTERS], rest: &mut [u8], state: State, served: S
 }
 
 // No bit outside the table of a chip is set: the registers are tested where they stand.
-fn are_stored(registers: &[u16], chip: Chip) -> bool
-    requires { length registers.now ≡ register_count }
+fn are_stored(registers: &[u16; REGISTERS], chip: Chip) -> bool
     ensures { result ≡ all_within (stored_table chip) registers.now }
 {
-    let stored = File::stored(chip);
+    let table = File::stored(chip);
     let mut stray: u16 = 0;
-    let mut i = 0;
-    while i < REGISTERS {
-        stray = stray | bits::stray(stored[i], registers[i]);
-        i += 1;
+    for (stored, value) in table.iter().zip(registers) {
+        stray |= bits::stray(*stored, *value);
     }
     stray == 0
 }
 
 // One access to registers and a rest; of an unsound file 12, with all as it was.
-pub fn access_in(registers: &mut [u16; REGISTERS], rest: &mut [u8], asked: u64) -> u32
-    requires { length rest.old ≡ rest_count }
+pub fn access_in(registers: &mut [u16; REGISTERS], rest: &mut [u8; REST], asked: u64) -> u32
     ensures { AccessLeft (record_in asked) registers.old rest.old registers.new rest.new result }
 {
     if !fits(rest) {

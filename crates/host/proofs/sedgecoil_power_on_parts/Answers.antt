@@ -14,4 +14,4 @@ pub returns : goal.returns
 unfolding powered_on leaving
 returns c =
     let e = le-leb c.args.chip 1 c.if-chip-gt1.false in
-    let f = c.powered-file.ensures in (rw e, rw e (ap (λ (x : File). x.registers) f), rw e (c.rest_of.ensures ∙ ap rest_of f))
+    let f = c.powered.ensures in (rw e, rw e (c.put_file.ensures.0 ∙ ap (λ (x : File). x.registers) f), rw e (c.put_file.ensures.1 ∙ ap rest_of f))

@@ -1,7 +1,7 @@
 -- `behind` meets its contract. Assumes nothing.
 use mathlib.Core.Path.{refl}
 use native.Mathlib.Omega.{arith}
-use borrow.Author.Tests.{lt-ltb, le-ltb, eq-eqb, ne_eqb}
+use borrow.Author.Tests.{lt-ltb, le-ltb, ne_eqb}
 use Rattle.places.specs.EngineCells.{behind_cell, cell_table}
 use Rattle.host.proofs.Found.{picked, beyond-crx, beyond-grx}
 use Rattle.host.proofs.finding.behind.Goals as goal
@@ -10,30 +10,38 @@ pub returns-then-cell-lt120 : goal.returns-then-cell-lt120
 unfolding behind_cell
 returns-then-cell-lt120 c = rw (lt-ltb _ _ c.if-cell-lt120.true)
 
-pub returns-then-cell-eq121 : goal.returns-then-cell-eq121
+pub returns-in-120 : goal.returns-in-120
 unfolding behind_cell
-returns-then-cell-eq121 c =
+returns-in-120 c =
     let cells = c.cells-cells in
-    rw (le-ltb _ _ c.if-cell-lt120.false, eq-eqb _ _ c.if-cell-eq121.true)
-    (picked (cell_table c.args.chip) cells.result cells.ensures 128 168 c.number.result _ c.pick.result c.number.ensures (λ h. beyond-crx c.args.chip _ (omega (arith, h)) (omega arith)) (c.pick.ensures.1 refl (omega arith)))
+    let number = c.from in
+    let pick = c.pick in
+    rw c.in-120.is
+    (picked (cell_table c.args.chip) cells.result cells.ensures 96 128 number.result _ pick.result number.ensures (λ h. absurd (let never : ⊥ = omega (arith, h) in never)) (pick.ensures.1 refl (omega arith)))
 
-pub returns-then-cell-eq120 : goal.returns-then-cell-eq120
+pub returns-in-121 : goal.returns-in-121
 unfolding behind_cell
-returns-then-cell-eq120 c =
+returns-in-121 c =
     let cells = c.cells-cells in
-    rw (le-ltb _ _ c.if-cell-lt120.false, ne_eqb _ _ c.if-cell-eq121.false, eq-eqb _ _ c.if-cell-eq120.true)
-    (picked (cell_table c.args.chip) cells.result cells.ensures 96 128 c.number-then-cell-eq120.result _ c.pick-then-cell-eq120.result c.number-then-cell-eq120.ensures (λ h. absurd (let never : ⊥ = omega (arith, h) in never)) (c.pick-then-cell-eq120.ensures.1 refl (omega arith)))
+    let number = c.from-in-121 in
+    let pick = c.pick-in-121 in
+    rw c.in-121.is
+    (picked (cell_table c.args.chip) cells.result cells.ensures 128 168 number.result _ pick.result number.ensures (λ h. beyond-crx c.args.chip _ (omega (arith, h)) (omega arith)) (pick.ensures.1 refl (omega arith)))
 
-pub returns-then-cell-eq122 : goal.returns-then-cell-eq122
+pub returns-in-122 : goal.returns-in-122
 unfolding behind_cell
-returns-then-cell-eq122 c =
+returns-in-122 c =
     let cells = c.cells-cells in
-    rw (le-ltb _ _ c.if-cell-lt120.false, ne_eqb _ _ c.if-cell-eq121.false, ne_eqb _ _ c.if-cell-eq120.false, eq-eqb _ _ c.if-cell-eq122.true)
-    (picked (cell_table c.args.chip) cells.result cells.ensures 192 208 c.number-then-cell-eq122.result _ c.pick-then-cell-eq122.result c.number-then-cell-eq122.ensures (λ h. beyond-grx c.args.chip _ (omega (arith, h)) (omega arith)) (c.pick-then-cell-eq122.ensures.1 refl (omega arith)))
+    let number = c.from-in-122 in
+    let pick = c.pick-in-122 in
+    rw c.in-122.is
+    (picked (cell_table c.args.chip) cells.result cells.ensures 192 208 number.result _ pick.result number.ensures (λ h. beyond-grx c.args.chip _ (omega (arith, h)) (omega arith)) (pick.ensures.1 refl (omega arith)))
 
-pub returns : goal.returns
+pub returns-in_default : goal.returns-in_default
 unfolding behind_cell
-returns c =
+returns-in_default c =
     let cells = c.cells-cells in
-    rw (le-ltb _ _ c.if-cell-lt120.false, ne_eqb _ _ c.if-cell-eq121.false, ne_eqb _ _ c.if-cell-eq120.false, ne_eqb _ _ c.if-cell-eq122.false)
-    (picked (cell_table c.args.chip) cells.result cells.ensures 256 288 c.number-2.result _ c.pick-2.result c.number-2.ensures (λ h. absurd (let never : ⊥ = omega (arith, h) in never)) (c.pick-2.ensures.1 refl (omega arith)))
+    let number = c.from-in_default in
+    let pick = c.pick-in_default in
+    rw (le-ltb _ _ c.if-cell-lt120.false, ne_eqb c.args.cell 121 (λ e. omega arith), ne_eqb c.args.cell 120 (λ e. omega arith), ne_eqb c.args.cell 122 (λ e. omega arith))
+    (picked (cell_table c.args.chip) cells.result cells.ensures 256 288 number.result _ pick.result number.ensures (λ h. absurd (let never : ⊥ = omega (arith, h) in never)) (pick.ensures.1 refl (omega arith)))

@@ -5,4 +5,4 @@ use Rattle.host.proofs.lists.capture_numbers.Goals as goal
 
 pub returns : goal.returns
 unfolding capture_numbers
-returns c = λ i. c.wide.ensures.0 i ∷ c.wide-2.ensures.0 i ∷ c.wide-3.ensures.0 i ∷ c.wide-4.ensures.0 i ∷ []
+returns c = λ i. c.from.ensures i ∷ c.from-2.ensures i ∷ c.from-3.ensures i ∷ c.from-4.ensures i ∷ []

@@ -5,7 +5,7 @@ use mathlib.Core.List.{[], ◌∷◌}
 use native.Mathlib.Omega.{arith}
 use lib.IntN.{pos}
 use mir.Syntax.{w16, w32}
-use mir.Val.{SFits, to_z}
+use mir.Val.{Fits, SFits, to_z}
 use mir.ValLaws.{to_z-of_z, to_z_pos}
 use Rattle.host.specs.Lists.{cursor_numbers}
 use borrow.Author.Rules.{rules}
@@ -20,15 +20,21 @@ left-fits c = search rules
 top-fits : (c : goal.After-struct_known-1) → SFits w16 c.args.cursor.top.0
 top-fits c = search rules
 
+width-fits : (c : goal.After-struct_known-1) → Fits w16 c.args.cursor.width.0
+width-fits c = search rules
+
+height-fits : (c : goal.After-struct_known-1) → Fits w16 c.args.cursor.height.0
+height-fits c = search rules
+
 pub returns : goal.returns
 unfolding cursor_numbers
 returns c =
-    let left = c.wide_signed in
-    let top = c.wide_signed-2 in
+    let left = c.from in
+    let top = c.from-2 in
     λ i. small _ _ c.number_of.ensures.0 (omega (arith, c.number_of.ensures.1)) i
     ∷ (to_z-of_z w32 left.result (record { sfits = left.type_inv }) ∙ left.ensures ∙ to_z-of_z w16 _ (left-fits c)) i
     ∷ (to_z-of_z w32 top.result (record { sfits = top.type_inv }) ∙ top.ensures ∙ to_z-of_z w16 _ (top-fits c)) i
-    ∷ small _ _ c.wide.ensures.0 (omega (arith, c.wide.ensures.1)) i
-    ∷ small _ _ c.wide-2.ensures.0 (omega (arith, c.wide-2.ensures.1)) i
+    ∷ small _ _ c.from-3.ensures (omega (arith, c.from-3.ensures, (width-fits c).fits)) i
+    ∷ small _ _ c.from-4.ensures (omega (arith, c.from-4.ensures, (height-fits c).fits)) i
     ∷ to_z_pos w32 _ c.requires i
     ∷ []

@@ -1,16 +1,11 @@
--- `are_stored` meets its contract. Invariant: the stray bits so far and the registers from i on decide. Assumes nothing.
-use Prim.Native.Nat.{◌-◌, ◌≤◌}
-use mathlib.Core.Path.{◌≡◌}
-use mathlib.Core.Bool.{◌&&◌}
+-- `are_stored` meets its contract. Invariant: the stray bits so far and the registers that are left decide. Assumes nothing.
+use Rattle.std.proofs.Common.{◌≡◌, ◌&&◌, length}
 use lib.Dec.{eqb}
-use lib.ListN.{drop}
-use Rattle.file.specs.Registers.{register_count}
+use Rattle.file.specs.Registers.{stored_table}
 use Rattle.file.specs.Sound.{all_within}
 use Rattle.host.proofs.serving.are_stored.Given as goal
 
-abbrev pub invariant-loop-i : goal.invariant-loop-i
-invariant-loop-i l =
-    (l.i ≤ register_count) × ((eqb l.stray 0 && all_within (drop l.i l.stored) (drop l.i l.registers)) ≡ all_within l.stored l.registers)
-
-abbrev pub decreases-loop-i : goal.decreases-loop-i
-decreases-loop-i l = register_count - l.i
+abbrev pub invariant-loop-stored : goal.invariant-loop-stored
+invariant-loop-stored l =
+    ((eqb l.stray 0 && all_within l.stored-iterator.a.rest.now l.stored-iterator.b.rest.now) ≡ all_within (stored_table l.fn.chip) l.fn.registers)
+    × (length l.stored-iterator.a.rest.now ≡ length l.stored-iterator.b.rest.now)
