@@ -1,13 +1,11 @@
 -- What is put is safe: every byte of it is 20h to 7Eh. Assumes nothing.
-use Prim.Native.Nat.{ℕ, ◌+◌, ◌/◌, ◌%◌, ◌≤◌, ◌<◌}
-use mathlib.Core.Bool.{Bool, true, false, not, ◌&&◌}
+use Prim.Native.Nat.{ℕ}
+use mathlib.Core.Bool.{Bool, true, ◌&&◌}
 use mathlib.Core.List.{List, [], ◌∷◌, ◌++◌}
-use mathlib.Core.Path.{◌≡◌, refl, sym, ap, ◌∙◌}
-use native.Mathlib.Omega.{arith}
 use borrow.Author.Tests.{ltb-true}
-use lib.Dec.{T, eqb, leb, ltb}
+use lib.Dec.{T, leb, ltb}
 use Rattle.bits.specs.Every.{every_below}
-use Rattle.bits.proofs.Test.{below, both, by-test, is_true, left, passes, right}
+use Rattle.bits.proofs.Test.{below, both, is_true, left, right}
 use Rattle.text.specs.Text.{capital}
 use Rattle.escaping.specs.Escaped.{escape, escaped_byte, escaped_text, is_plain}
 

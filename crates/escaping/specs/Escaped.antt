@@ -1,7 +1,7 @@
 -- Bytes of any kind as text that is safe on a terminal: 20h to 7Eh stand as they are, but neither a backslash nor a quote, which escapes and ends
 -- such a text; every other byte is \x and two hex digits, capitals.
 -- Assumes nothing.
-use Rattle.std.specs.Prelude.{ℕ, ◌/◌, ◌%◌, Bool, cond, not, ◌&&◌, List, [], ◌∷◌, ◌++◌, ◌≡◌, eqb, leb, ltb}
+use Rattle.std.specs.Prelude.{ℕ, ◌/◌, ◌%◌, Bool, cond, not, ◌&&◌, List, [], ◌∷◌, ◌++◌, eqb, ltb}
 use Rattle.text.specs.declared.placed.Placed.{Placed}
 use Rattle.text.specs.Lent.{Lined, room_answer}
 use Rattle.text.specs.Text.{capital}

@@ -33,14 +33,17 @@ next-counted count counts bytes n h =
     (ap₂ (λ (code : ℕ) (l : List ℕ). codes_counted (count - (n + 1)) (counted_at counts code) l) (sym here) (sym (drop-drop 8 (8 * n) bytes)))
 
 -- two replies
-pub next-two : (count : ℕ) (counts bytes : List ℕ) (n : ℕ) → n + 1 < count
-    → codes_counted (count - (n + 2)) (counted_at (counted_at counts (get_or bytes (8 * n) 0)) (get_or bytes (8 * n + 8) 0)) (drop (8 * (n + 2)) bytes)
-    ≡ codes_counted (count - n) counts (drop (8 * n) bytes)
+pub next-two : (count : ℕ) (counts bytes : List ℕ) (n : ℕ) → 2 * n + 1 < count
+    → codes_counted (count - 2 * (n + 1)) (counted_at (counted_at counts (get_or bytes (16 * n) 0)) (get_or bytes (16 * n + 8) 0)) (drop (16 * (n + 1)) bytes)
+    ≡ codes_counted (count - 2 * n) counts (drop (16 * n) bytes)
 next-two count counts bytes n h =
-    let up : n + 2 ≡ n + 1 + 1 = omega arith in
-    let on : 8 * n + 8 ≡ 8 * (n + 1) = omega arith in
-    rw (up, on)
-    (next-counted count (counted_at counts (get_or bytes (8 * n) 0)) bytes (n + 1) (omega arith) ∙ next-counted count counts bytes n (omega arith))
+    let up : 2 * (n + 1) ≡ 2 * n + 1 + 1 = omega arith in
+    let behind : 16 * (n + 1) ≡ 8 * (2 * n + 1 + 1) = omega arith in
+    let second : 16 * n + 8 ≡ 8 * (2 * n + 1) = omega arith in
+    let first : 16 * n ≡ 8 * (2 * n) = omega arith in
+    rw (behind, up, second, first)
+    (next-counted count (counted_at counts (get_or bytes (8 * (2 * n)) 0)) bytes (2 * n + 1) (omega arith)
+    ∙ next-counted count counts bytes (2 * n) (omega arith))
 
 -- none is left at the end
 pub all-counted : (count : ℕ) (counts bytes : List ℕ) (n : ℕ) → count ≤ n → codes_counted (count - n) counts bytes ≡ counts

@@ -1,40 +1,30 @@
 // Counting answers by their codes.
 ghost use Rattle.std.specs.Prelude.{◌≡◌};
-ghost use Rattle.refusals.specs.Counted.{counted_at, counting_of, more as moreOf, none_counted, replies_counted};
+ghost use Rattle.refusals.specs.Counted.{counted_at, counting_of, none_counted, replies_counted};
 
-// How many answers had each code, from code 0 to code 22.
+// The codes from 0 to 22.
+const CODES: usize = 23;
+
+// How many answers had each code.
 #[derive(Clone, Copy)]
 pub struct Refusals {
-    pub counts: [u64; 23],
+    pub counts: [u64; CODES],
 }
 
 // Counts nothing yet.
 pub fn none() -> Refusals
     ensures { result ≡ none_counted }
 {
-    Refusals { counts: [0; 23] }
+    Refusals { counts: [0; CODES] }
 }
 
-// Adds one to a count; the largest count stays.
-fn more(n: u64) -> u64
-    ensures { result ≡ moreOf n }
-{
-    if n < u64::MAX { n + 1 } else { n }
-}
-
-fn wide(code: u8) -> usize
-    ensures { result ≡ code }
-{
-    code as usize
-}
-
-// Counts `code` once in `counts`; a code above 22 counts nothing.
-fn count_one(counts: &mut [u64; 23], code: u8)
+// Counts `code` once in `counts`, up to the largest count; a code above 22 counts nothing.
+fn count_one(counts: &mut [u64; CODES], code: u8)
     ensures { counts.new ≡ counted_at counts.old code }
 {
-    let place = wide(code);
-    if place < 23 {
-        counts[place] = more(counts[place]);
+    let place = usize::from(code);
+    if place < CODES {
+        counts[place] = counts[place].saturating_add(1);
     }
 }
 
@@ -53,14 +43,12 @@ pub fn counting_replies(before: Refusals, replies: &[u8]) -> Refusals
 {
     let mut counts = before.counts;
     let count = replies.len() / 8;
-    let mut n: usize = 0;
-    while n + 1 < count {
-        count_one(&mut counts, replies[8 * n]);
-        count_one(&mut counts, replies[8 * n + 8]);
-        n += 2;
+    for n in 0..count / 2 {
+        count_one(&mut counts, replies[16 * n]);
+        count_one(&mut counts, replies[16 * n + 8]);
     }
-    if n < count {
-        count_one(&mut counts, replies[8 * n]);
+    if count % 2 == 1 {
+        count_one(&mut counts, replies[8 * (count - 1)]);
     }
     Refusals { counts }
 }

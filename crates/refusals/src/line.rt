@@ -1,31 +1,22 @@
 // The line that is said of the records that were refused.
 ghost use Rattle.std.specs.Prelude.{◌≡◌, ◌≤◌, length};
 ghost use Rattle.text.specs.Lent.{Wrote};
-ghost use Rattle.refusals.specs.Said.{RefusedLined, refused_sum as refusedSumOf, refused_text, summed_up};
+ghost use Rattle.refusals.specs.Said.{RefusedLined, refused_sum as refusedSumOf, refused_text};
 
 use crate::codes::Refusals;
-use crate::put::{put, put_codes, put_head};
-use text::{Placed, plain_text};
+use crate::put::{put_codes, put_head};
+use text::{Placed, plain_text, put};
 
 // The most bytes that the line has.
 pub const REFUSED_MOST: usize = 830;
 
-// Adds two counts; a sum beyond 64 bits is the largest count.
-fn summed_up(a: u64, b: u64) -> u64
-    ensures { result ≡ summed_up a b }
-{
-    if b <= u64::MAX - a { a + b } else { u64::MAX }
-}
-
-// Counts the refused records: those with a code from 2 up.
+// Counts the refused records: those with a code from 2 up; a sum beyond 64 bits is the largest count.
 fn refused_sum(counts: &[u64]) -> u64
     ensures { result ≡ refusedSumOf counts.now }
 {
     let mut sum: u64 = 0;
-    let mut code: usize = 2;
-    while code < counts.len() {
-        sum = summed_up(sum, counts[code]);
-        code += 1;
+    for code in 2..counts.len() {
+        sum = sum.saturating_add(counts[code]);
     }
     sum
 }

@@ -1,37 +1,9 @@
 // Texts stored into a buffer that has room for them.
-ghost use Rattle.std.specs.Prelude.{true, ◌&&◌, ◌++◌, ◌≡◌, ◌+◌, ◌≤◌, eqb, drop, length};
+ghost use Rattle.std.specs.Prelude.{true, ◌+◌, ◌≤◌, drop, length};
 ghost use Rattle.text.specs.Lent.{Wrote};
-ghost use Rattle.text.specs.Text.{decimal};
 ghost use Rattle.refusals.specs.Said.{code_told, codes_text, head_text, start_text, times_text};
 
-use text::plain_text;
-
-// Stores `text` from the place `at` on; the place after it comes back.
-pub fn put(text: &[u8], buffer: &mut [u8], at: usize) -> usize
-    requires { at + length text.now ≤ length buffer.old }
-    ensures { Wrote buffer.old at text.now buffer.new result }
-{
-    plain_text(buffer, at, text).end
-}
-
-// Stores the number `n` in decimal.
-fn put_number(n: u64, buffer: &mut [u8], at: usize) -> usize
-    requires { at + length (decimal n) ≤ length buffer.old }
-    ensures { Wrote buffer.old at (decimal n) buffer.new result }
-{
-    let mut digits = [0u8; 20];
-    let count = io::decimal(n, &mut digits);
-    put(&digits[..count], buffer, at)
-}
-
-// Stores `word` and the number `n` after it.
-fn put_behind(word: &[u8], n: u64, buffer: &mut [u8], at: usize) -> usize
-    requires { at + length (word.now ++ decimal n) ≤ length buffer.old }
-    ensures { Wrote buffer.old at (word.now ++ decimal n) buffer.new result }
-{
-    let at = put(word, buffer, at);
-    put_number(n, buffer, at)
-}
+use text::{put, put_behind};
 
 // Stores what the line says before its codes: how many of how many records were refused.
 pub fn put_head(sum: u64, number: u64, buffer: &mut [u8], at: usize) -> usize
@@ -78,16 +50,6 @@ fn put_code(first: bool, code: u64, times: u64, buffer: &mut [u8], at: usize) ->
     put_times(times, buffer, at)
 }
 
-// Tells whether the next code is the first of the line: this one was to be it, and it never came.
-fn still_first(first: bool, times: u64) -> bool
-    ensures { result ≡ (first && eqb times 0) }
-{
-    if first {
-        return times == 0;
-    }
-    false
-}
-
 // Stores each code from 2 up that has a count in `counts`, in order, with its count.
 pub fn put_codes(counts: &[u64], buffer: &mut [u8], at: usize) -> usize
     requires { at + length (codes_text true 2 (drop 2 counts.now)) ≤ length buffer.old }
@@ -95,12 +57,10 @@ pub fn put_codes(counts: &[u64], buffer: &mut [u8], at: usize) -> usize
 {
     let mut at = at;
     let mut first = true;
-    let mut code: usize = 2;
-    while code < counts.len() {
+    for code in 2..counts.len() {
         let times = counts[code];
         at = put_code(first, code as u64, times, buffer, at);
-        first = still_first(first, times);
-        code += 1;
+        first &= times == 0;
     }
     at
 }

@@ -2,6 +2,7 @@ pub mod Tests
 pub mod Standing
 pub mod Places
 pub mod Stores
+pub mod Behind
 pub mod Spelled
 pub mod Capitals
 pub mod Counted

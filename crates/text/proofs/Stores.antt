@@ -2,14 +2,15 @@
 use Prim.Native.Nat.{ℕ, suc, ◌+◌, ◌≤◌, ◌<◌}
 use mathlib.Core.Path.{◌≡◌, refl, sym, ap, ◌∙◌}
 use mathlib.Core.Bool.{Bool, true, false}
-use mathlib.Core.List.{List, [], ◌∷◌, ◌++◌}
+use mathlib.Core.List.{List, [], ◌∷◌, ◌++◌, append_assoc}
 use native.Mathlib.Nat.{add-zero, add-suc, suc-add, add_assoc}
-use native.Mathlib.Omega.{arith}
 use native.Mathlib.Numerals.{add-one}
-use lib.ListN.{length, set, drop, get_or, length-append}
+use native.Mathlib.Omega.{arith}
+use lib.ListN.{length, set, take, drop, get_or, length-append}
 use borrow.Author.Tests.{le-leb, leb-true}
 use lib.Dec.{leb}
-use lib.Seq.{sets, sets-eq, set_comm, drop-cons}
+use lib.Seq.{sets, sets-eq, set_comm, drop-cons, drop-drop}
+use borrow.Rule.Slice.PartMut.{put_mid}
 use Rattle.file.specs.declared.answer.Answer.{Answer}
 use Rattle.file.specs.declared.answer.Answer.TheVariants.{Done, ShortBuffer}
 use Rattle.file.specs.Answers.{code_of, refused}
@@ -85,6 +86,17 @@ had-room {buffer} {at} {text} h l = wrote buffer at text (rw (le-leb (at + lengt
 pub rest-stored : {before : List ℕ} {at : ℕ} {a after : List ℕ} {p : ℕ} (rest : List ℕ)
     → Wrote before at a after p → sets after p rest ≡ sets before at (a ++ rest)
 rest-stored {before} {at} {a} rest w = cc (w.bytes, w.place, sets-append before at a rest)
+
+-- a text that was copied
+pub copy-wrote : (buffer text : List ℕ) (at : ℕ) → at + length text ≤ length buffer → (mid : List ℕ) (n : ℕ) → n ≡ length text → mid ≡ text
+    → Wrote buffer at text (put_mid at n buffer mid) (at + length text)
+copy-wrote buffer text at room mid n e same =
+    record {
+      bytes =
+          rw (e, same, drop-drop (length text) at buffer)
+          (sym (append_assoc (take at buffer) text (drop (at + length text) buffer)) ∙ sym (sets-eq text buffer at room));
+      place = refl;
+    }
 
 -- a byte of a text, copied
 pub copy-byte : (l : List ℕ) (at i : ℕ) (text : List ℕ) → i < length text

@@ -1,3 +1,4 @@
 pub mod Lent
+pub mod Fixed
 pub mod Text
 pub mod Counted

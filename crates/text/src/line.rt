@@ -6,8 +6,8 @@ ghost use Rattle.text.specs.Lent.{Lined, Wrote, room_answer};
 ghost use Rattle.text.specs.Text.{all_lines, decimal, decimal_places, hex_four, line_of, lines_answer, newline, numbers_fit, reply_lines, space};
 
 use crate::number::{byte, hex, places, spell};
-use crate::numbers::copy;
 use crate::placed::{Placed, has_room};
+use crate::putting::{store, store_number};
 use file::Answer;
 use trace::two;
 
@@ -16,15 +16,9 @@ pub fn record_line(buffer: &mut [u8], at: usize, number: u64, code: u8, value: u
     ensures { Lined (room_answer buffer.old at (line_of number code value)) at (line_of number code value) buffer.old buffer.new result }
 {
     if has_room(buffer.len(), at, line_size(number, code)) {
-        return Placed {
-            answer: Answer::Done(0),
-            end: line(number, code, value, buffer, at),
-        };
+        return Placed::stored(line(number, code, value, buffer, at));
     }
-    Placed {
-        answer: Answer::ShortBuffer,
-        end: at,
-    }
+    Placed::no_room(at)
 }
 
 // The lines of the whole 8-byte replies, numbered from a number on, from a place of the buffer on; code 10 where a number has more than 64
@@ -40,15 +34,9 @@ pub fn reply_lines(buffer: &mut [u8], at: usize, number: u64, replies: &[u8]) ->
         };
     }
     if lines_fit(number, count, replies, buffer.len(), at) {
-        return Placed {
-            answer: Answer::Done(0),
-            end: lines(number, count, replies, buffer, at),
-        };
+        return Placed::stored(lines(number, count, replies, buffer, at));
     }
-    Placed {
-        answer: Answer::ShortBuffer,
-        end: at,
-    }
+    Placed::no_room(at)
 }
 
 // So many lines have numbers of 64 bits, from a number on.
@@ -83,14 +71,12 @@ fn counted_fit(number: u64, count: usize, replies: &[u8], room: usize) -> bool
     ensures { result ≡ leb (length (reply_lines count number replies.now)) room }
 {
     let mut left = room;
-    let mut n: usize = 0;
-    while n < count {
+    for n in 0..count {
         let size = line_size(number + n as u64, replies[8 * n]);
         if left < size {
             return false;
         }
         left -= size;
-        n += 1;
     }
     true
 }
@@ -99,7 +85,7 @@ fn counted_fit(number: u64, count: usize, replies: &[u8], room: usize) -> bool
 fn line_size(number: u64, code: u8) -> usize
     ensures { (value : ℕ) → result ≡ length (line_of number code value) }
 {
-    places(number) + places(code as u64) + 7
+    places(number) + places(u64::from(code)) + 7
 }
 
 // The lines of so many replies, from a place of a buffer that has room for them on; the place behind them. The number is counted up in its
@@ -113,11 +99,9 @@ fn lines(number: u64, count: usize, replies: &[u8], buffer: &mut [u8], at: usize
     let mut figures = [b'9'; 20];
     let mut size: usize = 1;
     let mut at = at;
-    let mut n: usize = 0;
-    while n < count {
+    for n in 0..count {
         size = count_up(number + n as u64, &mut figures, size);
         at = reply_line(&figures[..size], replies, 8 * n, buffer, at);
-        n += 1;
     }
     at
 }
@@ -146,7 +130,7 @@ fn reply_line(figures: &[u8], replies: &[u8], from: usize, buffer: &mut [u8], at
     ensures { (number : ℕ) → figures.now ≡ decimal number → Wrote buffer.old at (line_of number (get_or replies.now from 0) (twoIn replies.now (from + 4))) buffer.new result }
 {
     let value = two(replies[from + 4], replies[from + 5]);
-    let at = copy(figures, buffer, at);
+    let at = store(figures, buffer, at);
     behind_number(replies[from], value, buffer, at)
 }
 
@@ -155,7 +139,7 @@ fn line(number: u64, code: u8, value: u16, buffer: &mut [u8], at: usize) -> usiz
     requires { at + length (line_of number code value) ≤ length buffer.old }
     ensures { Wrote buffer.old at (line_of number code value) buffer.new result }
 {
-    let at = spell(number, places(number), buffer, at);
+    let at = store_number(number, buffer, at);
     behind_number(code, value, buffer, at)
 }
 
@@ -164,9 +148,8 @@ fn behind_number(code: u8, value: u16, buffer: &mut [u8], at: usize) -> usize
     requires { at + decimal_places code code + 7 ≤ length buffer.old }
     ensures { Wrote buffer.old at (space ++ decimal code ++ space ++ hex_four value ++ newline) buffer.new result }
 {
-    let code = code as u64;
     let at = byte(b' ', buffer, at);
-    let at = spell(code, places(code), buffer, at);
+    let at = store_number(u64::from(code), buffer, at);
     let at = byte(b' ', buffer, at);
     let at = hex(value, buffer, at);
     byte(b'\n', buffer, at)

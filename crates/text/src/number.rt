@@ -1,8 +1,8 @@
 // Numbers as text, stored into a buffer that has room for them.
-ghost use Rattle.std.specs.Prelude.{[], ◌∷◌, ◌≡◌, ◌+◌, ◌≤◌, ◌<◌, length};
+ghost use Rattle.std.specs.Prelude.{[], ◌∷◌, ◌≡◌, ◌+◌, ◌%◌, ◌≤◌, ◌<◌, length};
 ghost use Rattle.io.specs.Digits.{last_digits};
 ghost use Rattle.text.specs.Lent.{Wrote};
-ghost use Rattle.text.specs.Text.{decimal_places, hex_four};
+ghost use Rattle.text.specs.Text.{capital as capitalOf, decimal_places, hex_four};
 
 // A byte at a place; the place behind it.
 pub fn byte(b: u8, buffer: &mut [u8], at: usize) -> usize
@@ -38,7 +38,7 @@ pub fn places(n: u64) -> usize
     many_places(n)
 }
 
-// The same, counted.
+// The same, counted: by the tenths that are left, so there is no index to go over.
 fn many_places(n: u64) -> usize
     ensures { (result ≡ decimal_places n n) × (result ≤ 20) }
 {
@@ -51,7 +51,8 @@ fn many_places(n: u64) -> usize
     count
 }
 
-// The last digits of a number, so many of them, from a place on; the place behind them. Two at a time, from the back.
+// The last digits of a number, so many of them, from a place on; the place behind them. Two at a time, from the back. By hand, since
+// `io::decimal` writes to the start of an array of its own and leaves open what stands behind the digits.
 pub fn spell(n: u64, count: usize, buffer: &mut [u8], at: usize) -> usize
     requires { at + count ≤ length buffer.old }
     ensures { Wrote buffer.old at (last_digits 10 count n) buffer.new result }
@@ -74,6 +75,13 @@ pub fn spell(n: u64, count: usize, buffer: &mut [u8], at: usize) -> usize
 
 // The hex digits.
 const CAPITALS: [u8; 16] = *b"0123456789ABCDEF";
+
+// Gives the last hex digit of `d`, a capital.
+pub fn capital(d: u8) -> u8
+    ensures { result ≡ capitalOf (d % 16) }
+{
+    CAPITALS[usize::from(d % 16)]
+}
 
 // Four hex digits from a place on; the place behind them.
 pub fn hex(n: u16, buffer: &mut [u8], at: usize) -> usize

@@ -1,6 +1,5 @@
 -- `byte_size` meets its contract. Assumes nothing.
 use mathlib.Core.Path.{sym, ◌∙◌}
-use borrow.Author.Rules.{rules}
 use Rattle.escaping.proofs.Sizes.{plain_size, escape-size}
 use Rattle.escaping.proofs.byte_size.Goals as goal
 

@@ -7,7 +7,6 @@ use Rattle.refusals.proofs.codes.counting_replies.Given as goal
 
 abbrev pub invariant-loop-n : goal.invariant-loop-n
 invariant-loop-n l =
-    (codes_counted (l.count - l.n) l.counts (drop (8 * l.n) l.replies) ≡ codes_counted l.count l.initial.counts l.replies) × (l.n ≤ l.count) × (l.count ≡ length l.replies / 8)
-
-abbrev pub decreases-loop-n : goal.decreases-loop-n
-decreases-loop-n l = l.count - l.n
+    (codes_counted (l.count - 2 * l.n) l.counts (drop (16 * l.n) l.replies) ≡ codes_counted l.count l.initial.counts l.replies)
+    × (2 * l.n ≤ l.count)
+    × (l.count ≡ length l.replies / 8)

@@ -26,16 +26,12 @@ put_codes-at-requires c =
     said-length args.number c.refused_sum-sum.result args.counts.now c.refused_sum-sum.ensures c.if-sum-eq0.false in
     omega (arith, long, c.put_head-at.ensures.place)
 
-pub put-requires : goal.put-requires
-put-requires c =
-    let args = c.args in
-    let long =
-    said-length args.number c.refused_sum-sum.result args.counts.now c.refused_sum-sum.ensures c.if-sum-eq0.false in
-    omega (arith, long, c.put_head-at.ensures.place, c.put_codes-at.ensures.place)
-
 pub returns : goal.returns
 unfolding newline
 returns c =
     let args = c.args in
+    let long =
+    said-length args.number c.refused_sum-sum.result args.counts.now c.refused_sum-sum.ensures c.if-sum-eq0.false in
+    let end = c.put.ensures.stored (omega (arith, long, c.put_head-at.ensures.place, c.put_codes-at.ensures.place)) in
     rw (said-text args.number c.refused_sum-sum.result args.counts.now c.refused_sum-sum.ensures c.if-sum-eq0.false)
-    (then-text (then-text c.put_head-at.ensures c.put_codes-at.ensures) c.put.ensures)
+    (then-text (then-text c.put_head-at.ensures c.put_codes-at.ensures) end)

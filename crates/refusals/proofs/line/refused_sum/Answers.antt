@@ -3,7 +3,7 @@ use mathlib.Core.Path.{ap, ◌∙◌}
 use native.Mathlib.Omega.{arith}
 use lib.ListN.{drop}
 use Rattle.refusals.specs.Counted.{most_count}
-use Rattle.refusals.specs.Said.{refused_sum, total}
+use Rattle.refusals.specs.Said.{refused_sum, summed_up, total}
 use Rattle.refusals.proofs.Telling.{next-sum, no-sum-left}
 use Rattle.refusals.proofs.line.refused_sum.Goals as goal
 
@@ -11,20 +11,12 @@ pub loop-code-init : goal.loop-code-init
 unfolding refused_sum
 loop-code-init c = (omega arith, omega arith)
 
-pub bounds-counts-code : goal.bounds-counts-code
-bounds-counts-code c = omega arith
-
-pub overflow_add-code : goal.overflow_add-code
-overflow_add-code c = omega arith
-
-pub loop-code-smaller : goal.loop-code-smaller
-loop-code-smaller c = omega arith
-
 pub loop-code-preserved : goal.loop-code-preserved
+unfolding summed_up
 loop-code-preserved c =
     let here = c.loop-code in
     let counts = c.args.counts.now in (
-      ap (λ (sum : ℕ). min (sum + total (drop (here.code + 1) counts)) most_count) c.summed_up-sum.ensures
+      ap (λ (sum : ℕ). min (sum + total (drop (here.code + 1) counts)) most_count) c.saturating_add-sum.ensures
           ∙ next-sum counts here.code here.sum (omega arith)
           ∙ here.invariant.0,
       omega arith,

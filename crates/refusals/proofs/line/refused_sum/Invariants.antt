@@ -1,13 +1,10 @@
 -- `line::refused_sum` meets its contract: the sum so far, and the counts that are left, are the sum of all. Assumes nothing.
-use Prim.Native.Nat.{◌+◌, ◌-◌, ◌≤◌, min}
+use Prim.Native.Nat.{◌+◌, ◌≤◌, min}
 use mathlib.Core.Path.{◌≡◌}
-use lib.ListN.{length, drop}
+use lib.ListN.{drop}
 use Rattle.refusals.specs.Counted.{most_count}
 use Rattle.refusals.specs.Said.{refused_sum, total}
 use Rattle.refusals.proofs.line.refused_sum.Given as goal
 
 abbrev pub invariant-loop-code : goal.invariant-loop-code
 invariant-loop-code l = (min (l.sum + total (drop l.code l.counts)) most_count ≡ refused_sum l.counts) × (l.sum ≤ most_count)
-
-abbrev pub decreases-loop-code : goal.decreases-loop-code
-decreases-loop-code l = length l.counts - l.code

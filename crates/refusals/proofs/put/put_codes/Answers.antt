@@ -13,20 +13,11 @@ use Rattle.refusals.proofs.put.put_codes.Goals as goal
 pub loop-code-init : goal.loop-code-init
 loop-code-init c = (refl, refl, refl)
 
-pub bounds-counts-code : goal.bounds-counts-code
-bounds-counts-code c = omega arith
-
 pub put_code-at-requires : goal.put_code-at-requires
 put_code-at-requires c =
     let here = c.loop-code in
     let next = next-code-length here.first c.args.counts.now here.code (omega arith) in
     omega (arith, next)
-
-pub overflow_add-code : goal.overflow_add-code
-overflow_add-code c = omega arith
-
-pub loop-code-smaller : goal.loop-code-smaller
-loop-code-smaller c = omega arith
 
 pub loop-code-preserved : goal.loop-code-preserved
 loop-code-preserved c =
@@ -34,8 +25,7 @@ loop-code-preserved c =
     let counts = c.args.counts.now in
     let wrote = c.put_code-at.ensures in
     let next = next-code here.first counts here.code (omega arith) in
-    let size = next-code-length here.first counts here.code (omega arith) in
-    rw c.still_first-first.ensures (
+    let size = next-code-length here.first counts here.code (omega arith) in (
       rest-stored (codes_text (here.first && eqb (get_or counts here.code 0) 0) (here.code + 1) (drop (here.code + 1) counts)) wrote
           ∙ ap (sets here.buffer here.at) next
           ∙ here.invariant.0,

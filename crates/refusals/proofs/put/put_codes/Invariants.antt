@@ -1,5 +1,5 @@
 -- `put::put_codes` meets its contract: with the text of the codes that are left stored, the buffer holds that of all. Assumes nothing.
-use Prim.Native.Nat.{◌+◌, ◌-◌}
+use Prim.Native.Nat.{◌+◌}
 use mathlib.Core.Bool.{true}
 use mathlib.Core.Path.{◌≡◌}
 use lib.ListN.{length, drop}
@@ -12,6 +12,3 @@ invariant-loop-code l =
     (sets l.buffer l.at (codes_text l.first l.code (drop l.code l.counts)) ≡ sets l.initial.buffer l.at-2 (codes_text true 2 (drop 2 l.counts)))
     × (l.at + length (codes_text l.first l.code (drop l.code l.counts)) ≡ l.at-2 + length (codes_text true 2 (drop 2 l.counts)))
     × (length l.buffer ≡ length l.initial.buffer)
-
-abbrev pub decreases-loop-code : goal.decreases-loop-code
-decreases-loop-code l = length l.counts - l.code

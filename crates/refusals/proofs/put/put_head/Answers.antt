@@ -6,22 +6,10 @@ use Rattle.refusals.specs.Said.{head_text}
 use Rattle.refusals.proofs.Lengths.{head-length}
 use Rattle.refusals.proofs.put.put_head.Goals as goal
 
-pub put_behind-at-requires : goal.put_behind-at-requires
-put_behind-at-requires c =
-    let args = c.args in
-    omega (arith, head-length args.sum args.number)
-
-pub put_behind-at-requires-2 : goal.put_behind-at-requires-2
-put_behind-at-requires-2 c =
-    let args = c.args in
-    omega (arith, head-length args.sum args.number, c.put_behind-at.ensures.place)
-
-pub put-requires : goal.put-requires
-put-requires c =
-    let args = c.args in
-    omega (arith, head-length args.sum args.number, c.put_behind-at.ensures.place, c.put_behind-at-2.ensures.place)
-
 pub returns : goal.returns
 unfolding head_text ascii
 returns c =
-    then-text (then-text c.put_behind-at.ensures c.put_behind-at-2.ensures) c.put.ensures
+    let long = head-length c.args.sum c.args.number in
+    let said = c.put_behind-at.ensures.stored (omega (arith, long)) in
+    let of = c.put_behind-at-2.ensures.stored (omega (arith, long, said.place)) in
+    then-text (then-text said of) (c.put.ensures.stored (omega (arith, long, said.place, of.place)))

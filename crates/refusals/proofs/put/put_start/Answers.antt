@@ -3,18 +3,10 @@ use Rattle.file.specs.Readers.{ascii}
 use Rattle.refusals.specs.Said.{start_text}
 use Rattle.refusals.proofs.put.put_start.Goals as goal
 
-pub put_behind-requires : goal.put_behind-requires
-unfolding start_text ascii
-put_behind-requires c = rw c.if-first.true at c.requires
-
 pub returns-then-first : goal.returns-then-first
 unfolding start_text ascii
-returns-then-first c = rw c.if-first.true c.put_behind.ensures
-
-pub put_behind-requires-2 : goal.put_behind-requires-2
-unfolding start_text ascii
-put_behind-requires-2 c = rw c.if-first.false at c.requires
+returns-then-first c = rw c.if-first.true (c.put_behind.ensures.stored (rw c.if-first.true at c.requires))
 
 pub returns : goal.returns
 unfolding start_text ascii
-returns c = rw c.if-first.false c.put_behind-2.ensures
+returns c = rw c.if-first.false (c.put_behind-2.ensures.stored (rw c.if-first.false at c.requires))

@@ -8,27 +8,18 @@ use Rattle.refusals.specs.Said.{times_text}
 use Rattle.refusals.proofs.Lengths.{times-length}
 use Rattle.refusals.proofs.put.put_times.Goals as goal
 
-pub put_behind-at-requires : goal.put_behind-at-requires
-put_behind-at-requires c = omega (arith, times-length c.args.times)
-
-pub put-requires : goal.put-requires
-unfolding ascii
-put-requires c =
-    let long = rw (eq-eqb _ _ c.if-times-eq1.true) at (times-length c.args.times) in
-    omega (arith, long, c.put_behind-at.ensures.place)
-
 pub returns-then-times-eq1 : goal.returns-then-times-eq1
 unfolding times_text space ascii
 returns-then-times-eq1 c =
-    rw (eq-eqb _ _ c.if-times-eq1.true) (then-text c.put_behind-at.ensures c.put.ensures)
-
-pub put-requires-2 : goal.put-requires-2
-unfolding ascii
-put-requires-2 c =
-    let long = rw (ne_eqb _ _ c.if-times-eq1.false) at (times-length c.args.times) in
-    omega (arith, long, c.put_behind-at.ensures.place)
+    let number = c.put_behind-at.ensures.stored (omega (arith, times-length c.args.times)) in
+    let long = rw (eq-eqb _ _ c.if-times-eq1.true) at (times-length c.args.times) in
+    let room = rw (eq-eqb _ _ c.if-times-eq1.true) at c.requires in
+    rw (eq-eqb _ _ c.if-times-eq1.true) (then-text number (c.put.ensures.stored (omega (arith, room, long, number.place))))
 
 pub returns : goal.returns
 unfolding times_text space ascii
 returns c =
-    rw (ne_eqb _ _ c.if-times-eq1.false) (then-text c.put_behind-at.ensures c.put-2.ensures)
+    let number = c.put_behind-at.ensures.stored (omega (arith, times-length c.args.times)) in
+    let long = rw (ne_eqb _ _ c.if-times-eq1.false) at (times-length c.args.times) in
+    let room = rw (ne_eqb _ _ c.if-times-eq1.false) at c.requires in
+    rw (ne_eqb _ _ c.if-times-eq1.false) (then-text number (c.put-2.ensures.stored (omega (arith, room, long, number.place))))

@@ -22,9 +22,6 @@ overflow_mul-n c = omega arith
 pub bounds-replies-n : goal.bounds-replies-n
 bounds-replies-n c = omega arith
 
-pub line_size-size-requires : goal.line_size-size-requires
-line_size-size-requires c = tt
-
 pub returns-then-left-size : goal.returns-then-left-size
 returns-then-left-size c =
     let args = c.args in
@@ -32,12 +29,6 @@ returns-then-left-size c =
     let next = next-line-length args.count args.number args.replies.now here.n (omega arith) in
     let size = c.line_size-size.ensures (two args.replies.now (8 * here.n + 4)) in
     rw (lt-leb (length (reply_lines args.count args.number args.replies.now)) args.room (omega arith))
-
-pub overflow_add-n : goal.overflow_add-n
-overflow_add-n c = omega arith
-
-pub loop-n-smaller : goal.loop-n-smaller
-loop-n-smaller c = omega arith
 
 pub loop-n-preserved : goal.loop-n-preserved
 loop-n-preserved c =

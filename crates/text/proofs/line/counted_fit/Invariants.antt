@@ -9,6 +9,3 @@ abbrev pub invariant-loop-n : goal.invariant-loop-n
 invariant-loop-n l =
     (length (reply_lines l.count l.number l.replies) + l.left ≡ l.room + length (reply_lines (l.count - l.n) (l.number + l.n) (drop (8 * l.n) l.replies)))
     × (l.n ≤ l.count)
-
-abbrev pub decreases-loop-n : goal.decreases-loop-n
-decreases-loop-n l = l.count - l.n

@@ -47,12 +47,6 @@ reply_line-at-requires c =
       from_in_bounds_2 = omega (arith, as_long spells, line, next-line-length args.count args.number args.replies.now here.n (omega arith));
     }
 
-pub overflow_add-n : goal.overflow_add-n
-overflow_add-n c = omega arith
-
-pub loop-n-smaller : goal.loop-n-smaller
-loop-n-smaller c = omega arith
-
 pub loop-n-preserved : goal.loop-n-preserved
 loop-n-preserved c =
     let args = c.args in

@@ -16,6 +16,3 @@ invariant-loop-n l =
     × (length l.buffer ≡ length l.initial.buffer)
     × ((0 < l.size) × (l.size ≤ 20))
     × Next (l.number + l.n) l.figures l.size
-
-abbrev pub decreases-loop-n : goal.decreases-loop-n
-decreases-loop-n l = l.count - l.n

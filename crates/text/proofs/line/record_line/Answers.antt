@@ -16,9 +16,13 @@ line-requires c =
 pub returns-then-has_room : goal.returns-then-has_room
 returns-then-has_room c =
     let args = c.args in
+    rw c.stored.ensures (
     room args.buffer.now args.at (line_of args.number args.code args.value) (c.line_size.ensures args.value) (sym c.has_room.ensures ∙ c.if-has_room.true) c.line.ensures
+    )
 
 pub returns : goal.returns
 returns c =
     let args = c.args in
+    rw c.no_room.ensures (
     no_room args.buffer.now args.at (line_of args.number args.code args.value) (c.line_size.ensures args.value) (sym c.has_room.ensures ∙ c.if-has_room.false)
+    )

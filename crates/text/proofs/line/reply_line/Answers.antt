@@ -10,5 +10,5 @@ pub returns : goal.returns
 returns c = λ number spelled.
     let args = c.args in
     let value = c.two-value.ensures ∙ value-bytes args.replies.now args.from in
-    let wrote = rw spelled at (then-text c.copy-at.ensures c.behind_number.ensures) in
+    let wrote = rw spelled at (then-text c.store-at.ensures c.behind_number.ensures) in
     rw value at (rw (line_made number (get_or args.replies.now args.from 0) c.two-value.result) at wrote)

@@ -37,12 +37,16 @@ pub returns-then-lines_fit : goal.returns-then-lines_fit
 unfolding lines_answer all_lines
 returns-then-lines_fit c =
     let args = c.args in
+    rw c.stored.ensures (
     rw (sym c.numbers_fit.ensures ∙ not-false _ c.if-not-numbers_fit.false-raw)
     (room args.buffer.now args.at (all_lines args.number args.replies.now) refl (sym c.lines_fit.ensures ∙ c.if-lines_fit.true) c.lines.ensures)
+    )
 
 pub returns : goal.returns
 unfolding lines_answer all_lines
 returns c =
     let args = c.args in
+    rw c.no_room.ensures (
     rw (sym c.numbers_fit.ensures ∙ not-false _ c.if-not-numbers_fit.false-raw)
     (no_room args.buffer.now args.at (all_lines args.number args.replies.now) refl (sym c.lines_fit.ensures ∙ c.if-lines_fit.false))
+    )

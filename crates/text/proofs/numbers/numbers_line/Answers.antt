@@ -12,10 +12,12 @@ use Rattle.text.proofs.numbers.numbers_line.Goals as goal
 pub returns-then-not-line_fits : goal.returns-then-not-line_fits
 returns-then-not-line_fits c =
     let args = c.args in
+    rw c.no_room.ensures (
     no_room args.buffer.now args.at (numbers_line args.word.now args.minus.now args.numbers.now) refl (sym c.line_fits.ensures ∙ not-true _ c.if-not-line_fits.true-raw)
+    )
 
-pub copy-at-requires : goal.copy-at-requires
-copy-at-requires c =
+pub store-at-requires : goal.store-at-requires
+store-at-requires c =
     let args = c.args in
     let fit = leb-true (args.at + length (numbers_line args.word.now args.minus.now args.numbers.now)) (length args.buffer.now) (sym c.line_fits.ensures ∙ not-false _ c.if-not-line_fits.false-raw) in
     let long = numbers-length args.word.now args.minus.now args.numbers.now in
@@ -40,5 +42,7 @@ unfolding newline numbers_line
 returns c =
     let args = c.args in
     let wrote =
-    then-text (then-text c.copy-at.ensures c.spell_each-at.ensures) c.byte.ensures in
+    then-text (then-text c.store-at.ensures c.spell_each-at.ensures) c.byte.ensures in
+    rw c.stored.ensures (
     room args.buffer.now args.at (numbers_line args.word.now args.minus.now args.numbers.now) refl (sym c.line_fits.ensures ∙ not-false _ c.if-not-line_fits.false-raw) wrote
+    )

