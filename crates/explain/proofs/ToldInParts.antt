@@ -23,7 +23,7 @@ use Rattle.replaying.proofs.Pieces.{trace-cut}
 use Rattle.shell.proofs.Bounds.{counts}
 use Rattle.summing.specs.declared.summary.Summary.{Summary}
 use Rattle.summing.specs.Summed.{taken_all, taken_in}
-use Rattle.explain.specs.Told.{part_summed, part_told, record_summed, record_told, records_told}
+use Rattle.summing.specs.Told.{part_summed, part_told, record_summed, record_told, records_told}
 
 -- items in two parts
 records-in-parts : (sums : Bool) (number : ℕ) (f : File) (a b : List Item)

@@ -3,12 +3,13 @@ use Prim.Native.Nat.{ℕ, ◌+◌, ◌%◌, ◌^◌, ◌≤◌}
 use mathlib.Core.Bool.{Bool, true, false, cond, true≢false}
 use mathlib.Core.List.{List, [], ◌++◌, append-nil}
 use mathlib.Core.Logic.{◌⊎◌, inl, inr}
-use mathlib.Core.Path.{◌≡◌, refl, sym, ap, ap₂, ◌∙◌}
+use mathlib.Core.Path.{◌≡◌, refl, sym, ap, ap₂, ◌∙◌, subst}
 use native.Mathlib.Nat.{add-zero, zero-add}
 use native.Mathlib.Omega.{arith}
 use borrow.Author.Tests.{eqb-true}
 use lib.Dec.{eqb}
 use lib.ListN.{length, take, drop, length-append}
+use Rattle.bits.proofs.Test.{by-test}
 use lib.Seq.{take_at}
 use Rattle.io.specs.Counts.{IsPrefixLen}
 use Rattle.file.specs.declared.chip.Chip.{Chip}
@@ -19,14 +20,19 @@ use Rattle.access.specs.Access.{access_item}
 use Rattle.trace.specs.Records.{item_count, item_of, items}
 use Rattle.replaying.specs.Replay.{after_part}
 use Rattle.replaying.proofs.Pieces.{file-parts, parts-count}
+use Rattle.shell.specs.Parts.{counted}
+use Rattle.summing.specs.Closing.{summary_text}
 use Rattle.shell.proofs.Bounds.{counts}
 use Rattle.shell.proofs.Turns.{counted-on, none_after}
 use Rattle.explain.specs.declared.course.Course.{Course}
+use Rattle.explain.specs.declared.course.Going.{Going}
+use Rattle.explain.specs.declared.course.Going.TheVariants.{Failed}
+use Rattle.shell.specs.declared.telling.Handed.{Handed}
 use Rattle.explain.specs.declared.course.Turn.{Turn}
 use Rattle.summing.specs.declared.summary.Summary.{Summary}
 use Rattle.summing.specs.Summed.{begun, summed}
-use Rattle.explain.specs.Told.{closing, part_summed, part_told, record_summed, record_told, trace_told}
-use Rattle.explain.specs.Turns.{Closed, Finished, Turned, Turns, beginning, course_after, failed_after, turn_lines, whole_text}
+use Rattle.summing.specs.Told.{closing, part_summed, part_told, record_summed, record_told, trace_told}
+use Rattle.explain.specs.Turns.{Closed, Finished, Turned, Turns, beginning, course_after, failed_after, going_behind, has_failed, has_more, turn_lines, whole_text, with_summary}
 use Rattle.explain.specs.Turns.Closed.{failed, plain, summed as closed}
 use Rattle.explain.specs.Turns.Turns.{none, then, uncounted, unread, unwritten}
 use Rattle.explain.proofs.ToldInParts.{no-after, no_item, no-summed, no-told, none-summed, none_told, one-after, one-item, one-summed, one_told, summed-parts, told-parts}
@@ -36,7 +42,7 @@ use Rattle.explain.proofs.ToldInParts.{no-after, no_item, no-summed, no-told, no
 module _ (sums : Bool) (before : Course) (part lines₀ : List ℕ) where
   -- nothing was read
   pub turn-none : length part ≡ 0 → Turned sums before part lines₀ lines₀
-      (record { end = 0; course = record { number = before.number; more = eqb (length part) 8; failed = false; read = before.read; handed = before.handed; file = before.file; summary = before.summary } })
+      (record { end = 0; course = record { number = before.number; going = going_behind (length part); read = before.read; handed = before.handed; file = before.file; summary = before.summary } })
   unfolding course_after turn_lines
   turn-none h =
       record {
@@ -49,11 +55,11 @@ module _ (sums : Bool) (before : Course) (part lines₀ : List ℕ) where
   pub turn_one : (length part ≡ 0 → ⊥) → length part ≤ 8 → (item : Item) → item ≡ item_of (take 8 part) → (end : ℕ) (lines : List ℕ)
       → end ≡ length (record_told sums before.number before.file item)
       → lines ≡ record_told sums before.number before.file item ++ drop end lines₀
-      → (file : File) → file ≡ (access_item before.file item).file → (s : Summary) → s ≡ record_summed sums before.summary before.file item → (more : Bool) → more ≡ eqb (length part) 8
+      → (file : File) → file ≡ (access_item before.file item).file → (s : Summary) → s ≡ record_summed sums before.summary before.file item → (going : Going) → going ≡ going_behind (length part)
       → Turned sums before part lines₀ lines
-      (record { end = end; course = record { number = before.number + 1; more = more; failed = false; read = before.read; handed = before.handed; file = file; summary = s } })
+      (record { end = end; course = record { number = before.number + 1; going = going; read = before.read; handed = before.handed; file = file; summary = s } })
   unfolding course_after turn_lines
-  turn_one some few item e end lines ended printed file went s sums-up more full =
+  turn_one some few item e end lines ended printed file went s sums-up going full =
       let told : record_told sums before.number before.file item ≡ part_told sums before.number before.file part =
       ap (record_told sums before.number before.file) e ∙ sym (one_told part sums before.number before.file some few) in
       let kept : s ≡ part_summed sums before.summary before.file part =
@@ -79,11 +85,20 @@ lines-within {sums} {before} {part} {lines₀} {lines} {r} t =
 
 -- ---- turns
 
+-- a part behind which there is more to read is a whole record, and none behind it has failed
+pub behind-more : (size : ℕ) → has_more (going_behind size) ≡ true → size ≡ 8
+unfolding has_more going_behind
+behind-more size more = by-test (eqb size 8) (λ e. eqb-true size 8 e) (λ e. absurd (true≢false (sym (rw e at more))))
+
+behind_unfailed : (size : ℕ) → has_failed (going_behind size) ≡ false
+unfolding has_failed going_behind
+behind_unfailed size = by-test (eqb size 8) (λ e. rw e refl) (λ e. rw e refl)
+
 -- a course with more to read has not failed
-pub more-unfailed : {chip : Chip} {sums : Bool} {trace text : List ℕ} {r : Course} → Turns chip sums trace text r → r.more ≡ true → r.failed ≡ false
-unfolding beginning course_after failed_after
+pub more-unfailed : {chip : Chip} {sums : Bool} {trace text : List ℕ} {r : Course} → Turns chip sums trace text r → has_more r.going ≡ true → has_failed r.going ≡ false
+unfolding beginning course_after failed_after has_more has_failed
 more-unfailed none more = refl
-more-unfailed (then part read handed turns brought on) more = refl
+more-unfailed (then part read handed turns brought on) more = behind_unfailed (length part)
 more-unfailed (unread part read turns brought) more = absurd (true≢false (sym more))
 more-unfailed (unwritten part read handed turns brought on) more = absurd (true≢false (sym more))
 more-unfailed (uncounted turns goes many) more = absurd (true≢false (sym more))
@@ -94,11 +109,11 @@ pub record Stands (chip : Chip) (sums : Bool) (trace text : List ℕ) (r : Cours
   pub number : r.number ≡ item_count trace
   pub printed : text ≡ part_told sums 0 (power_on chip) trace
   pub summary : r.summary ≡ part_summed sums (begun (power_on chip)) (power_on chip) trace
-  pub whole : r.more ≡ true → length trace % 8 ≡ 0
+  pub whole : has_more r.going ≡ true → length trace % 8 ≡ 0
 
-pub turns-stand : {chip : Chip} {sums : Bool} {trace text : List ℕ} {r : Course} → Turns chip sums trace text r → r.failed ≡ false
+pub turns-stand : {chip : Chip} {sums : Bool} {trace text : List ℕ} {r : Course} → Turns chip sums trace text r → has_failed r.going ≡ false
     → Stands chip sums trace text r
-unfolding beginning course_after failed_after turn_lines item_count
+unfolding beginning course_after failed_after has_more has_failed turn_lines item_count
 turns-stand (unread part read turns brought) e = absurd (true≢false e)
 turns-stand (unwritten part read handed turns brought on) e = absurd (true≢false e)
 turns-stand (uncounted turns goes many) e = absurd (true≢false e)
@@ -124,14 +139,14 @@ turns-stand {chip} {sums} (then {trace} {text} {before} part read handed turns b
           ap₂ (λ (s : Summary) (f : File). part_summed sums s f part) held.summary held.file
           ∙ sym (summed-parts sums (begun (power_on chip)) (power_on chip) trace part whole);
       whole =
-          λ more. let full : length part ≡ 8 = eqb-true _ _ more in
+          λ more. let full : length part ≡ 8 = behind-more (length part) more in
           rw length-append (omega (arith, whole, full));
     }
 
 -- what a course says was read and handed to be written, in all: as many bytes as its trace and its text have
 pub turns-counted : {chip : Chip} {sums : Bool} {trace text : List ℕ} {r : Course} → Turns chip sums trace text r
     → (r.read.all ≡ length trace % 2 ^ 64) × (r.handed.all ≡ length text % 2 ^ 64)
-unfolding beginning course_after failed_after
+unfolding beginning course_after failed_after has_more has_failed
 turns-counted none = (refl, refl)
 turns-counted (unread {trace} part read turns brought) =
     (counted-on _ _ trace part (turns-counted turns).0 brought.all, (turns-counted turns).1)
@@ -146,19 +161,19 @@ turns-counted {chip} {sums} (unwritten {trace} {text} {before} part read handed 
 turns-counted (uncounted turns goes many) = turns-counted turns
 
 -- a course that has failed has a read or a write that failed, or 64 bits have no number for a record more
-pub turns-failed : {chip : Chip} {sums : Bool} {trace text : List ℕ} {r : Course} → Turns chip sums trace text r → r.failed ≡ true
+pub turns-failed : {chip : Chip} {sums : Bool} {trace text : List ℕ} {r : Course} → Turns chip sums trace text r → has_failed r.going ≡ true
     → (r.read.failed ≡ true) ⊎ ((r.handed.failed ≡ true) ⊎ (2 ^ 64 ≤ r.number + 1))
-unfolding beginning course_after failed_after
+unfolding beginning course_after failed_after has_more has_failed
 turns-failed none e = absurd (true≢false (sym e))
-turns-failed (then part read handed turns brought on) e = absurd (true≢false (sym e))
+turns-failed (then part read handed turns brought on) e = absurd (true≢false (sym e ∙ behind_unfailed (length part)))
 turns-failed (unread part read turns brought) e = inl brought.so
 turns-failed (unwritten part read handed turns brought on) e = inr (inl on.so)
 turns-failed (uncounted turns goes many) e = inr (inr many)
 
 -- and where nothing failed, no read and no write did
-pub turns-unfailed : {chip : Chip} {sums : Bool} {trace text : List ℕ} {r : Course} → Turns chip sums trace text r → r.failed ≡ false
+pub turns-unfailed : {chip : Chip} {sums : Bool} {trace text : List ℕ} {r : Course} → Turns chip sums trace text r → has_failed r.going ≡ false
     → (r.read.failed ≡ false) × (r.handed.failed ≡ false)
-unfolding beginning course_after failed_after
+unfolding beginning course_after failed_after has_more has_failed
 turns-unfailed none e = (refl, refl)
 turns-unfailed (then part read handed turns brought on) e = (brought.so, on.so)
 turns-unfailed (unread part read turns brought) e = absurd (true≢false e)
@@ -167,10 +182,35 @@ turns-unfailed (uncounted turns goes many) e = absurd (true≢false e)
 
 -- ---- the end
 
-closed-unfailed : {sums : Bool} {before r : Course} → Closed sums before r → r.failed ≡ false → before.failed ≡ false
+closed-unfailed : {sums : Bool} {before r : Course} → Closed sums before r → has_failed r.going ≡ false → has_failed before.going ≡ false
 closed-unfailed (failed so) e = e
 closed-unfailed (plain so not) e = so
 closed-unfailed (closed handed so goes all) e = so
+
+-- a course with its summary handed on, and how it goes on then
+unfoldable with_going : Going → Handed → Course → Course
+with_going going handed c = record { number = c.number; going = going; read = c.read; handed = handed; file = c.file; summary = c.summary }
+
+-- the summary was written, or wasn't
+module _ {sums : Bool} {before : Course} (handed : Handed) (so : has_failed before.going ≡ false) (goes : sums ≡ true)
+    (all : handed.all ≡ counted before.handed.all (length (summary_text before.summary))) where
+  there : Closed sums before (with_summary handed before)
+  there = closed handed so goes all
+
+  going-on : (b : Bool) → handed.failed ≡ b → Closed sums before (with_going (cond b Failed before.going) handed before)
+  unfolding with_going
+  going-on b e = subst (λ (t : Bool). Closed sums before (with_going (cond t Failed before.going) handed before)) e there
+
+  pub closed-written : handed.failed ≡ false → Closed sums before
+      (record { number = before.number; going = before.going; read = before.read; handed = handed; file = before.file; summary = before.summary })
+  unfolding with_going
+  closed-written e = going-on false e
+
+  pub closed-unwritten : handed.failed ≡ true → (r : Course)
+      → r ≡ failed_after (record { number = before.number; going = before.going; read = before.read; handed = handed; file = before.file; summary = before.summary })
+      → Closed sums before r
+  unfolding failed_after with_going
+  closed-unwritten e r same = rw same (going-on true e)
 
 -- where nothing is summed, nothing stands at the end
 closing-of : (sums : Bool) (chip : Chip) (trace : List ℕ) → closing sums (part_summed sums (begun (power_on chip)) (power_on chip) trace)
@@ -180,7 +220,7 @@ closing-of true chip trace = refl
 closing-of false chip trace = refl
 
 -- 'for each record': what the program handed to be written is what is told of the trace that it read, from the chip's power-on
-pub finished-told : {chip : Chip} {sums : Bool} {r : Course} (e : Finished chip sums r) → r.failed ≡ false → whole_text e ≡ trace_told sums chip e.came.trace
+pub finished-told : {chip : Chip} {sums : Bool} {r : Course} (e : Finished chip sums r) → has_failed r.going ≡ false → whole_text e ≡ trace_told sums chip e.came.trace
 unfolding whole_text trace_told
 finished-told {chip} {sums} e so =
     let none = closed-unfailed e.closed so in
@@ -193,20 +233,23 @@ unfolding whole_text closing
 finished-counted e = counted-by e.closed e.came.text (turns-counted e.came.turns).1
   where
     counted-by : {sums : Bool} {before r : Course} → Closed sums before r → (text : List ℕ) → before.handed.all ≡ length text % 2 ^ 64
-        → r.handed.all ≡ length (text ++ cond before.failed [] (closing sums before.summary)) % 2 ^ 64
+        → r.handed.all ≡ length (text ++ cond (has_failed before.going) [] (closing sums before.summary)) % 2 ^ 64
     counted-by (failed so) text e = rw (so, append-nil) e
     counted-by (plain so not) text e = rw (so, not, append-nil) e
     counted-by (closed handed so goes all) text e = rw (so, goes) (counted-on _ _ text _ e all)
 
 -- it has failed only if a read or a write has, or 64 bits have no number for a record more
-pub finished-failed : {chip : Chip} {sums : Bool} {r : Course} → Finished chip sums r → r.failed ≡ true
+pub finished-failed : {chip : Chip} {sums : Bool} {r : Course} → Finished chip sums r → has_failed r.going ≡ true
     → (r.read.failed ≡ true) ⊎ ((r.handed.failed ≡ true) ⊎ (2 ^ 64 ≤ r.number + 1))
 finished-failed e so = failed-by e.closed (turns-failed e.came.turns) so
   where
+    summed-failed : (handed : Handed) (going : Going) → has_failed going ≡ false → has_failed (cond handed.failed Failed going) ≡ true → handed.failed ≡ true
+    summed-failed handed going so e = by-test handed.failed (λ t. t) (λ t. absurd (true≢false (sym (rw t at e) ∙ so)))
+
     Why : Course → Type 0
     Why r = (r.read.failed ≡ true) ⊎ ((r.handed.failed ≡ true) ⊎ (2 ^ 64 ≤ r.number + 1))
 
-    failed-by : {sums : Bool} {before r : Course} → Closed sums before r → (before.failed ≡ true → Why before) → r.failed ≡ true → Why r
+    failed-by : {sums : Bool} {before r : Course} → Closed sums before r → (has_failed before.going ≡ true → Why before) → has_failed r.going ≡ true → Why r
     failed-by (failed so) why e = why e
     failed-by (plain so not) why e = why e
-    failed-by (closed handed so goes all) why e = inr (inl e)
+    failed-by (closed handed so goes all) why e = inr (inl (summed-failed handed _ so e))

@@ -11,34 +11,50 @@ use Rattle.shell.specs.declared.telling.Handed.{Handed}
 use Rattle.summing.specs.Closing.{summary_text}
 use Rattle.summing.specs.Summed.{begun}
 use Rattle.explain.specs.declared.course.Course.{Course}
+use Rattle.explain.specs.declared.course.Going.{Going}
+use Rattle.explain.specs.declared.course.Going.TheVariants.{More, Ended, Failed}
 use Rattle.explain.specs.declared.course.Turn.{Turn}
-use Rattle.explain.specs.Told.{closing, part_summed, part_told}
+use Rattle.summing.specs.Told.{closing, part_summed, part_told}
+
+-- there is more to read; something failed
+unfoldable pub has_more : Going → Bool
+has_more More = true
+has_more Ended = false
+has_more Failed = false
+
+unfoldable pub has_failed : Going → Bool
+has_failed More = false
+has_failed Ended = false
+has_failed Failed = true
+
+-- a part that is no whole record is the last
+unfoldable pub going_behind : ℕ → Going
+going_behind size = cond (eqb size 8) More Ended
 
 -- what fails ends the course and leaves the rest of it
 unfoldable pub failed_after : Course → Course
 failed_after before =
-    record { number = before.number; more = false; failed = true; read = before.read; handed = before.handed; file = before.file; summary = before.summary }
+    record { number = before.number; going = Failed; read = before.read; handed = before.handed; file = before.file; summary = before.summary }
 
 -- where there is more to read and no turn is left, the course fails
 unfoldable pub over_after : Course → Course
-over_after before = cond before.more (failed_after before) before
+over_after before = cond (has_more before.going) (failed_after before) before
 
 -- the course with what was read
 abbrev pub with_read : Filled → Course → Course
 with_read read c =
-    record { number = c.number; more = c.more; failed = c.failed; read = read; handed = c.handed; file = c.file; summary = c.summary }
+    record { number = c.number; going = c.going; read = read; handed = c.handed; file = c.file; summary = c.summary }
 
 -- what a turn tells of the part that was read
 unfoldable pub turn_lines : Bool → Course → List ℕ → List ℕ
 turn_lines sums before part = part_told sums before.number before.file part
 
--- the course after it, with what was read and what was handed to be written; a part that is no whole record is the last
+-- the course after it, with what was read and what was handed to be written
 unfoldable pub course_after : Bool → Filled → Handed → Course → List ℕ → Course
 course_after sums read handed before part =
     record {
       number = before.number + item_count part;
-      more = eqb (length part) 8;
-      failed = false;
+      going = going_behind (length part);
       read = read;
       handed = handed;
       file = after_part before.file part;
@@ -57,8 +73,7 @@ unfoldable pub beginning : Chip → Course
 beginning chip =
     record {
       number = 0;
-      more = true;
-      failed = false;
+      going = More;
       read = record { count = 0; failed = false; all = 0 };
       handed = record { all = 0; failed = false };
       file = power_on chip;
@@ -67,7 +82,7 @@ beginning chip =
 
 -- the part of a turn was read, from a course with more to read, or reading failed behind it: what came back counts it
 pub record Brought (failed : Bool) (before : Course) (part : List ℕ) (read : Filled) : Type 0 where
-  pub goes : before.more ≡ true
+  pub goes : has_more before.going ≡ true
   pub count : read.count ≡ length part
   pub within : length part ≤ 8
   pub all : read.all ≡ counted before.read.all (length part)
@@ -91,7 +106,7 @@ pub data Turns (chip : Chip) (sums : Bool) : List ℕ → List ℕ → Course �
   unwritten : {trace text : List ℕ} {before : Course} (part : List ℕ) (read : Filled) (handed : Handed) → Turns chip sums trace text before
       → Brought false before part read → HandedOn true sums before part handed
       → Turns chip sums (trace ++ part) (text ++ turn_lines sums before part) (failed_after (course_after sums read handed before part))
-  uncounted : {trace text : List ℕ} {before : Course} → Turns chip sums trace text before → before.more ≡ true → 2 ^ 64 ≤ before.number + 1
+  uncounted : {trace text : List ℕ} {before : Course} → Turns chip sums trace text before → has_more before.going ≡ true → 2 ^ 64 ≤ before.number + 1
       → Turns chip sums trace text (failed_after before)
 
 -- the course that a run comes to: by some turns, until there is no more to read. Which bytes the system reads and writes no contract says
@@ -99,18 +114,18 @@ pub record Came (chip : Chip) (sums : Bool) (r : Course) : Type 0 where
   pub trace : List ℕ
   pub text : List ℕ
   pub turns : Turns chip sums trace text r
-  pub ended : r.more ≡ false
+  pub ended : has_more r.going ≡ false
 
 -- the course with the summary handed to be written, or not written
 abbrev pub with_summary : Handed → Course → Course
 with_summary handed c =
-    record { number = c.number; more = c.more; failed = handed.failed; read = c.read; handed = handed; file = c.file; summary = c.summary }
+    record { number = c.number; going = cond handed.failed Failed c.going; read = c.read; handed = handed; file = c.file; summary = c.summary }
 
 -- the end of a course: it stays where it has failed or is not summed; else its summary is handed to be written
 pub data Closed (sums : Bool) (before : Course) : Course → Type 0 where
-  failed : before.failed ≡ true → Closed sums before before
-  plain : before.failed ≡ false → sums ≡ false → Closed sums before before
-  summed : (handed : Handed) → before.failed ≡ false → sums ≡ true → handed.all ≡ counted before.handed.all (length (summary_text before.summary))
+  failed : has_failed before.going ≡ true → Closed sums before before
+  plain : has_failed before.going ≡ false → sums ≡ false → Closed sums before before
+  summed : (handed : Handed) → has_failed before.going ≡ false → sums ≡ true → handed.all ≡ counted before.handed.all (length (summary_text before.summary))
       → Closed sums before (with_summary handed before)
 
 -- the course that the program comes to
@@ -121,4 +136,4 @@ pub record Finished (chip : Chip) (sums : Bool) (r : Course) : Type 0 where
 
 -- what it handed to be written, in all
 unfoldable pub whole_text : {chip : Chip} {sums : Bool} {r : Course} → Finished chip sums r → List ℕ
-whole_text {sums = sums} e = e.came.text ++ cond e.before.failed [] (closing sums e.before.summary)
+whole_text {sums = sums} e = e.came.text ++ cond (has_failed e.before.going) [] (closing sums e.before.summary)

@@ -4,28 +4,59 @@ ghost use Rattle.io.specs.Counts.{IsPrefixLen};
 ghost use Rattle.shell.specs.Parts.{counted};
 ghost use Rattle.explaining.specs.Explained.{record_most};
 ghost use Rattle.summing.specs.Closing.{summary_most, summary_text};
-ghost use Rattle.explain.specs.Told.{record_summed, record_told};
-ghost use Rattle.explain.specs.Turns.{Came, Closed, Finished, Turned, beginning, failed_after, over_after};
+ghost use Rattle.summing.specs.Told.{record_told};
+ghost use Rattle.explain.specs.Turns.{Came, Closed, Finished, Turned, beginning, failed_after, going_behind, has_failed, has_more, over_after};
 
 use access::Item;
 use explaining::record_lines;
 use file::{Chip, File};
 use shell::{Filled, Handed, fill, nothing_handed, nothing_read, tell, write_out};
 use std::io::Read;
-use summing::{Summary, summary_lines, take_in, together_lines};
+use summing::{Summary, record_summed, summary_lines, together_lines};
 use trace::item_of;
 
-// How far a run has come: how many records there were, whether there is more to read, whether something failed, what was read and what
-// was handed to be written, the file after the records, and their summary, where they are summed.
+// How a course goes on: there is more to read, the trace has ended, or something failed.
+#[derive(Clone, Copy)]
+pub enum Going {
+    More,
+    Ended,
+    Failed,
+}
+
+// How far a run has come: how many records there were, how it goes on, what was read and what was handed to be written, the file after the
+// records, and their summary, where they are summed.
 #[derive(Clone, Copy)]
 pub struct Course {
     pub number: u64,
-    pub more: bool,
-    pub failed: bool,
+    pub going: Going,
     pub read: Filled,
     pub handed: Handed,
     pub file: File,
     pub summary: Summary,
+}
+
+impl Course {
+    // Whether there is more to read.
+    fn has_more(self) -> bool
+        ensures { result ≡ has_more self.going }
+    {
+        match self.going {
+            Going::More => true,
+            Going::Ended => false,
+            Going::Failed => false,
+        }
+    }
+
+    // Whether something failed.
+    pub fn has_failed(self) -> bool
+        ensures { result ≡ has_failed self.going }
+    {
+        match self.going {
+            Going::More => false,
+            Going::Ended => false,
+            Going::Failed => true,
+        }
+    }
 }
 
 // One turn: where its lines end, and the course after it.
@@ -42,8 +73,7 @@ fn begin(chip: Chip) -> Course
     let file = File::power_on(chip);
     Course {
         number: 0,
-        more: true,
-        failed: false,
+        going: Going::More,
         read: nothing_read(),
         handed: nothing_handed(),
         file,
@@ -56,8 +86,7 @@ fn failed(before: Course) -> Course
     ensures { result ≡ failed_after before }
 {
     let mut course = before;
-    course.more = false;
-    course.failed = true;
+    course.going = Going::Failed;
     course
 }
 
@@ -65,7 +94,7 @@ fn failed(before: Course) -> Course
 fn over(err: &impl Print, before: Course) -> Course
     ensures { result ≡ over_after before }
 {
-    if before.more {
+    if before.has_more() {
         tell(err, b"explain", b": more records than there are numbers");
         return failed(before);
     }
@@ -86,7 +115,7 @@ fn read_record<I: Read>(
     fill(input, err, b"explain", before, bytes)
 }
 
-// What is told of a record, from the start of a buffer on, and where it ends.
+// What is told of a record, from the start of a buffer on, and where it ends. That of the job stores behind what stands in a buffer already.
 fn told_end(sums: bool, number: u64, file: File, item: Item, lines: &mut [u8]) -> usize
     requires { record_most ≤ length lines.old }
     ensures prefix_len { IsPrefixLen result lines.new }
@@ -99,14 +128,11 @@ fn told_end(sums: bool, number: u64, file: File, item: Item, lines: &mut [u8]) -
     record_lines(lines, 0, number, file, item).end
 }
 
-// The summary with a record more, where one is kept.
-fn summed(sums: bool, summary: Summary, file: File, item: Item) -> Summary
-    ensures { result ≡ record_summed sums summary file item }
+// How a course goes on behind so many bytes: fewer than a record has are the last.
+fn going_behind(size: usize) -> Going
+    ensures { result ≡ going_behind size }
 {
-    if sums {
-        return take_in(summary, file, item);
-    }
-    summary
+    if size == 8 { Going::More } else { Going::Ended }
 }
 
 // One turn, a function of the bytes that were read: a record, its fragment, or none.
@@ -116,14 +142,13 @@ fn tell_some(sums: bool, before: Course, bytes: &[u8], lines: &mut [u8; 3360]) -
     ensures { Turned sums before bytes.now lines.old lines.new result }
 {
     let mut course = before;
-    course.more = bytes.len() == 8;
-    course.failed = false;
+    course.going = going_behind(bytes.len());
     if bytes.len() == 0 {
         return Turn { end: 0, course };
     }
     let item = item_of(bytes);
     let end = told_end(sums, before.number, before.file, item, lines);
-    let summary = summed(sums, before.summary, before.file, item);
+    let summary = record_summed(sums, before.summary, before.file, item);
     let accessed = item.access(before.file);
     let file = accessed.file;
     course.number = before.number + 1;
@@ -132,7 +157,7 @@ fn tell_some(sums: bool, before: Course, bytes: &[u8], lines: &mut [u8; 3360]) -
     Turn { end, course }
 }
 
-// The whole of a trace, on a chip. A proved loop has to end, so this one counts its turns down.
+// The whole of a trace, on a chip. A proved loop has to end, so this one has as many turns as there are numbers.
 fn tell_input(rt: &(impl Input + Print), err: &impl Print, chip: Chip, sums: bool) -> Course
     ensures { Came chip sums result }
 {
@@ -140,8 +165,10 @@ fn tell_input(rt: &(impl Input + Print), err: &impl Print, chip: Chip, sums: boo
     let mut bytes = [0u8; 8];
     let mut lines = [0u8; 3360];
     let mut course = begin(chip);
-    let mut turns = u64::MAX;
-    while turns > 0 && course.more {
+    for _turn in 0..u64::MAX {
+        if !course.has_more() {
+            return course;
+        }
         let read = read_record(&mut input, err, course.read, &mut bytes);
         course.read = read;
         if read.has_failed() {
@@ -156,7 +183,6 @@ fn tell_input(rt: &(impl Input + Print), err: &impl Print, chip: Chip, sums: boo
         if handed.has_failed() {
             return failed(course);
         }
-        turns -= 1;
     }
     over(err, course)
 }
@@ -175,7 +201,7 @@ fn summary_end(summary: Summary, lines: &mut [u8]) -> usize
 fn close(rt: &impl Print, err: &impl Print, sums: bool, before: Course) -> Course
     ensures { Closed sums before result }
 {
-    if before.failed {
+    if before.has_failed() {
         return before;
     }
     if !sums {
@@ -185,8 +211,10 @@ fn close(rt: &impl Print, err: &impl Print, sums: bool, before: Course) -> Cours
     let end = summary_end(before.summary, &mut lines);
     let handed = write_out(rt, err, b"explain", before.handed, &lines[..end]);
     let mut course = before;
-    course.failed = handed.has_failed();
     course.handed = handed;
+    if handed.has_failed() {
+        return failed(course);
+    }
     course
 }
 

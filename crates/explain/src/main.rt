@@ -3,7 +3,7 @@
 
 mod course;
 
-use choosing::{Choice, Chosen, choose, choose_behind, read_arg};
+use choosing::{choose, read_arg};
 use shell::tell_choice;
 use std::rt::Env;
 
@@ -14,19 +14,12 @@ fn asks_summary(rt: &impl Env) -> bool {
     check::same(&word[..size], b"--summary")
 }
 
-// The words behind it choose the chip; which engine they name makes no difference.
-fn choice_by(rt: &impl Env, sums: bool) -> Choice {
-    if sums {
-        return choose_behind(rt);
-    }
-    choose(rt)
-}
-
 fn main(rt: HostRuntime) {
     let err = rt.stderr();
     let sums = asks_summary(&rt);
-    let chosen = tell_choice(&err, b"explain", choice_by(&rt, sums));
-    if let Chosen::On(chip, _) = chosen {
-        course::explain(&rt, &err, chip, sums);
+    // The words behind --summary choose the chip; which engine they name makes no difference.
+    let choice = choose(&rt, usize::from(sums));
+    if let Some(chosen) = tell_choice(&err, b"explain", choice) {
+        course::explain(&rt, &err, chosen.chip, sums);
     }
 }

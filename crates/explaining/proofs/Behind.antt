@@ -8,9 +8,9 @@ use lib.Dec.{ltb}
 use lib.ListN.{get_or, length, drop, replicate, drop_of_length-le, get_or-eq_default}
 use lib.Seq.{drop-cons}
 use Rattle.bits.proofs.Test.{by-test}
-use Rattle.explaining.specs.declared.line.Line.{Line}
 use Rattle.explaining.specs.declared.token.Token.{Token}
-use Rattle.explaining.specs.Lines.{behind, byte_behind, token_text, tokens_text, up_to_dot}
+use Rattle.text.specs.Fixed.{behind, byte_behind}
+use Rattle.explaining.specs.Lines.{Line, token_text, tokens_text, up_to_dot}
 
 -- one text behind another
 pub behind-append : (l : Line) (a b : List ℕ) → behind (behind l a) b ≡ behind l (a ++ b)
@@ -20,17 +20,6 @@ behind-append l (x ∷ a) b = behind-append (byte_behind l x) a b
 
 pub then-behind : (l : Line) {m n : Line} (a b : List ℕ) → m ≡ behind l a → n ≡ behind m b → n ≡ behind l (a ++ b)
 then-behind l a b e f = f ∙ ap (λ (k : Line). behind k b) e ∙ behind-append l a b
-
--- the byte at a place of a text, and what stands behind it
-pub next-byte : (l : Line) (text : List ℕ) (i : ℕ) → i < length text
-    → behind (byte_behind l (get_or text i 0)) (drop (i + 1) text) ≡ behind l (drop i text)
-unfolding behind
-next-byte l text i h = rw (drop-cons text i 0 h, add-one)
-
--- behind the last there is none
-pub no_byte : (l : Line) (text : List ℕ) (i : ℕ) → length text ≤ i → behind l (drop i text) ≡ l
-unfolding behind
-no_byte l text i h = rw (drop_of_length-le text h)
 
 -- where a text shows a byte, it has not ended
 pub some_byte : (text : List ℕ) (i : ℕ) → (get_or text i 0 ≡ 0 → ⊥) → i < length text

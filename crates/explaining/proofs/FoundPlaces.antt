@@ -2,6 +2,7 @@
 use Prim.Native.Nat.{ℕ, zero, suc, ◌<◌}
 use mathlib.Core.Bool.{true, false, true≢false}
 use mathlib.Core.List.{List}
+use Rattle.std.specs.Prelude.{None, Some}
 use mathlib.Core.Path.{◌≡◌, refl, sym, ap, ◌∙◌}
 use native.Mathlib.Omega.{arith}
 use lib.Dec.{T}
@@ -17,7 +18,6 @@ use Rattle.places.proofs.CellsOfRows.{Outcome, nothing, held, outcome, spoken}
 use Rattle.places.proofs.IndexedPorts.{decider, count, Indexed, cell-names}
 use Rattle.places.proofs.NotHeld.{something-held, cell-held, cell-spoken}
 use Rattle.places.proofs.TableOfCells.{cell-true}
-use Rattle.explaining.specs.declared.words.Found.TheVariants.{Held, NotFound}
 use Rattle.explaining.specs.Words.{found_at}
 
 -- the index registers of a sound file
@@ -36,16 +36,16 @@ module _ (f : File) (s : T (sound f)) (kind address : ℕ) (low : kind < 6) wher
   Cell = cell_in (cell_table f.state.chip) kind address
 
   -- no row where the cell says that nothing is held
-  pub found_none : is_nothing Cell ≡ true → NotFound ≡ found_at (row_at f kind address)
+  pub found_none : is_nothing Cell ≡ true → None ≡ found_at (row_at f kind address)
   found_none e = by (outcome f kind address low)
     where
-      by : Outcome f kind address → NotFound ≡ found_at (row_at f kind address)
+      by : Outcome f kind address → None ≡ found_at (row_at f kind address)
       by (nothing n c) = rw n
       by (held row n k a t) =
           absurd (true≢false (sym e ∙ ap is_nothing (cell-true f.state.chip kind low address ∙ cell-spoken f.state.chip kind address (spoken row _ t).something) ∙ (spoken row _ t).something))
 
   -- else the place that it names
-  pub found_some : is_nothing Cell ≡ false → Held (cell_place (cell_table f.state.chip) f Cell) ≡ found_at (row_at f kind address)
+  pub found_some : is_nothing Cell ≡ false → Some (cell_place (cell_table f.state.chip) f Cell) ≡ found_at (row_at f kind address)
   unfolding place_at place_of_row
   found_some e = by (outcome f kind address low)
     where
@@ -60,9 +60,9 @@ module _ (f : File) (s : T (sound f)) (kind address : ℕ) (low : kind < 6) wher
           cell-names f (indices f s) kind address low (something-held f.state.chip kind address there)
           ∙ ap (cell_place (cell_table f.state.chip) f) (sym true-cell)
 
-      by : Outcome f kind address → Held (cell_place (cell_table f.state.chip) f Cell) ≡ found_at (row_at f kind address)
+      by : Outcome f kind address → Some (cell_place (cell_table f.state.chip) f Cell) ≡ found_at (row_at f kind address)
       by (nothing n c) = absurd (something-held f.state.chip kind address there c)
-      by (held row n k a t) = ap Held (sym named ∙ ap place_of_row n) ∙ ap found_at (sym n)
+      by (held row n k a t) = ap Some (sym named ∙ ap place_of_row n) ∙ ap found_at (sym n)
 
 -- what a cell names goes by registers and state alone
 pub place-seen : (cells : List ℕ) (f : File) (cell : ℕ) → cell_place cells (seen f.registers f.state) cell ≡ cell_place cells f cell

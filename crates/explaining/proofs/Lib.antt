@@ -1,9 +1,10 @@
 pub mod Behind
-pub mod Typed
 pub mod Spelled
 pub mod FoundPlaces
 pub mod MovedBits
 pub mod Unmoved
 pub mod PutLines
+pub mod RecordLines
+pub mod Phrased
 pub mod RoomLined
 pub mod NothingDropped

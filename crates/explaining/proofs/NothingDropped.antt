@@ -2,6 +2,7 @@
 use Prim.Native.Nat.{ℕ, zero, suc, ◌+◌, ◌-◌, ◌/◌, ◌%◌, ◌^◌, ◌≤◌, ◌<◌}
 use mathlib.Core.Bool.{Bool, true, false, cond, not, ◌&&◌, ◌||◌}
 use mathlib.Core.List.{List, [], ◌∷◌}
+use Rattle.std.specs.Prelude.{None, Option, Some}
 use mathlib.Core.Path.{◌≡◌, refl, ap}
 use native.Mathlib.Omega.{arith}
 use borrow.Author.Tests.{leb-true, ltb-false, ltb-true}
@@ -40,12 +41,10 @@ use Rattle.text.specs.Text.{decimal}
 use Rattle.text.proofs.Places.{most-places}
 use Rattle.text.proofs.Spelled.{digits-length}
 use Rattle.explaining.specs.declared.explain.Case.{Case}
-use Rattle.explaining.specs.declared.line.Line.{Line}
 use Rattle.explaining.specs.declared.token.Token.{Token}
-use Rattle.explaining.specs.declared.words.Found.{Found}
-use Rattle.explaining.specs.declared.words.Found.TheVariants.{Held, NotFound}
 use Rattle.explaining.specs.Explained.{beam_line, bit_digits, byte_token, case_of, changed, colour_word, entry_line, first_line, head_line, line_at, marks_line, marks_words, number_line, part_line, pointer_line, pointer_words, register_part, toggle_line, toggle_words}
-use Rattle.explaining.specs.Lines.{behind, blank, byte_behind, columned, decimal_token, form_text, gap, hex_of, hex_token, line_most, name_token, nothing, phrase, say, told, token_text, tokens_text, up_to_dot, words_token}
+use Rattle.text.specs.Fixed.{behind, byte_behind}
+use Rattle.explaining.specs.Lines.{Line, blank, columned, decimal_token, gap, hex_of, hex_token, line_most, name_token, no_words, nothing, phrase, say, token_text, tokens_text, told, up_to_dot, words_token}
 use Rattle.explaining.specs.Moves.{number_label, number_names, number_rows, numbers_in}
 use Rattle.explaining.specs.Words.{access_why, access_words, answer_words, bytes_word, code_names, code_rows, code_word, code_words, comma_word, direction_words, done_words, down_words, equals_word, fixed_words, found_words, half_words, has_value, has_width, inside_words, is_odd, item_words, locked_words, looked_words, malformed_word, malformed_words, off_words, passing_why, passing_words, place_words, read_address_word, record_words, short, space_word, value_digits, value_token, way_word, width_token, width_words, write_address_word}
 use Rattle.explaining.proofs.Unmoved.{number_in}
@@ -109,15 +108,15 @@ digits-hex zero n = refl
 digits-hex (suc k) n = ap suc (digits-hex k n)
 
 pub hex-within : (most digits n : ℕ) → digits < most → Within (hex_token digits n) most
-unfolding form_text ascii
+unfolding token_text ascii
 hex-within most digits n h = record { most = rw length-append (omega (arith, digits-hex digits n, h)) }
 
 pub decimal-within : (j n : ℕ) → n < 10 ^ suc j → Within (decimal_token n) (suc j)
-unfolding form_text decimal
+unfolding token_text decimal
 decimal-within j n h = record { most = rw digits-length (most-places j n n h) }
 
 pub name-within : (n : ℕ) → Within (name_token n) 10
-unfolding form_text
+unfolding token_text
 name-within n = record { most = name-short n }
 
 one_of : {m n : ℕ} (most : ℕ) (b : Bool) → m < most → n < most → cond b m n < most
@@ -132,7 +131,7 @@ short-within n = hex-within 5 _ n (one_of {m = 2} {n = cond (ltb n 0x1000) 3 4} 
 
 module _ (r : Record) where
   access-short : r.width < 256 → Total (access_words r) 41
-  unfolding access_words space_word way_word equals_word value_token comma_word width_token bytes_word tokens_text form_text ascii up_to_dot
+  unfolding access_words space_word way_word equals_word value_token comma_word width_token bytes_word tokens_text token_text ascii up_to_dot
   access-short h =
       more (either (eqb (r.kind / 2) 0) (spoken 7 refl) (either (eqb (r.kind / 2) 1) (spoken 7 refl) (spoken 7 refl)))
       (more (either (is_write r) (spoken 6 refl) (spoken 6 refl))
@@ -149,7 +148,7 @@ module _ (r : Record) where
           (one_of {m = 4} {n = 8} 9 (ltb r.value 0x10000) (omega arith) (omega arith))
 
   passing-short : r.width < 256 → r.value < 2 ^ 32 → Total (passing_words r) 41
-  unfolding passing_words tokens_text form_text ascii up_to_dot
+  unfolding passing_words tokens_text token_text ascii up_to_dot
   passing-short width value =
       more (spoken 11 refl)
       (more (decimal-within 9 r.value (omega (arith, value)))
@@ -159,21 +158,21 @@ module _ (r : Record) where
       (more (either (is_odd r) (short-within r.address) (spoken 5 refl)) (ended refl))))))
 
   record-short : r.kind < 256 → r.width < 256 → r.value < 2 ^ 32 → Total (record_words r) 41
-  unfolding record_words tokens_text form_text ascii up_to_dot
+  unfolding record_words tokens_text token_text ascii up_to_dot
   record-short kind width value =
       eithers (ltb r.kind 6) (access-short width)
       (eithers (is_passing r) (passing-short width value)
       (up 41 (omega arith) (more (spoken 5 refl) (more (decimal-within 2 r.kind (omega (arith, kind))) (ended refl)))))
 
 item-short : (r : Record) (whole : Bool) → r.kind < 256 → r.width < 256 → r.value < 2 ^ 32 → Total (item_words whole r) 41
-unfolding item_words tokens_text form_text ascii up_to_dot
+unfolding item_words tokens_text token_text ascii up_to_dot
 item-short r whole kind width value = eithers whole (record-short r kind width value) (up 41 (omega arith) (more (spoken 8 refl) (ended refl)))
 
 -- ---- the place
 
 module _ (r : Record) where
   place_short : (place : Place) → Total (place_words r place) 19
-  unfolding place_words read_address_word write_address_word fixed_words tokens_text form_text ascii up_to_dot
+  unfolding place_words read_address_word write_address_word fixed_words tokens_text token_text ascii up_to_dot
   place_short (Register number) = up 19 (omega arith) (more (name-within number) (ended refl))
   place_short (Attribute number) = up 19 (omega arith) (more (name-within number) (more (spoken 8 refl) (ended refl)))
   place_short (Fixed value) = up 19 (omega arith) (more (either (eqb value pci00) (spoken 5 refl) (spoken 5 refl)) (ended refl))
@@ -191,13 +190,13 @@ module _ (r : Record) where
   place_short CurrentLine = up 19 (omega arith) (more (spoken 4 refl) (ended refl))
   place_short Passing = up 19 (omega arith) (more (spoken 4 refl) (ended refl))
 
-  found-short : (found : Found) → Total (found_words r found) 19
-  unfolding found_words tokens_text form_text ascii up_to_dot
-  found-short NotFound = up 19 (omega arith) (more (spoken 12 refl) (ended refl))
-  found-short (Held place) = place_short place
+  found-short : (found : Option Place) → Total (found_words r found) 19
+  unfolding found_words tokens_text token_text ascii up_to_dot
+  found-short None = up 19 (omega arith) (more (spoken 12 refl) (ended refl))
+  found-short (Some place) = place_short place
 
-  looked-short : (whole : Bool) (code : ℕ) (found : Found) → Total (looked_words whole code r found) 19
-  unfolding looked_words tokens_text form_text ascii up_to_dot
+  looked-short : (whole : Bool) (code : ℕ) (found : Option Place) → Total (looked_words whole code r found) 19
+  unfolding looked_words tokens_text token_text ascii up_to_dot
   looked-short whole code found =
       eithers (not whole || eqb code 12) (up 19 (omega arith) (more (spoken 13 refl) (ended refl)))
       (eithers (eqb code 16 || eqb code 17) (up 19 (omega arith) (more (spoken 14 refl) (ended refl))) (found-short found))
@@ -205,7 +204,7 @@ module _ (r : Record) where
 -- ---- the answer
 
 pub one-decimal : (j n : ℕ) → n < 10 ^ suc j → Total (phrase (decimal_token n ∷ [])) (suc j + 0)
-unfolding tokens_text form_text up_to_dot
+unfolding tokens_text token_text up_to_dot
 one-decimal j n h = more (decimal-within j n h) (ended refl)
 
 code-short : (a : Answer) → Total (phrase (decimal_token (code_of a) ∷ [])) 2
@@ -230,13 +229,13 @@ code-short InsideWider = one-decimal 1 17 (omega arith)
 
 -- three registers' names
 pub lock-short : Total locked_words 36
-unfolding locked_words name_table registers tokens_text form_text ascii up_to_dot
+unfolding locked_words name_table registers tokens_text token_text ascii up_to_dot
 lock-short =
     up 36 (omega arith) (more (spoken 4 refl) (more (spoken 10 refl) (more (spoken 3 refl) (more (spoken 4 refl) (more (spoken 3 refl) (ended refl))))))
 
 module _ (f : File) (r : Record) (whole : Bool) where
   answer-short : (a : Answer) → Total (answer_words f r whole a) 36
-  unfolding answer_words code_words code_word code_rows code_names locked_words done_words malformed_words malformed_word passing_why access_why off_words half_words width_words down_words direction_words inside_words tokens_text form_text ascii up_to_dot
+  unfolding answer_words code_words code_word code_rows code_names locked_words done_words malformed_words malformed_word passing_why access_why off_words half_words width_words down_words direction_words inside_words tokens_text token_text ascii up_to_dot
   answer-short (Done value) =
       eithers (carries r) (up 36 (omega arith) (more (spoken 4 refl) (ended refl)))
       (up 36 (omega arith) (more (spoken 5 refl) (more (hex-within 5 _ value (one_of {m = 2} {n = 4} 5 (eqb r.width 1) (omega arith) (omega arith))) (ended refl))))
@@ -292,15 +291,15 @@ ends-column {l} {m} column c a =
     record { most = omega (arith, behind-end l spaces, length-replicate {A = ℕ} (gap l.end column) 0x20, gap-end l.end column m a.most c) }
 
 arrow : Total (phrase (say " -> " ∷ [])) 4
-unfolding tokens_text form_text ascii up_to_dot
+unfolding tokens_text token_text ascii up_to_dot
 arrow = more (spoken 4 refl) (ended refl)
 
 not-moved : Total (phrase (say ", not moved" ∷ [])) 11
-unfolding tokens_text form_text ascii up_to_dot
+unfolding tokens_text token_text ascii up_to_dot
 not-moved = more (spoken 11 refl) (ended refl)
 
 no_word : Total (phrase (nothing ∷ [])) 0
-unfolding tokens_text form_text ascii up_to_dot
+unfolding tokens_text token_text ascii up_to_dot
 no_word = more (spoken 0 refl) (ended refl)
 
 pub ends-changed : {l : Line} {before after : List Token} {m n : ℕ} (k : ℕ) (moved : Bool) → 11 ≤ k → 4 + n ≤ k → Ends l m → Total before n → Total after n
@@ -327,28 +326,28 @@ unfolding bit_digits
 few-digits bits = one_of {m = 2} {n = 4} 5 (ltb bits 0x100) (omega arith) (omega arith)
 
 bits-short : (bits n : ℕ) → Total (phrase (hex_token (bit_digits bits) n ∷ [])) 5
-unfolding tokens_text form_text up_to_dot
+unfolding tokens_text token_text up_to_dot
 bits-short bits n = more (hex-within 5 (bit_digits bits) n (few-digits bits)) (ended refl)
 
 reach-short : (number bits : ℕ) → Total (phrase (name_token number ∷ say "[" ∷ hex_token (bit_digits bits) bits ∷ say "] " ∷ [])) 18
-unfolding tokens_text form_text ascii up_to_dot
+unfolding tokens_text token_text ascii up_to_dot
 reach-short number bits =
     more (name-within number) (more (spoken 1 refl) (more (hex-within 5 (bit_digits bits) bits (few-digits bits)) (more (spoken 2 refl) (ended refl))))
 
 colour-within : (n : ℕ) → Within (colour_word n) 5
-unfolding colour_word form_text ascii up_to_dot
+unfolding colour_word token_text ascii up_to_dot
 colour-within n = either (eqb n 0) (spoken 5 refl) (either (eqb n 1) (spoken 5 refl) (spoken 5 refl))
 
 -- words of a table
-pub rows-within : (rows : List (List ℕ)) → T (every_below (λ (j : ℕ). leb (length (up_to_dot (get_or rows j nothing.bytes))) 24) (length rows)) → (k : ℕ)
-    → Within (words_token (get_or rows k nothing.bytes)) 24
-unfolding form_text up_to_dot
+pub rows-within : (rows : List (List ℕ)) → T (every_below (λ (j : ℕ). leb (length (up_to_dot (get_or rows j no_words))) 24) (length rows)) → (k : ℕ)
+    → Within (words_token (get_or rows k no_words)) 24
+unfolding token_text up_to_dot
 rows-within rows all k =
     by-test (ltb k (length rows))
-    (λ e. record { most = leb→le _ 24 (below (λ (j : ℕ). leb (length (up_to_dot (get_or rows j nothing.bytes))) 24) (length rows) all k (ltb-true k (length rows) e)) })
-    (λ e. record { most = rw (get_or-eq_default rows nothing.bytes {n = k} (ltb-false k (length rows) e)) (omega arith) })
+    (λ e. record { most = leb→le _ 24 (below (λ (j : ℕ). leb (length (up_to_dot (get_or rows j no_words))) 24) (length rows) all k (ltb-true k (length rows) e)) })
+    (λ e. record { most = rw (get_or-eq_default rows no_words {n = k} (ltb-false k (length rows) e)) (omega arith) })
 
-pub row_within : (k : ℕ) → Within (words_token (get_or number_rows k nothing.bytes)) 24
+pub row_within : (k : ℕ) → Within (words_token (get_or number_rows k no_words)) 24
 unfolding number_rows number_names every_below up_to_dot ascii
 row_within k = rows-within number_rows tt k
 
@@ -394,14 +393,14 @@ module _ (c : Case) (fits : Fitting c) where
   part-ends {p = p} {n = n} k false moved a b label before after = ends-up (65 + p + n + k) (omega arith) nothing_yet
 
   toggle-ends : Ends (toggle_line c) 157
-  unfolding toggle_line toggle_words tokens_text form_text ascii up_to_dot
+  unfolding toggle_line toggle_words tokens_text token_text ascii up_to_dot
   toggle-ends =
       ends-up 157 (omega arith)
       (part-ends 11 _ _ (omega arith) (omega arith) (more (spoken 7 refl) (ended refl)) (more (either c.before.state.toggle (spoken 5 refl) (spoken 5 refl)) (ended refl))
       (more (either c.after.state.toggle (spoken 5 refl) (spoken 5 refl)) (ended refl)))
 
   pointer-total : (p : Pointer) → Total (pointer_words p) 29
-  unfolding pointer_words byte_token tokens_text form_text ascii up_to_dot
+  unfolding pointer_words byte_token tokens_text token_text ascii up_to_dot
   pointer-total p =
       more (hex-within 3 2 p.address (omega arith))
       (more (either p.reading (spoken 7 refl) (spoken 7 refl))
@@ -410,23 +409,23 @@ module _ (c : Case) (fits : Fitting c) where
       (more (hex-within 3 2 p.red (omega arith)) (more (spoken 1 refl) (more (hex-within 3 2 p.green (omega arith)) (ended refl)))))))
 
   pointer-ends : Ends (pointer_line c) 157
-  unfolding pointer_line tokens_text form_text ascii up_to_dot
+  unfolding pointer_line tokens_text token_text ascii up_to_dot
   pointer-ends =
       ends-up 157 (omega arith)
       (part-ends 33 _ _ (omega arith) (omega arith) (more (spoken 8 refl) (ended refl)) (pointer-total c.before.state.pointer) (pointer-total c.after.state.pointer))
 
   marks-total : (marks : ℕ) → Total (marks_words marks) 11
-  unfolding marks_words tokens_text form_text ascii up_to_dot
+  unfolding marks_words tokens_text token_text ascii up_to_dot
   marks-total marks = more (either (eqb (marks / 4) 1) (spoken 6 refl) (spoken 6 refl)) (more (colour-within (marks % 4)) (ended refl))
 
   marks-ends : Ends (marks_line c) 157
-  unfolding marks_line tokens_text form_text ascii up_to_dot
+  unfolding marks_line tokens_text token_text ascii up_to_dot
   marks-ends =
       ends-up 157 (omega arith)
       (part-ends 15 _ _ (omega arith) (omega arith) (more (spoken 6 refl) (ended refl)) (marks-total c.before.state.marks) (marks-total c.after.state.marks))
 
   entry-ends : Ends (entry_line c) 157
-  unfolding entry_line tokens_text form_text ascii up_to_dot
+  unfolding entry_line tokens_text token_text ascii up_to_dot
   entry-ends =
       ends-up 157 (omega arith)
       (part-ends 11 _ _ (omega arith) (omega arith)
@@ -434,13 +433,13 @@ module _ (c : Case) (fits : Fitting c) where
       (more (hex-within 7 6 _ (omega arith)) (ended refl)) (more (hex-within 7 6 _ (omega arith)) (ended refl)))
 
   beam-ends : Ends (beam_line c) 157
-  unfolding beam_line tokens_text form_text ascii up_to_dot
+  unfolding beam_line tokens_text token_text ascii up_to_dot
   beam-ends =
       ends-up 157 (omega arith)
       (part-ends 11 _ _ (omega arith) (omega arith) (more (spoken 5 refl) (ended refl)) (one-decimal 4 _ (omega (arith, fits.before))) (one-decimal 4 _ (omega (arith, fits.after))))
 
   pub number-ends : (k : ℕ) → Ends (number_line c k) 157
-  unfolding number_line number_label tokens_text form_text ascii up_to_dot
+  unfolding number_line number_label tokens_text token_text ascii up_to_dot
   number-ends k =
       ends-up 157 (omega arith)
       (part-ends 14 _ _ (omega arith) (omega arith) (more (row_within k) (more (spoken 1 refl) (ended refl)))

@@ -1,54 +1,27 @@
 -- A line stored into a buffer, byte by byte. Assumes nothing.
-use Prim.Native.Nat.{ℕ, suc, ◌+◌, ◌-◌, ◌*◌, ◌≤◌, ◌<◌, min}
-use mathlib.Core.List.{List, ◌++◌}
+use Prim.Native.Nat.{ℕ, zero, suc, ◌+◌, ◌-◌, ◌*◌, ◌≤◌, ◌<◌}
+use mathlib.Core.List.{List, ◌++◌, append_assoc}
 use mathlib.Core.Path.{◌≡◌, refl, sym, ap, ◌∙◌}
-use native.Mathlib.Nat.{sub-zero}
+use native.Mathlib.Nat.{add-zero, sub-zero}
 use native.Mathlib.Omega.{arith}
-use borrow.Author.Tests.{eq-eqb, leb-false, leb-true, ne_eqb}
-use lib.Dec.{eqb, leb}
-use lib.ListN.{get_or, length, drop, set, take, length-take, drop_of_length-le, length-append}
-use lib.Seq.{get_or-take, length-sets, sets, take_all}
+use borrow.Author.Tests.{eq-eqb, ne_eqb}
+use lib.Dec.{eqb}
+use lib.ListN.{length, take, length-take, length-append}
+use lib.Seq.{length-sets, sets}
 use Rattle.bits.proofs.Test.{by-test}
 use Rattle.text.specs.Lent.{Wrote}
 use Rattle.text.specs.Text.{newline}
-use Rattle.text.proofs.Stores.{copy-byte, one_byte, rest-stored, then-text}
-use Rattle.explaining.specs.declared.line.Line.{Line}
-use Rattle.explaining.specs.Lines.{line_room, line_text, lines_of}
-
--- one byte more of a text's beginning
-pub next-stored : (buffer bytes : List ℕ) (at count i : ℕ) → i < count → count ≤ length bytes
-    → sets (set buffer (at + i) (get_or bytes i 0)) (at + (i + 1)) (drop (i + 1) (take count bytes)) ≡ sets buffer (at + i) (drop i (take count bytes))
-next-stored buffer bytes at count i h l =
-    ap (λ (b : ℕ). sets (set buffer (at + i) b) (at + (i + 1)) (drop (i + 1) (take count bytes))) (sym (get_or-take count bytes i 0 h))
-    ∙ copy-byte buffer at i (take count bytes) (omega (arith, length-take count bytes, h, l))
+use Rattle.text.proofs.Stores.{rest-stored, then-text}
+use Rattle.explaining.specs.Lines.{Line, line_room, line_text, lines_of}
 
 -- a line that has nothing is none
 pub no_line : (line : Line) (buffer : List ℕ) (at : ℕ) → line.end ≡ 0 → Wrote buffer at (line_text line) buffer at
 no_line line buffer at e = rw (eq-eqb line.end 0 e) (record { bytes = refl; place = omega arith })
 
--- of more bytes than there are, all are taken
-clipped : (bytes : List ℕ) (end count : ℕ) → length bytes ≡ 159 → count ≡ min end 159 → take end bytes ≡ take count bytes
-clipped bytes end count long e =
-    by-test (leb end 159) (λ t. let same : end ≡ count = omega (arith, leb-true end 159 t, e) in ap (λ (n : ℕ). take n bytes) same)
-    (λ t. take_all end bytes (omega (arith, leb-false end 159 t, long)) ∙ sym (take_all count bytes (omega (arith, leb-false end 159 t, long, e))))
-
 -- any other has its bytes and a newline
-pub whole-line : (line : Line) (before buffer : List ℕ) (at count : ℕ) → length line.bytes ≡ 159 → count ≡ min line.end 159 → (line.end ≡ 0 → ⊥)
-    → sets buffer (at + count) (drop count (take count line.bytes)) ≡ sets before at (take count line.bytes)
-    → Wrote before at (line_text line) (set buffer (at + count) 0x0A) (at + count + 1)
-unfolding newline
-whole-line line before buffer at count long e some h =
-    rw (ne_eqb line.end 0 some, ended)
-    (then-text first (one_byte buffer (at + count) 0x0A))
-  where
-    ended : take line.end line.bytes ≡ take count line.bytes
-    ended = clipped line.bytes line.end count long e
-
-    stored : buffer ≡ sets before at (take count line.bytes)
-    stored = ap (sets buffer (at + count)) (sym (drop_of_length-le (take count line.bytes) {i = count} (omega (arith, length-take count line.bytes)))) ∙ h
-
-    first : Wrote before at (take count line.bytes) buffer (at + count)
-    first = record { bytes = stored; place = omega (arith, length-take count line.bytes, e, long) }
+pub whole-line : (line : Line) (before middle after : List ℕ) (at p q : ℕ) → (line.end ≡ 0 → ⊥) → Wrote before at (take line.end line.bytes) middle p
+    → Wrote middle p newline after q → Wrote before at (line_text line) after q
+whole-line line before middle after at p q some first second = rw (ne_eqb line.end 0 some) (then-text first second)
 
 -- a line has 160 bytes at most
 pub line-short : (line : Line) → length line.bytes ≡ 159 → length (line_text line) ≤ line_room
@@ -70,10 +43,10 @@ module _ (line_of : ℕ → Line) (count : ℕ) where
   lining-none buffer at = record { stored = rw sub-zero refl; place = rw sub-zero refl; near = omega arith; few = omega arith; long = refl }
 
   module _ (buffer₀ : List ℕ) (at : ℕ) (buffer : List ℕ) (at' k : ℕ) (held : Lining line_of count buffer₀ at buffer at' k) where
-    pub lining-next : k < count → (line : Line) → line ≡ line_of k → length line.bytes ≡ 159 → (after : List ℕ) (end : ℕ)
-        → Wrote buffer at' (line_text line) after end → Lining line_of count buffer₀ at after end (k + 1)
+    pub lining-next : k < count → (line : Line) → line ≡ line_of k → (after : List ℕ) (end : ℕ)
+        → Wrote buffer at' (line_text line) after end → end ≤ at' + line_room → Lining line_of count buffer₀ at after end (k + 1)
     unfolding lines_of
-    lining-next more line e size after end wrote =
+    lining-next more line e after end wrote short =
         let next : k + 1 ≡ suc k = omega arith in
         let left : count - k ≡ suc (count - (k + 1)) = omega (arith, more) in
         let rest : List ℕ = lines_of line_of (k + 1) (count - (k + 1)) in
@@ -81,7 +54,7 @@ module _ (line_of : ℕ → Line) (count : ℕ) where
         record {
           stored = rest-stored rest wrote ∙ ap (sets buffer at') (sym all) ∙ held.stored;
           place = omega (arith, wrote.place, held.place, ap length all, length-append (line_text line) rest);
-          near = omega (arith, wrote.place, held.near, line-short line size);
+          near = omega (arith, held.near, short);
           few = omega (arith, more);
           long = ap length wrote.bytes ∙ length-sets buffer at' (line_text line) ∙ held.long;
         }
@@ -91,3 +64,30 @@ module _ (line_of : ℕ → Line) (count : ℕ) where
     lining-all all =
         let none : count - k ≡ 0 = omega (arith, all) in
         record { bytes = rw none at held.stored; place = omega (arith, rw none at held.place) }
+
+-- lines in two parts
+lines-split : (line_of : ℕ → Line) (k a b : ℕ) → lines_of line_of k (a + b) ≡ lines_of line_of k a ++ lines_of line_of (k + a) b
+unfolding lines_of
+lines-split line_of k zero b =
+    let none : 0 + b ≡ b = omega arith in
+    rw (none, add-zero) refl
+lines-split line_of k (suc a) b =
+    let here : k + suc a ≡ suc k + a = omega arith in
+    let more : suc a + b ≡ suc (a + b) = omega arith in
+    rw (more, here, lines-split line_of (suc k) a b) (sym (append_assoc (line_text (line_of k)) (lines_of line_of (suc k) a) (lines_of line_of (suc k + a) b)))
+
+-- lines numbered from another number on
+lines-moved : (line_of : ℕ → Line) (j k count : ℕ) → lines_of (λ (n : ℕ). line_of (j + n)) k count ≡ lines_of line_of (j + k) count
+unfolding lines_of
+lines-moved line_of j k zero = refl
+lines-moved line_of j k (suc count) =
+    let next : j + suc k ≡ suc (j + k) = omega arith in
+    ap (λ (l : List ℕ). line_text (line_of (j + k)) ++ l) (lines-moved line_of j (suc k) count ∙ ap (λ (n : ℕ). lines_of line_of n count) next)
+
+-- lines from a number on, stored behind those before it
+pub then-lines : (line_of : ℕ → Line) {before middle after : List ℕ} {at p q : ℕ} (a b : ℕ) → Wrote before at (lines_of line_of 0 a) middle p
+    → Wrote middle p (lines_of (λ (n : ℕ). line_of (a + n)) 0 b) after q → Wrote before at (lines_of line_of 0 (a + b)) after q
+then-lines line_of a b first second =
+    let from : a + 0 ≡ 0 + a = omega arith in
+    let rest = lines-moved line_of a 0 b ∙ ap (λ (n : ℕ). lines_of line_of n b) from in
+    rw lines-split (then-text first (rw rest at second))

@@ -3,6 +3,7 @@
 -- number that has a bit there.
 -- Assumes nothing.
 use Rattle.std.specs.Prelude.{ℕ, ◌+◌, ◌-◌, ◌*◌, ◌/◌, ◌%◌, Bool, true, false, cond, not, ◌||◌, List, [], ◌∷◌, eqb, ltb, get_or}
+use Rattle.std.specs.Result.{result_unwrap_or}
 use Rattle.file.specs.declared.answer.Answer.{Answer}
 use Rattle.file.specs.declared.effect.Effect.TheVariants.{Nothing}
 use Rattle.file.specs.declared.effect.Reach.{Reach}
@@ -16,10 +17,9 @@ use Rattle.timing.specs.Table.{wide}
 use Rattle.access.specs.declared.record.Item.{Item}
 use Rattle.access.specs.declared.record.Item.TheVariants.{Whole, Fragment}
 use Rattle.access.specs.Access.{access_item, read_reach, record_in}
-use Rattle.explaining.specs.declared.line.Line.{Line}
 use Rattle.explaining.specs.declared.token.Token.{Token}
 use Rattle.explaining.specs.declared.explain.Case.{Case}
-use Rattle.explaining.specs.Lines.{blank, columned, decimal_token, hex_token, lines_of, most_answer, name_token, nothing, phrase, say, told}
+use Rattle.explaining.specs.Lines.{Line, blank, columned, decimal_token, hex_token, lines_of, most_answer, name_token, nothing, phrase, say, told}
 use Rattle.explaining.specs.Moves.{may_move, number_label, numbers_in}
 use Rattle.explaining.specs.Words.{answer_words, found, item_words, looked_words}
 
@@ -31,7 +31,7 @@ is_whole (Fragment r) = false
 
 -- what a record may change in a file; a fragment is refused
 unfoldable pub reach_in : File → Item → Reach
-reach_in f (Whole r) = (read_reach f r).reach
+reach_in f (Whole r) = result_unwrap_or (read_reach f r) (reach_of Nothing)
 reach_in f (Fragment r) = reach_of Nothing
 
 unfoldable pub case_of : ℕ → File → Item → Case

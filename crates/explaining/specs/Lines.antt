@@ -1,16 +1,16 @@
 -- 'Explain': what a line is made of. A line is written token by token behind what stands there, and nothing stands behind its last place, so that
 -- with its newline it has 160 bytes at most. No line of an explanation gets that far, so none drops a byte: `nothing-dropped`.
 -- Assumes nothing.
-use Rattle.std.specs.Prelude.{ℕ, zero, suc, ◌+◌, ◌-◌, ◌*◌, ◌/◌, ◌%◌, ◌^◌, cond, List, [], ◌∷◌, ◌++◌, eqb, leb, ltb, get_or, length, set, take, replicate}
+use Rattle.std.specs.Prelude.{ℕ, zero, suc, ◌+◌, ◌-◌, ◌*◌, ◌/◌, ◌%◌, ◌^◌, cond, List, [], ◌∷◌, ◌++◌, eqb, leb, ltb, get_or, length, take, replicate}
 use Prim.Native.String.{String}
 use Rattle.file.specs.declared.answer.Answer.{Answer}
 use Rattle.file.specs.declared.answer.Answer.TheVariants.{Done, ShortBuffer}
 use Rattle.file.specs.Readers.{ascii, name_table}
 use Rattle.text.specs.Text.{capital, decimal, newline}
-use Rattle.explaining.specs.declared.line.Line.{Line}
+use Rattle.text.specs.declared.fixed.Line.{Line as LineOf}
+use Rattle.text.specs.Fixed.{behind, blank as blank_of}
 use Rattle.explaining.specs.declared.token.Token.{Token}
-use Rattle.explaining.specs.declared.token.Form.{Form}
-use Rattle.explaining.specs.declared.token.Form.TheVariants.{Words, Name, Decimal, Hex}
+use Rattle.explaining.specs.declared.token.Token.TheVariants.{Words, Name, Decimal, Hex}
 
 -- ---- tokens
 
@@ -25,15 +25,12 @@ hex_of zero n = []
 hex_of (suc k) n = capital (n / 2 ^ (4 * k) % 16) ∷ hex_of k n
 
 -- a token's text: words; a register's name, from the table of registers; a number in decimal; a number in hex, with an h behind it
-unfoldable pub form_text : Form → List ℕ → ℕ → List ℕ
+unfoldable pub token_text : Token → List ℕ
 unfolding ascii
-form_text Words bytes n = up_to_dot bytes
-form_text Name bytes n = get_or name_table n []
-form_text Decimal bytes n = decimal n
-form_text (Hex digits) bytes n = hex_of digits n ++ ascii "h"
-
-abbrev pub token_text : Token → List ℕ
-token_text t = form_text t.form t.bytes t.number
+token_text (Words bytes) = up_to_dot bytes
+token_text (Name n) = get_or name_table n []
+token_text (Decimal n) = decimal n
+token_text (Hex digits n) = hex_of digits n ++ ascii "h"
 
 unfoldable pub tokens_text : List Token → List ℕ
 tokens_text [] = []
@@ -45,23 +42,26 @@ unfolding ascii
 dotted s = take 24 (ascii s ++ replicate 24 0x2E)
 
 abbrev pub words_token : List ℕ → Token
-words_token bytes = record { form = Words; bytes = bytes; number = 0 }
+words_token bytes = Words bytes
 
 abbrev pub say : String → Token
 unfolding dotted
 say s = words_token (dotted s)
 
+abbrev pub no_words : List ℕ
+no_words = replicate 24 0x2E
+
 abbrev pub nothing : Token
-nothing = words_token (replicate 24 0x2E)
+nothing = words_token no_words
 
 abbrev pub name_token : ℕ → Token
-name_token n = record { form = Name; bytes = nothing.bytes; number = n }
+name_token n = Name n
 
 abbrev pub decimal_token : ℕ → Token
-decimal_token n = record { form = Decimal; bytes = nothing.bytes; number = n }
+decimal_token n = Decimal n
 
 abbrev pub hex_token : ℕ → ℕ → Token
-hex_token digits n = record { form = Hex digits; bytes = nothing.bytes; number = n }
+hex_token digits n = Hex digits n
 
 -- tokens as code keeps them, eight at a time
 abbrev pub phrase : List Token → List Token
@@ -73,16 +73,12 @@ phrase ts = take 8 (ts ++ replicate 8 nothing)
 abbrev pub line_most : ℕ
 line_most = 159
 
+-- a line of so many
+abbrev pub Line : Type 0
+Line = LineOf line_most
+
 abbrev pub blank : Line
-blank = record { bytes = replicate line_most 0; end = 0 }
-
--- a byte behind what stands in a line, where there is a place for it
-unfoldable pub byte_behind : Line → ℕ → Line
-byte_behind l b = cond (ltb l.end line_most) (record { bytes = set l.bytes l.end b; end = l.end + 1 }) l
-
-unfoldable pub behind : Line → List ℕ → Line
-behind l [] = l
-behind l (b ∷ bs) = behind (byte_behind l b) bs
+blank = blank_of line_most
 
 -- tokens behind it
 abbrev pub told : Line → List Token → Line

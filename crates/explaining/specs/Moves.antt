@@ -12,7 +12,7 @@ use Rattle.file.specs.Names.{CR0, CR1B}
 use Rattle.timing.specs.Table.{table}
 use Rattle.timing.specs.Timing.{numbers_of, read_timing}
 use Rattle.explaining.specs.declared.token.Token.{Token}
-use Rattle.explaining.specs.Lines.{dotted, nothing, phrase, say, words_token}
+use Rattle.explaining.specs.Lines.{dotted, no_words, phrase, say, words_token}
 
 -- 01, 'Timing', the column 'Number', in table order
 unfoldable pub number_names : List String
@@ -41,7 +41,7 @@ unfoldable pub number_rows : List (List ℕ)
 number_rows = map (λ (name : String). dotted name) number_names
 
 unfoldable pub number_label : ℕ → List Token
-number_label k = phrase (words_token (get_or number_rows k nothing.bytes) ∷ say " " ∷ [])
+number_label k = phrase (words_token (get_or number_rows k no_words) ∷ say " " ∷ [])
 
 -- the numbers of a file
 unfoldable pub numbers_in : File → List ℕ

@@ -1,8 +1,8 @@
 -- 'Explain': a record, the place that it found and its answer, in words. Names of registers come from the table of registers.
 -- Assumes nothing.
-use Rattle.std.specs.Prelude.{ℕ, ◌-◌, ◌/◌, Bool, cond, not, ◌&&◌, ◌||◌, List, [], ◌∷◌, map, eqb, ltb, get_or}
+use Rattle.std.specs.Prelude.{ℕ, ◌-◌, ◌/◌, Bool, cond, not, ◌&&◌, ◌||◌, List, [], ◌∷◌, Option, None, Some, map, eqb, ltb, get_or}
 use Prim.Native.String.{String}
-use Rattle.std.proofs.Math.Option.{Option, none, some}
+use Rattle.std.proofs.Math.Option.{Option as OptionOf, none, some}
 use Rattle.std.specs.Int.Bits.{bit_xor}
 use Rattle.bits.specs.Store.{bit}
 use Rattle.file.specs.declared.answer.Answer.{Answer}
@@ -18,9 +18,7 @@ use Rattle.places.specs.Places.{Row, pci00}
 use Rattle.access.specs.declared.record.Record.{Record}
 use Rattle.access.specs.Checks.{is_write, is_passing, is_port, carries}
 use Rattle.explaining.specs.declared.token.Token.{Token}
-use Rattle.explaining.specs.declared.words.Found.{Found}
-use Rattle.explaining.specs.declared.words.Found.TheVariants.{Held, NotFound}
-use Rattle.explaining.specs.Lines.{decimal_token, dotted, hex_token, name_token, nothing, phrase, say, words_token}
+use Rattle.explaining.specs.Lines.{decimal_token, dotted, hex_token, name_token, no_words, nothing, phrase, say, words_token}
 
 -- ---- the record
 
@@ -94,20 +92,20 @@ item_words whole r = cond whole (record_words r) (phrase (say "fragment" ∷ [])
 
 -- ---- the place that it found
 
-abbrev pub found_at : Option Row → Found
-found_at none = NotFound
-found_at (some row) = Held row.place
+abbrev pub found_at : OptionOf Row → Option Place
+found_at none = None
+found_at (some row) = Some row.place
 
 -- 02, 10/13: lines that pass stand in no space
-unfoldable pub passing_found : Record → Found
-passing_found r = cond (is_passing r && eqb r.address 0) (Held Passing) NotFound
+unfoldable pub passing_found : Record → Option Place
+passing_found r = cond (is_passing r && eqb r.address 0) (Some Passing) None
 
 -- by its kind and address alone, whatever the answer; an unsound file is not looked into
-unfoldable pub found : File → Record → Found
+unfoldable pub found : File → Record → Option Place
 found f r =
     cond (sound f)
     (cond (ltb r.kind 6) (found_at (row_at f r.kind r.address)) (passing_found r))
-    NotFound
+    None
 
 unfoldable pub fixed_words : ℕ → List Token
 fixed_words value = phrase (cond (eqb value pci00) (say "PCI00") (say "SR6") ∷ [])
@@ -137,12 +135,12 @@ place_words r UnnamedAttribute = phrase (say "no register by 3C0h" ∷ [])
 place_words r CurrentLine = phrase (say "line" ∷ [])
 place_words r Passing = phrase (say "line" ∷ [])
 
-unfoldable pub found_words : Record → Found → List Token
-found_words r NotFound = phrase (say "nothing held" ∷ [])
-found_words r (Held place) = place_words r place
+unfoldable pub found_words : Record → Option Place → List Token
+found_words r None = phrase (say "nothing held" ∷ [])
+found_words r (Some place) = place_words r place
 
 -- with its code: a fragment and an unsound file are not looked at, and where a code says that the place is held in another way, it is so held
-unfoldable pub looked_words : Bool → ℕ → Record → Found → List Token
+unfoldable pub looked_words : Bool → ℕ → Record → Option Place → List Token
 looked_words whole code r found =
     cond (not whole || eqb code 12) (phrase (say "not looked at" ∷ []))
     (cond (eqb code 16 || eqb code 17) (phrase (say "held otherwise" ∷ [])) (found_words r found))
@@ -180,7 +178,7 @@ unfoldable pub code_rows : List (List ℕ)
 code_rows = map (λ (name : String). dotted name) code_names
 
 unfoldable pub code_word : ℕ → Token
-code_word code = words_token (get_or code_rows code nothing.bytes)
+code_word code = words_token (get_or code_rows code no_words)
 
 unfoldable pub code_words : ℕ → List Token
 code_words code = cond (eqb code 8) locked_words (phrase (code_word code ∷ []))

@@ -1,31 +1,37 @@
 // The lines of a record.
-ghost use Rattle.std.specs.Prelude.{◌≡◌, ◌+◌, ◌≤◌, min, length};
+ghost use Rattle.std.specs.Prelude.{◌≡◌, ℕ, ◌+◌, ◌*◌, ◌≤◌, ◌<◌, leb, length};
 ghost use Rattle.text.specs.Lent.{Lined, Wrote};
 ghost use Rattle.explaining.specs.Explained.{beam_line, case_of, entry_in, entry_line, explained, first_line, head_line, is_whole, line_at, line_count, marks_line, number_line, pointer_line, reach_in, record_answer, record_most, toggle_line};
-ghost use Rattle.explaining.specs.Lines.{line_room, line_text, lines_of, most_answer};
+ghost use Rattle.text.specs.declared.fixed.Line.{Line};
+ghost use Rattle.explaining.specs.Lines.{line_most, line_room, line_text, lines_of, most_answer};
 ghost use Rattle.explaining.specs.Moves.{numbers_in};
 ghost use Rattle.access.specs.Access.{record_in};
 
-use crate::line::{Line, blank_line, column, told};
+use crate::line::{Line, column, told};
 use crate::meaning::{answer_words, register_of};
 use crate::moves::{NUMBERS, may_move, number_label};
 use crate::parts::{
     colour_code, marks_words, part_line, pointer_code, pointer_words, register_part, toggle_words,
 };
-use crate::token::{alone, choose, decimal, either, flag, from_u16, from_u32, hex, say, three};
-use crate::words::{Found, find, item_words, looked_words};
+use crate::token::{choose, decimal, hex, phrase, say};
+use crate::words::{find, item_words, looked_words};
 use access::{Item, Record};
 use file::{Answer, BANK, CR1B, Colour, File, PALETTE, Reach};
-use text::Placed;
+use places::Place;
+use text::{Placed, has_room, put};
 use timing::read_timing;
 
-// How many lines a record may have.
-const LINES: usize = 21;
+// The lines before those of the timing numbers.
+const HEAD: usize = 6;
 
-// The most bytes that they have.
+// The most bytes that a line has, with its newline.
+const LINE_ROOM: usize = 160;
+
+// The most bytes that the lines of a record have.
 const RECORD_MOST: usize = 3360;
 
-// What is told of a record: its number; whether all its bytes were there; the files before and after it, with their timing numbers.
+// What is told of a record: its number; whether all its bytes were there; the files before and after it, with their timing numbers. Each part
+// counts whatever the others are: a fragment has a record too, whose missing bytes are zeros.
 #[derive(Clone, Copy)]
 pub struct Case {
     pub number: u64,
@@ -35,7 +41,7 @@ pub struct Case {
     pub after: File,
     pub answer: Answer,
     pub reach: Reach,
-    pub found: Found,
+    pub found: Option<Place>,
     pub old: [u32; 15],
     pub new: [u32; 15],
 }
@@ -63,10 +69,7 @@ pub fn reach_in(file: File, item: Item) -> Reach
     ensures { result ≡ reach_in file item }
 {
     match item {
-        Item::Whole(asked) => {
-            let read = asked.reach(file);
-            read.reach
-        }
+        Item::Whole(asked) => asked.reach(file).unwrap_or(Reach::none()),
         Item::Fragment(_) => Reach::none(),
     }
 }
@@ -112,14 +115,14 @@ fn head_line(case: Case) -> Line
 {
     let found = case.found;
     let answer = case.answer;
-    let line = column(told(blank_line(), alone(decimal(case.number))), 8);
+    let line = column(told(Line::blank(), phrase([decimal(case.number)])), 8);
     let code = answer.code();
     let line = column(told(line, item_words(case.whole, case.asked)), 36);
     let line = column(
         told(line, looked_words(case.whole, code, case.asked, found)),
         56,
     );
-    let line = column(told(line, alone(decimal(code as u64))), 59);
+    let line = column(told(line, phrase([decimal(code as u64)])), 59);
     told(
         line,
         answer_words(case.before, case.asked, case.whole, answer),
@@ -141,19 +144,20 @@ pub fn first_line(case: Case) -> Line
     register_part(head, number, bits, old, new)
 }
 
+// The line of the toggle. It and that of the marks have a form in common and each word of their own, so one function for both would ask for all of it.
 fn toggle_line(case: Case) -> Line
     ensures { result ≡ toggle_line case }
 {
     let old = case.before.state.toggle;
     let new = case.after.state.toggle;
-    let label = alone(say(*b"toggle ................."));
+    let label = phrase([say(*b"toggle .................")]);
     part_line(
         case.number,
         case.reach.toggle,
         label,
         toggle_words(old),
         toggle_words(new),
-        flag(old) != flag(new),
+        old != new,
     )
 }
 
@@ -162,7 +166,7 @@ fn pointer_line(case: Case) -> Line
 {
     let old = case.before.state.pointer;
     let new = case.after.state.pointer;
-    let label = alone(say(*b"pointer ................"));
+    let label = phrase([say(*b"pointer ................")]);
     let moved = pointer_code(old) != pointer_code(new);
     part_line(
         case.number,
@@ -179,7 +183,7 @@ fn marks_line(case: Case) -> Line
 {
     let old = case.before.state.marks;
     let new = case.after.state.marks;
-    let label = alone(say(*b"marks .................."));
+    let label = phrase([say(*b"marks ..................")]);
     part_line(
         case.number,
         case.reach.marks,
@@ -195,9 +199,9 @@ fn beam_line(case: Case) -> Line
 {
     let old = case.before.state.line;
     let new = case.after.state.line;
-    let label = alone(say(*b"line ..................."));
-    let before = alone(decimal(from_u16(old)));
-    let after = alone(decimal(from_u16(new)));
+    let label = phrase([say(*b"line ...................")]);
+    let before = phrase([decimal(u64::from(old))]);
+    let after = phrase([decimal(u64::from(new))]);
     part_line(
         case.number,
         case.reach.line,
@@ -242,14 +246,14 @@ fn entry_line(case: Case) -> Line
         say(*b"palette entry .........."),
     );
     let entry = hex(2, (reach.entry % 256) as u32);
-    let label = three(which, entry, say(*b" ......................."));
-    let shown = either(reach.palette, reach.bank);
+    let label = phrase([which, entry, say(*b" .......................")]);
+    let shown = reach.palette | reach.bank;
     part_line(
         case.number,
         shown,
         label,
-        alone(hex(6, old)),
-        alone(hex(6, new)),
+        phrase([hex(6, old)]),
+        phrase([hex(6, new)]),
         old != new,
     )
 }
@@ -258,105 +262,84 @@ pub fn number_line(case: Case, k: usize) -> Line
     ensures { result ≡ number_line case k }
 {
     if k >= NUMBERS {
-        return blank_line();
+        return Line::blank();
     }
     let before = case.before;
     let wide = timing::is_wide(before.registers[CR1B]);
     let shown = may_move(wide, case.reach, k);
     let old = case.old[k];
     let new = case.new[k];
-    let first = alone(decimal(from_u32(old)));
-    let last = alone(decimal(from_u32(new)));
+    let first = phrase([decimal(u64::from(old))]);
+    let last = phrase([decimal(u64::from(new))]);
     part_line(case.number, shown, number_label(k), first, last, old != new)
-}
-
-// A record's lines, by number.
-fn line_at(case: Case, k: usize) -> Line
-    ensures { result ≡ line_at case k }
-{
-    if k == 0 {
-        return first_line(case);
-    }
-    if k == 1 {
-        return toggle_line(case);
-    }
-    if k == 2 {
-        return pointer_line(case);
-    }
-    if k == 3 {
-        return marks_line(case);
-    }
-    if k == 4 {
-        return entry_line(case);
-    }
-    if k == 5 {
-        return beam_line(case);
-    }
-    number_line(case, k - 6)
-}
-
-// How many bytes stand in a line.
-fn count_of(line: Line) -> usize
-    ensures { result ≡ min line.end 159 }
-{
-    let end = line.end;
-    if end < 159 { end } else { 159 }
 }
 
 // A line into a lent buffer that has room for it, with its newline; a line that has nothing is none.
 fn put_line(line: Line, buffer: &mut [u8], at: usize) -> usize
     requires { at + line_room ≤ length buffer.old }
-    ensures { Wrote buffer.old at (line_text line) buffer.new result }
+    ensures wrote { Wrote buffer.old at (line_text line) buffer.new result }
+    ensures upper_bound { result ≤ at + line_room }
 {
-    let count = count_of(line);
-    if count == 0 {
+    if line.len() == 0 {
         return at;
     }
-    let mut i = 0;
-    while i < count {
-        buffer[at + i] = line.bytes[i];
-        i += 1;
-    }
-    buffer[at + count] = b'\n';
-    at + count + 1
+    let at = put(line.text(), buffer, at);
+    put(b"\n", buffer, at)
 }
 
 // The same from a place of a buffer on, code 11 where there are fewer bytes than a line may have.
 pub fn place_line(buffer: &mut [u8], at: usize, line: Line) -> Placed
     ensures { Lined (most_answer line_room buffer.old at) at (line_text line) buffer.old buffer.new result }
 {
-    if buffer.len() < 160 {
-        return Placed {
-            answer: Answer::ShortBuffer,
-            end: at,
-        };
+    if has_room(buffer.len(), at, LINE_ROOM) {
+        return Placed::stored(put_line(line, buffer, at));
     }
-    if buffer.len() - 160 < at {
-        return Placed {
-            answer: Answer::ShortBuffer,
-            end: at,
-        };
+    Placed::no_room(at)
+}
+
+// So many lines of the most bytes have room from a place on.
+fn lines_fit(room: usize, at: usize, count: usize) -> bool
+    ensures { result ≡ leb (at + line_room * count) room }
+{
+    if room < at {
+        return false;
     }
-    Placed {
-        answer: Answer::Done(0),
-        end: put_line(line, buffer, at),
+    count <= (room - at) / LINE_ROOM
+}
+
+// So many lines, each as `line` gives it by its number, into a lent buffer; nothing where it has no room for as many as there may be.
+pub fn put_lines<F: Fn(usize) -> Line>(count: usize, line: F, buffer: &mut [u8], at: usize) -> usize
+    requires { (k : ℕ) → k < count → F.pre line k }
+    ensures wrote { at + line_room * count ≤ length buffer.old → (of : ℕ → Line line_most) → ((k : ℕ) (l : Line line_most) → k < count → F.post line k l → l ≡ of k) → Wrote buffer.old at (lines_of of 0 count) buffer.new result }
+    ensures upper_bound { result ≤ at + line_room * count }
+    ensures unstored { length buffer.old < at + line_room * count → (buffer.new ≡ buffer.old) × (result ≡ at) }
+{
+    if !lines_fit(buffer.len(), at, count) {
+        return at;
     }
+    let mut at = at;
+    for k in 0..count {
+        at = put_line(line(k), buffer, at);
+    }
+    at
 }
 
 // The lines of a record into a lent buffer that has room for as many as there may be.
-fn put_lines(case: Case, buffer: &mut [u8], at: usize) -> usize
+fn put_record(case: Case, buffer: &mut [u8], at: usize) -> usize
     requires { at + record_most ≤ length buffer.old }
     ensures wrote { Wrote buffer.old at (lines_of (line_at case) 0 line_count) buffer.new result }
     ensures upper_bound { result ≤ at + record_most }
 {
-    let mut at = at;
-    let mut k = 0;
-    while k < LINES {
-        let line = line_at(case, k);
-        at = put_line(line, buffer, at);
-        k += 1;
-    }
-    at
+    let head: [Line; HEAD] = [
+        first_line(case),
+        toggle_line(case),
+        pointer_line(case),
+        marks_line(case),
+        entry_line(case),
+        beam_line(case),
+    ];
+    let at = put_lines(HEAD, |k| head[k], buffer, at);
+    put_lines(NUMBERS, |k| number_line(case, k), buffer, at)
 }
 
 // The explanation of what stands next in a trace, from a place of a buffer on: its number, and the file before it; code 11 where there are fewer
@@ -364,21 +347,9 @@ fn put_lines(case: Case, buffer: &mut [u8], at: usize) -> usize
 pub fn record_lines(buffer: &mut [u8], at: usize, number: u64, file: File, item: Item) -> Placed
     ensures { Lined (record_answer buffer.old at) at (explained number file item) buffer.old buffer.new result }
 {
-    if buffer.len() < RECORD_MOST {
-        return Placed {
-            answer: Answer::ShortBuffer,
-            end: at,
-        };
+    if has_room(buffer.len(), at, RECORD_MOST) {
+        let case = case_of(number, file, item);
+        return Placed::stored(put_record(case, buffer, at));
     }
-    if buffer.len() - RECORD_MOST < at {
-        return Placed {
-            answer: Answer::ShortBuffer,
-            end: at,
-        };
-    }
-    let case = case_of(number, file, item);
-    Placed {
-        answer: Answer::Done(0),
-        end: put_lines(case, buffer, at),
-    }
+    Placed::no_room(at)
 }

@@ -1,13 +1,11 @@
 // What an answer means.
-ghost use Rattle.std.specs.Prelude.{◌≡◌, ◌-◌, ◌<◌, eqb};
+ghost use Rattle.std.specs.Prelude.{◌≡◌, ◌<◌, eqb};
 ghost use Rattle.bits.specs.Store.{bit};
 ghost use Rattle.file.specs.File.{register as registerIn};
 ghost use Rattle.explaining.specs.Words.{access_why, answer_words, code_word, code_words, direction_words, done_words, down_words, half_words, inside_words, locked_words, malformed_word, malformed_words, off_words, passing_why, width_words};
 
-use crate::token::{
-    Token, alone, choose, choose_phrase, either, hex, named, none, pick, say, three, two,
-};
-use crate::words::{short, wide};
+use crate::token::{Token, choose, hex, named, none, phrase, say};
+use crate::words::short;
 use access::Record;
 use file::{Answer, B0, CR0, CR1A, CR6, CR11, File, MISC, PCI04, REGISTERS};
 
@@ -83,17 +81,17 @@ fn code_word(code: u8) -> Token
 pub fn code_words(code: u8) -> [Token; 8]
     ensures { result ≡ code_words code }
 {
-    choose_phrase(code == 8, locked_words(), alone(code_word(code)))
+    choose(code == 8, locked_words(), phrase([code_word(code)]))
 }
 
 // A write is done, and so are lines that pass; a read tells what it gave.
 fn done_words(asked: Record, value: u16) -> [Token; 8]
     ensures { result ≡ done_words asked value }
 {
-    let what = hex(pick(asked.width == 1, 2, 4), wide(value));
-    let read = two(say(*b"read ..................."), what);
-    choose_phrase(
-        either(asked.kind % 2 == 1, asked.kind == 6),
+    let what = hex(choose(asked.width == 1, 2, 4), u32::from(value));
+    let read = phrase([say(*b"read ..................."), what]);
+    choose(
+        (asked.kind % 2 == 1) | (asked.kind == 6),
         code_words(0),
         read,
     )
@@ -120,7 +118,7 @@ fn access_why(asked: Record) -> Token
         say(*b"value beyond its width.."),
         say(*b"a read has no value....."),
     );
-    let sized = either(asked.width == 1, asked.width == 2);
+    let sized = (asked.width == 1) | (asked.width == 2);
     choose(sized, value, say(*b"no such width..........."))
 }
 
@@ -135,11 +133,11 @@ fn malformed_word(asked: Record) -> Token
 fn malformed_words(whole: bool, asked: Record) -> [Token; 8]
     ensures { result ≡ malformed_words whole asked }
 {
-    alone(choose(
+    phrase([choose(
         whole,
         malformed_word(asked),
         say(*b"bytes are missing......."),
-    ))
+    )])
 }
 
 // Code 3.
@@ -151,7 +149,7 @@ fn off_words(asked: Record) -> [Token; 8]
         say(*b"[0]=0: ports off........"),
         say(*b"[1]=0: MMIO off........."),
     );
-    two(named(PCI04), bit)
+    phrase([named(PCI04), bit])
 }
 
 // Code 5, and the port of the other half.
@@ -163,59 +161,53 @@ fn half_words(file: File, asked: Record) -> [Token; 8]
         say(*b"[0]=1: use ............."),
         say(*b"[0]=0: use ............."),
     );
-    three(named(MISC), bit, short(asked.address ^ 0x60))
+    phrase([named(MISC), bit, short(asked.address ^ 0x60)])
 }
 
 // Code 6.
 fn width_words(asked: Record) -> [Token; 8]
     ensures { result ≡ width_words asked }
 {
-    alone(choose(
+    phrase([choose(
         asked.width == 1,
         say(*b"its width is 2.........."),
         say(*b"its width is 1.........."),
-    ))
+    )])
 }
 
 // Code 9, and the first bit that has the palette down.
 fn down_words(file: File) -> [Token; 8]
     ensures { result ≡ down_words file }
 {
-    let palette = two(named(B0), say(*b"[7]=1: palette down....."));
+    let palette = phrase([named(B0), say(*b"[7]=1: palette down.....")]);
     let bit = choose(
         is_set(register_of(file, CR1A), 3),
         say(*b"[3]=1: palette down....."),
         say(*b"[2]=1: palette down....."),
     );
-    let sync = two(named(CR1A), bit);
-    choose_phrase(is_set(register_of(file, B0), 7), palette, sync)
+    let sync = phrase([named(CR1A), bit]);
+    choose(is_set(register_of(file, B0), 7), palette, sync)
 }
 
 // Code 16.
 fn direction_words(asked: Record) -> [Token; 8]
     ensures { result ≡ direction_words asked }
 {
-    alone(choose(
+    phrase([choose(
         asked.kind % 2 == 1,
         say(*b"held for reads only....."),
         say(*b"held for writes only...."),
-    ))
-}
-
-fn one_less(n: u16) -> u16
-    ensures { result ≡ n - 1 }
-{
-    if n > 0 { n - 1 } else { 0 }
+    )])
 }
 
 // Code 17, and where the register is.
 fn inside_words(asked: Record) -> [Token; 8]
     ensures { result ≡ inside_words asked }
 {
-    two(
+    phrase([
         say(*b"inside the register at ."),
-        short(one_less(asked.address)),
-    )
+        short(asked.address.saturating_sub(1)),
+    ])
 }
 
 // What an answer to a record means; of a fragment, whose bytes are missing.
@@ -233,11 +225,11 @@ pub fn answer_words(file: File, asked: Record, whole: bool, answer: Answer) -> [
         Answer::ReadOnly => code_words(7),
         Answer::Locked => code_words(8),
         Answer::PaletteDown => down_words(file),
-        Answer::OutOfRange => alone(none()),
-        Answer::ShortBuffer => alone(none()),
+        Answer::OutOfRange => phrase([none()]),
+        Answer::ShortBuffer => phrase([none()]),
         Answer::NotSound => code_words(12),
-        Answer::NotBeforeRed => alone(none()),
-        Answer::OtherChip => alone(none()),
+        Answer::NotBeforeRed => phrase([none()]),
+        Answer::OtherChip => phrase([none()]),
         Answer::OtherDirection => direction_words(asked),
         Answer::InsideWider => inside_words(asked),
     }

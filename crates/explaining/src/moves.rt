@@ -3,7 +3,7 @@ ghost use Rattle.std.specs.Prelude.{◌≡◌, true, ◌≤◌, ◌<◌};
 ghost use Rattle.file.specs.Names.{CR0 as CR0Number, CR1E as CR1ENumber};
 ghost use Rattle.explaining.specs.Moves.{may_move, moved_table, number_count, number_label, read_bits};
 
-use crate::token::{Token, none, say, two};
+use crate::token::{Token, none, phrase, say};
 use file::{CR0, CR1A, CR1E, Reach};
 
 // How many timing numbers there are.
@@ -113,9 +113,9 @@ pub fn number_label(k: usize) -> [Token; 8]
 {
     let space = say(*b" .......................");
     if k >= NUMBERS {
-        return two(none(), space);
+        return phrase([none(), space]);
     }
     let names = NAMES;
     let name = names[k];
-    two(say(name), space)
+    phrase([say(name), space])
 }

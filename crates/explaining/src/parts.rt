@@ -1,34 +1,24 @@
 // A line for each part of a file that a record may change.
-ghost use Rattle.std.specs.Prelude.{◌≡◌, cond, ◌<◌};
+ghost use Rattle.std.specs.Prelude.{◌≡◌};
 ghost use Rattle.explaining.specs.Explained.{bit_digits, byte_token, changed, colour_code, colour_word, marks_words, part_line, pointer_code, pointer_words, register_part, toggle_words};
 
-use crate::line::{Line, blank_line, column, told};
-use crate::token::{
-    Token, alone, choose, choose_phrase, decimal, flag, four, from_u8, hex, named, none, pick, say,
-    two,
-};
-use crate::words::wide;
+use crate::line::{Line, column, told};
+use crate::token::{Token, choose, decimal, hex, named, none, phrase, say};
 use file::{Colour, Pointer};
 
 // The column of what may change.
 const REACH: usize = 65;
 
-pub fn choose_line(first: bool, one: Line, other: Line) -> Line
-    ensures { result ≡ cond first one other }
-{
-    if first { one } else { other }
-}
-
 // What stood there, and what stands there now.
 pub fn change(line: Line, before: [Token; 8], after: [Token; 8], moved: bool) -> Line
     ensures { result ≡ changed line before after moved }
 {
-    let way = alone(choose(
+    let way = phrase([choose(
         moved,
         say(*b" -> ...................."),
         say(*b", not moved............."),
-    ));
-    let last = choose_phrase(moved, after, alone(none()));
+    )]);
+    let last = choose(moved, after, phrase([none()]));
     told(told(told(line, before), way), last)
 }
 
@@ -44,16 +34,16 @@ pub fn part_line(
     ensures { result ≡ part_line number shown label before after moved }
 {
     if !shown {
-        return blank_line();
+        return Line::blank();
     }
-    let start = column(told(blank_line(), alone(decimal(number))), REACH);
+    let start = column(told(Line::blank(), phrase([decimal(number)])), REACH);
     change(told(start, label), before, after, moved)
 }
 
 pub fn bit_digits(bits: u16) -> u8
     ensures { result ≡ bit_digits bits }
 {
-    pick(bits < 0x100, 2, 4)
+    choose(bits < 0x100, 2, 4)
 }
 
 // A register in reach, and its bits that are.
@@ -62,26 +52,26 @@ pub fn register_part(line: Line, number: usize, bits: u16, old: u16, new: u16) -
 {
     let digits = bit_digits(bits);
     let name = named(number);
-    let reach = hex(digits, wide(bits));
-    let label = four(
+    let reach = hex(digits, u32::from(bits));
+    let label = phrase([
         name,
         say(*b"[......................."),
         reach,
         say(*b"] ......................"),
-    );
-    let before = alone(hex(digits, wide(old)));
-    let after = alone(hex(digits, wide(new)));
+    ]);
+    let before = phrase([hex(digits, u32::from(old))]);
+    let after = phrase([hex(digits, u32::from(new))]);
     change(told(column(line, REACH), label), before, after, old != new)
 }
 
 pub fn toggle_words(toggle: bool) -> [Token; 8]
     ensures { result ≡ toggle_words toggle }
 {
-    alone(choose(
+    phrase([choose(
         toggle,
         say(*b"data...................."),
         say(*b"index..................."),
-    ))
+    )])
 }
 
 fn colour_word(n: u8) -> Token
@@ -123,8 +113,8 @@ pub fn pointer_words(p: Pointer) -> [Token; 8]
 pub fn pointer_code(p: Pointer) -> u64
     ensures { result ≡ pointer_code p }
 {
-    let address = from_u8(p.address) * 2 + flag(p.reading);
-    ((address * 256 + from_u8(p.next)) * 256 + from_u8(p.red)) * 256 + from_u8(p.green)
+    let address = u64::from(p.address) * 2 + u64::from(p.reading);
+    ((address * 256 + u64::from(p.next)) * 256 + u64::from(p.red)) * 256 + u64::from(p.green)
 }
 
 pub fn marks_words(marks: u8) -> [Token; 8]
@@ -135,7 +125,7 @@ pub fn marks_words(marks: u8) -> [Token; 8]
         say(*b"read ..................."),
         say(*b"write .................."),
     );
-    two(way, colour_word(marks % 4))
+    phrase([way, colour_word(marks % 4)])
 }
 
 // A colour as one number of three bytes.

@@ -1,32 +1,17 @@
 // A record, the place that it found and its answer, in words.
 ghost use Rattle.std.specs.Prelude.{◌≡◌};
-ghost use Rattle.explaining.specs.Words.{access_words, bytes_word, comma_word, equals_word, fixed_words, found as foundIn, found_words, has_value, has_width, item_words, looked_words, passing_found, passing_words, place_words, read_address_word, record_words, short as shortToken, space_word, value_digits, value_token, way_word, width_token, write_address_word};
+ghost use Rattle.explaining.specs.Words.{access_words, bytes_word, comma_word, equals_word, fixed_words, found as found_in, found_words, has_value, has_width, item_words, looked_words, passing_found, passing_words, place_words, read_address_word, record_words, short as shortToken, space_word, value_digits, value_token, way_word, width_token, write_address_word};
 
-use crate::token::{
-    Token, alone, both, choose, choose_phrase, decimal, either, hex, named, none, pick, say, two,
-};
+use crate::token::{Token, choose, decimal, hex, named, none, phrase, say};
 use access::Record;
 use file::{B0, CAPTURE_Y_START, File};
 use places::Place;
-
-// What stands where a record looks.
-#[derive(Clone, Copy)]
-pub enum Found {
-    Held(Place),
-    NotFound,
-}
-
-pub fn wide(n: u16) -> u32
-    ensures { result ≡ n }
-{
-    n as u32
-}
 
 // An address, in two hex digits at least.
 pub fn short(n: u16) -> Token
     ensures { result ≡ shortToken n }
 {
-    hex(pick(n < 0x100, 2, pick(n < 0x1000, 3, 4)), wide(n))
+    hex(choose(n < 0x100, 2, choose(n < 0x1000, 3, 4)), u32::from(n))
 }
 
 fn space_word(kind: u8) -> Token
@@ -41,29 +26,31 @@ fn space_word(kind: u8) -> Token
 }
 
 // A write has a value, and a bad read.
+#[tactic(auto, unfolding(access::specs::Checks::is_write))]
 fn has_value(asked: Record) -> bool
     ensures { result ≡ has_value asked }
 {
-    either(asked.kind % 2 == 1, asked.value != 0)
+    asked.kind % 2 == 1 || asked.value != 0
 }
 
 fn value_digits(asked: Record) -> u8
     ensures { result ≡ value_digits asked }
 {
-    let byte = both(asked.width == 1, asked.value < 0x100);
-    pick(byte, 2, pick(asked.value < 0x10000, 4, 8))
+    let byte = (asked.width == 1) & (asked.value < 0x100);
+    choose(byte, 2, choose(asked.value < 0x10000, 4, 8))
 }
 
 // The width, where the digits don't tell it.
+#[tactic(auto, unfolding(access::specs::Checks::is_write))]
 fn has_width(asked: Record) -> bool
     ensures { result ≡ has_width asked }
 {
-    let byte = both(asked.width == 1, asked.value < 0x100);
-    let written = both(asked.kind % 2 == 1, asked.width == 2);
-    let word = both(written, asked.value < 0x10000);
-    both(!byte, !word)
+    let byte = (asked.width == 1) & (asked.value < 0x100);
+    let word = (asked.kind % 2 == 1) & (asked.width == 2) & (asked.value < 0x10000);
+    !byte & !word
 }
 
+// This one, and those of the two addresses below, each have words of their own and nothing else, so they stay three.
 fn way_word(asked: Record) -> Token
     ensures { result ≡ way_word asked }
 {
@@ -129,7 +116,7 @@ fn access_words(asked: Record) -> [Token; 8]
 fn passing_words(asked: Record) -> [Token; 8]
     ensures { result ≡ passing_words asked }
 {
-    let odd = !both(asked.width == 2, asked.address == 0);
+    let odd = !((asked.width == 2) & (asked.address == 0));
     let none = none();
     let pass = say(*b"lines pass .............");
     let lines = decimal(asked.value as u64);
@@ -145,20 +132,20 @@ fn record_words(asked: Record) -> [Token; 8]
     ensures { result ≡ record_words asked }
 {
     let lines = passing_words(asked);
-    let unknown = two(
+    let unknown = phrase([
         say(*b"kind ..................."),
         decimal(asked.kind as u64),
-    );
-    let other = choose_phrase(asked.kind == 6, lines, unknown);
-    choose_phrase(asked.kind < 6, access_words(asked), other)
+    ]);
+    let other = choose(asked.kind == 6, lines, unknown);
+    choose(asked.kind < 6, access_words(asked), other)
 }
 
 // A record of a trace, or the fragment at its end.
 pub fn item_words(whole: bool, asked: Record) -> [Token; 8]
     ensures { result ≡ item_words whole asked }
 {
-    let fragment = alone(say(*b"fragment................"));
-    choose_phrase(whole, record_words(asked), fragment)
+    let fragment = phrase([say(*b"fragment................")]);
+    choose(whole, record_words(asked), fragment)
 }
 
 // What is written at 3C7h and 3C8h, and what is read there.
@@ -187,22 +174,22 @@ fn place_words(asked: Record, place: Place) -> [Token; 8]
     ensures { result ≡ place_words asked place }
 {
     match place {
-        Place::Register(number) => alone(named(number)),
-        Place::Attribute(number) => two(named(number), say(*b" by 3C0h................")),
+        Place::Register(number) => phrase([named(number)]),
+        Place::Attribute(number) => phrase([named(number), say(*b" by 3C0h................")]),
         Place::Fixed(value) => fixed_words(value),
-        Place::DeviceId => alone(say(*b"PCI02...................")),
-        Place::ToggleState => alone(say(*b"CR24....................")),
-        Place::AttributeIndex => alone(say(*b"CR26....................")),
-        Place::PaletteState => alone(named(B0)),
-        Place::VPortState => alone(named(CAPTURE_Y_START)),
-        Place::ReadAddress => alone(read_address_word(asked)),
-        Place::WriteAddress => alone(write_address_word(asked)),
-        Place::PixelData => alone(say(*b"pixel data..............")),
-        Place::ToggleReset => alone(say(*b"display state...........")),
-        Place::Unnamed => alone(say(*b"no register.............")),
-        Place::UnnamedAttribute => alone(say(*b"no register by 3C0h.....")),
-        Place::CurrentLine => alone(say(*b"line....................")),
-        Place::Passing => alone(say(*b"line....................")),
+        Place::DeviceId => phrase([say(*b"PCI02...................")]),
+        Place::ToggleState => phrase([say(*b"CR24....................")]),
+        Place::AttributeIndex => phrase([say(*b"CR26....................")]),
+        Place::PaletteState => phrase([named(B0)]),
+        Place::VPortState => phrase([named(CAPTURE_Y_START)]),
+        Place::ReadAddress => phrase([read_address_word(asked)]),
+        Place::WriteAddress => phrase([write_address_word(asked)]),
+        Place::PixelData => phrase([say(*b"pixel data..............")]),
+        Place::ToggleReset => phrase([say(*b"display state...........")]),
+        Place::Unnamed => phrase([say(*b"no register.............")]),
+        Place::UnnamedAttribute => phrase([say(*b"no register by 3C0h.....")]),
+        Place::CurrentLine => phrase([say(*b"line....................")]),
+        Place::Passing => phrase([say(*b"line....................")]),
     }
 }
 
@@ -210,43 +197,43 @@ fn place_words(asked: Record, place: Place) -> [Token; 8]
 fn fixed_words(value: u16) -> [Token; 8]
     ensures { result ≡ fixed_words value }
 {
-    alone(choose(
+    phrase([choose(
         value == 0x1013,
         say(*b"PCI00..................."),
         say(*b"SR6....................."),
-    ))
+    )])
 }
 
 // Where a record looked, in words.
-fn found_words(asked: Record, found: Found) -> [Token; 8]
+fn found_words(asked: Record, found: Option<Place>) -> [Token; 8]
     ensures { result ≡ found_words asked found }
 {
     match found {
-        Found::Held(place) => place_words(asked, place),
-        Found::NotFound => alone(say(*b"nothing held............")),
+        Some(place) => place_words(asked, place),
+        None => phrase([say(*b"nothing held............")]),
     }
 }
 
 // The same with the record's code: what wasn't looked at, and what is held in another way.
-pub fn looked_words(whole: bool, code: u8, asked: Record, found: Found) -> [Token; 8]
+pub fn looked_words(whole: bool, code: u8, asked: Record, found: Option<Place>) -> [Token; 8]
     ensures { result ≡ looked_words whole code asked found }
 {
-    let unseen = alone(say(*b"not looked at..........."));
-    let other = alone(say(*b"held otherwise.........."));
-    let seen = choose_phrase(
-        either(code == 16, code == 17),
+    let unseen = phrase([say(*b"not looked at...........")]);
+    let other = phrase([say(*b"held otherwise..........")]);
+    let seen = choose(
+        (code == 16) | (code == 17),
         other,
         found_words(asked, found),
     );
-    choose_phrase(either(!whole, code == 12), unseen, seen)
+    choose(!whole | (code == 12), unseen, seen)
 }
 
 // What stands at a kind and an address; lines that pass stand in no space.
-pub fn find(file: File, asked: Record) -> Found
-    ensures { result ≡ foundIn file asked }
+pub fn find(file: File, asked: Record) -> Option<Place>
+    ensures { result ≡ found_in file asked }
 {
     if !file::is_sound(file) {
-        return Found::NotFound;
+        return None;
     }
     let kind = asked.kind;
     if kind >= 6 {
@@ -258,18 +245,18 @@ pub fn find(file: File, asked: Record) -> Found
     let cells = places::cells(chip);
     let cell = places::cell_at(&cells, kind, asked.address);
     if places::is_nothing(cell) {
-        return Found::NotFound;
+        return None;
     }
-    Found::Held(places::place_of(&cells, &registers, state, cell))
+    Some(places::place_of(&cells, &registers, state, cell))
 }
 
-fn passing_found(asked: Record) -> Found
+fn passing_found(asked: Record) -> Option<Place>
     ensures { result ≡ passing_found asked }
 {
     if asked.kind == 6 {
         if asked.address == 0 {
-            return Found::Held(Place::Passing);
+            return Some(Place::Passing);
         }
     }
-    Found::NotFound
+    None
 }

@@ -13,7 +13,7 @@ use Rattle.replaying.specs.Replay.{after_part}
 use Rattle.replaying.proofs.Pieces.{file-parts, parts-count}
 use Rattle.feeding.specs.Feeding.{Additive}
 use Rattle.job_explain.specs.declared.job.ExplainJob.{ExplainJob}
-use Rattle.job_explain.specs.Told.{record_told}
+use Rattle.summing.specs.Told.{record_told}
 use Rattle.job_explain.specs.Job.{WholeRecords, after_bytes, job_told, record_after}
 use Rattle.job_explain.proofs.ToldInParts.{counted-parts, none-counted, none-summed, none_told}
 use Rattle.job_explain.proofs.ToldInParts.{one-after, one-counted, one-item, one-summed, one_told, summed-parts, told-parts}

@@ -10,13 +10,13 @@ use Rattle.bits.proofs.Test.{by-test}
 use Rattle.file.specs.declared.registers.File.{File}
 use Rattle.access.specs.declared.record.Item.{Item}
 use Rattle.explaining.specs.declared.explain.Case.{Case}
-use Rattle.explaining.specs.declared.line.Line.{Line}
 use Rattle.explaining.specs.declared.token.Token.{Token}
 use Rattle.explaining.specs.Explained.{beam_line, case_of, changed, entry_line, explained, first_line, head_line, line_at, line_count, marks_line}
 use Rattle.explaining.specs.Explained.{number_line, part_line, pointer_line, record_most, register_part, toggle_line}
-use Rattle.explaining.specs.Lines.{behind, blank, byte_behind, line_most, line_room, lines_of}
+use Rattle.text.specs.Fixed.{behind, byte_behind}
+use Rattle.explaining.specs.Lines.{Line, blank, line_most, line_room, lines_of}
 use Rattle.explaining.proofs.PutLines.{line-short}
-use Rattle.job_explain.specs.Told.{record_told}
+use Rattle.summing.specs.Told.{record_told}
 use Rattle.summing.specs.Together.{moved_at, moved_line, moved_together, together, together_count, together_line, together_most, together_text}
 
 -- a line's bytes

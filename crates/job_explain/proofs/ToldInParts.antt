@@ -20,7 +20,7 @@ use Rattle.refusals.specs.Counted.{counted_items, counted_part, counting_of}
 use Rattle.refusals.proofs.RepliesCounted.{counted-in-parts}
 use Rattle.summing.specs.declared.summary.Summary.{Summary}
 use Rattle.summing.specs.Summed.{taken_all, taken_in}
-use Rattle.job_explain.specs.Told.{part_summed, part_told, record_summed, record_told, records_told}
+use Rattle.summing.specs.Told.{part_summed, part_told, record_summed, record_told, records_told}
 
 -- items in two parts
 records-in-parts : (sums : Bool) (number : ℕ) (f : File) (a b : List Item)

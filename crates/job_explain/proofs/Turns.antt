@@ -5,7 +5,9 @@ use mathlib.Core.List.{List, ◌++◌}
 use mathlib.Core.Path.{◌≡◌, refl, sym, ap, ◌∙◌}
 use native.Mathlib.Omega.{arith}
 use lib.ListN.{length, take, drop, length-drop}
-use lib.Seq.{length-sets, length-take-le, sets-eq, take-add}
+use lib.Seq.{drop-drop, length-sets, length-take-le, sets-eq, take_at, take-add}
+use Rattle.std.proofs.lemmas.List.{drop-take}
+use Rattle.std.proofs.Math.Seq.{drop-append_seam, take-append_seam}
 use Rattle.trace.specs.Records.{item_count, item_of}
 use Rattle.text.specs.Lent.{Wrote}
 use Rattle.text.proofs.Stores.{then-text}
@@ -13,7 +15,7 @@ use Rattle.explaining.specs.Explained.{record_most}
 use Rattle.feeding.specs.Feeding.{Fed, bytes_of}
 use Rattle.job_explain.specs.declared.job.ExplainJob.{ExplainJob}
 use Rattle.job_explain.specs.declared.turn.Turn.{Turn}
-use Rattle.job_explain.specs.Told.{record_told}
+use Rattle.summing.specs.Told.{record_told}
 use Rattle.job_explain.specs.Job.{Turned, WholeRecords, after_bytes, bytes_taken, job_told, number_most, records_taken}
 use Rattle.job_explain.proofs.JobInParts.{job-none, job-parts, job-told-parts, nothing-told, one-job, one-job-told}
 use Rattle.job_explain.proofs.RecordsShort.{record-short}
@@ -149,3 +151,37 @@ module _ (sums : Bool) (before : ExplainJob) (part out₀ : List ℕ) (bytes : �
               stored.bytes ∙ sets-eq (job_told sums before (take taken part)) out₀ 0 fits
               ∙ ap (λ (k : ℕ). job_told sums before (take taken part) ++ drop k out₀) (sym stored.place);
         }
+
+-- the bytes that are left from a place on, and the next eight of them
+module _ (part : List ℕ) (bytes at : ℕ) (within : bytes ≤ length part) (near : at ≤ bytes) (left : List ℕ) (there : left ≡ drop at (take bytes part)) where
+  pub left-long : length left ≡ bytes - at
+  left-long = ap length there ∙ length-drop at (take bytes part) ∙ ap (λ (k : ℕ). k - at) (length-take-le bytes part within)
+
+  module _ (x rest : List ℕ) (cut : left ≡ x ++ rest) (size : length x ≡ min 8 (length left)) where
+    long : length x ≡ min (at + 8) bytes - at
+    long = omega (arith, size, left-long, near)
+
+    pub is-piece : x ≡ take (min (at + 8) bytes - at) (drop at part)
+    is-piece =
+        let all : bytes ≡ at + (bytes - at) = omega (arith, near) in
+        let more : bytes - at ≡ length x + (bytes - at - length x) = omega (arith, long) in
+        let begun : length (take (length x) (drop at part)) ≡ length x = length-take-le (length x) (drop at part) (rw length-drop (omega (arith, long, within))) in
+        sym (take-append_seam x rest)
+        ∙ ap (take (length x))
+        (sym cut ∙ there ∙ ap (λ (k : ℕ). drop at (take k part)) all ∙ drop-take at (bytes - at) part
+        ∙ ap (λ (k : ℕ). take k (drop at part)) more ∙ take-add (length x) (bytes - at - length x) (drop at part))
+        ∙ take_at (take (length x) (drop at part)) _ (length x) begun
+        ∙ ap (λ (k : ℕ). take k (drop at part)) long
+
+    pub is-rest : rest ≡ drop (min (at + 8) bytes) (take bytes part)
+    is-rest =
+        let on : at + length x ≡ min (at + 8) bytes = omega (arith, long, near) in
+        sym (drop-append_seam x rest) ∙ ap (drop (length x)) (sym cut ∙ there) ∙ drop-drop (length x) at (take bytes part)
+        ∙ ap (λ (k : ℕ). drop k (take bytes part)) on
+
+-- after some records, by the bytes that are left, in pieces of eight
+pub record Going (sums : Bool) (before : ExplainJob) (part out₀ : List ℕ) (bytes : ℕ) (out : List ℕ) (job : ExplainJob) (end : ℕ) (left : List ℕ) (piece : ℕ) : Type 0 where
+  pub eight : piece ≡ 8
+  pub at : ℕ
+  pub there : left ≡ drop at (take bytes part)
+  pub held : Held sums before part out₀ bytes out job at end

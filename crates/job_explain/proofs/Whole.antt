@@ -15,7 +15,7 @@ use Rattle.summing.specs.Summed.{begun, summed}
 use Rattle.feeding.specs.Feeding.{WholeInput, bytes_of, units_in}
 use Rattle.feeding.proofs.AsTheWhole.{input-after, input-told}
 use Rattle.job_explain.specs.declared.job.ExplainJob.{ExplainJob}
-use Rattle.job_explain.specs.Told.{closing, part_summed, part_told, trace_told}
+use Rattle.summing.specs.Told.{closing, part_summed, part_told, trace_told}
 use Rattle.job_explain.specs.Job.{WholeExplained, WholeRecords, after_bytes, bytes_taken, job_told, number_most, records_taken, starting}
 use Rattle.job_explain.proofs.JobInParts.{additive}
 

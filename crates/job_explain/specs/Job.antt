@@ -19,7 +19,7 @@ use Rattle.feeding.specs.Feeding.{Fed, bytes_of, units_in}
 use Rattle.job_explain.specs.declared.job.ExplainJob.{ExplainJob}
 use Rattle.job_explain.specs.declared.part.ExplainFed.{ExplainFed}
 use Rattle.job_explain.specs.declared.turn.Turn.{Turn}
-use Rattle.job_explain.specs.Told.{closing, part_summed, part_told, record_summed, record_told, trace_told}
+use Rattle.summing.specs.Told.{closing, part_summed, part_told, record_summed, record_told, trace_told}
 
 -- from a chip's power-on, with the number 0
 unfoldable pub starting : Chip → ExplainJob

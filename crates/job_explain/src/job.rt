@@ -1,10 +1,10 @@
 // The job: how far an explanation has come.
 ghost use Rattle.std.specs.Prelude.{◌≡◌};
 ghost use Rattle.text.specs.Lent.{Lined};
-ghost use Rattle.job_explain.specs.Told.{closing};
+ghost use Rattle.summing.specs.Told.{closing};
 ghost use Rattle.job_explain.specs.Job.{close_answer, starting};
 
-use file::{Answer, Chip, File};
+use file::{Chip, File};
 use refusals::Refusals;
 use summing::{Summary, summary_lines};
 use text::Placed;
@@ -40,8 +40,5 @@ pub fn close(sums: bool, job: ExplainJob, out: &mut [u8]) -> Placed
         let summary = job.summary;
         return summary_lines(out, 0, summary);
     }
-    Placed {
-        answer: Answer::Done(0),
-        end: 0,
-    }
+    Placed::stored(0)
 }

@@ -1,5 +1,5 @@
 // A part of a trace: as many of its records as there are, as have room and as have numbers.
-ghost use Rattle.std.specs.Prelude.{◌≡◌, ◌-◌, min};
+ghost use Rattle.std.specs.Prelude.{◌≡◌, ◌-◌};
 ghost use Rattle.feeding.specs.Feeding.{units_in};
 ghost use Rattle.job_explain.specs.Job.{PartExplained, bytes_taken, number_most};
 
@@ -15,13 +15,6 @@ pub struct ExplainFed {
     pub job: ExplainJob,
     pub used: usize,
     pub end: usize,
-}
-
-// Gives the smaller of `a` and `b`.
-fn fewer(a: usize, b: usize) -> usize
-    ensures { result ≡ min a b }
-{
-    if a < b { a } else { b }
 }
 
 // Counts the records of `part`; where it is the last part, a fragment at its end is one too.
@@ -47,8 +40,8 @@ fn bytes_taken(number: u64, part: &[u8], last: bool, room: usize) -> usize
 {
     let there = records_in(part, last);
     let numbered = numbers_left(number);
-    let records = fewer(there, fewer(room / RECORD_MOST, numbered));
-    fewer(8 * records, part.len())
+    let records = there.min((room / RECORD_MOST).min(numbered));
+    (8 * records).min(part.len())
 }
 
 // Explains the records of `part` from its start on: as many as there are, as have room in `out` and as have numbers; their text stands from the start of
@@ -58,14 +51,11 @@ pub fn feed(sums: bool, before: ExplainJob, part: &[u8], last: bool, out: &mut [
 {
     let bytes = bytes_taken(before.number, part, last, out.len());
     let mut job = before;
-    let mut at = 0;
     let mut end = 0;
-    while at < bytes {
-        let next = fewer(at + 8, bytes);
-        let turn = explain_record(sums, job, &part[at..next], out, end);
+    for record in part[..bytes].chunks(8) {
+        let turn = explain_record(sums, job, record, out, end);
         end = turn.end;
         job = turn.job;
-        at = next;
     }
     ExplainFed {
         job,

@@ -3,7 +3,7 @@ ghost use Rattle.std.specs.Prelude.{◌≡◌, ◌+◌, ◌^◌, ◌≤◌, ◌<
 ghost use Rattle.text.specs.Lent.{Wrote};
 ghost use Rattle.trace.specs.Records.{item_of};
 ghost use Rattle.explaining.specs.Explained.{record_most};
-ghost use Rattle.job_explain.specs.Told.{record_summed, record_told};
+ghost use Rattle.summing.specs.Told.{record_told};
 ghost use Rattle.job_explain.specs.Job.{Turned};
 
 use crate::job::ExplainJob;
@@ -11,7 +11,7 @@ use access::Item;
 use explaining::record_lines;
 use file::File;
 use refusals::counting;
-use summing::{Summary, take_in, together_lines};
+use summing::{record_summed, together_lines};
 use trace::item_of;
 
 // The job after a record, and the place in the buffer after its text.
@@ -32,16 +32,6 @@ fn put_told(sums: bool, number: u64, file: File, item: Item, out: &mut [u8], at:
     record_lines(out, at, number, file, item).end
 }
 
-// Takes `item`, before which the file is `file`, into `summary`, where one is kept.
-fn summed(sums: bool, summary: Summary, file: File, item: Item) -> Summary
-    ensures { result ≡ record_summed sums summary file item }
-{
-    if sums {
-        return take_in(summary, file, item);
-    }
-    summary
-}
-
 // Explains the record, or the fragment, that stands first in `bytes`: its text into `out` from `at` on.
 pub fn explain_record(
     sums: bool,
@@ -56,7 +46,7 @@ pub fn explain_record(
 {
     let item = item_of(bytes);
     let end = put_told(sums, before.number, before.file, item, out, at);
-    let summary = summed(sums, before.summary, before.file, item);
+    let summary = record_summed(sums, before.summary, before.file, item);
     let accessed = item.access(before.file);
     let file = accessed.file;
     let answer = accessed.answer;

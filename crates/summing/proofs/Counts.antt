@@ -1,14 +1,14 @@
 -- Counting the numbers that moved, and tables of which no such element is. Assumes nothing.
-use Prim.Native.Nat.{ℕ, ◌+◌, ◌≤◌, ◌<◌}
-use mathlib.Core.Bool.{true, false}
+use Prim.Native.Nat.{ℕ, ◌+◌, ◌≤◌}
+use mathlib.Core.Bool.{Bool, true, false, not}
 use mathlib.Core.List.{List, [], ◌∷◌, ◌++◌}
 use mathlib.Core.Path.{◌≡◌, refl}
-use native.Mathlib.Numerals.{add-one}
 use native.Mathlib.Omega.{arith}
 use borrow.Author.Tests.{ne_eqb}
 use lib.Dec.{eqb}
-use lib.ListN.{get_or, length, drop, drop_of_length-le}
-use lib.Seq.{drop-cons, set_out}
+use lib.ListN.{length}
+use lib.Seq.{set_out}
+use Rattle.std.specs.Int.{from_bool}
 use Rattle.bits.proofs.Test.{by-test}
 use Rattle.file.specs.declared.registers.File.{File}
 use Rattle.file.specs.Registers.{register_count}
@@ -22,19 +22,29 @@ use Rattle.summing.specs.Summed.{code_count, coded, reached, summed, taken_all, 
 use Rattle.summing.specs.Together.{differing, moved_count, together, together_count, together_line, together_text}
 
 -- one number more
-pub next-moved : (old new : List ℕ) (k : ℕ) → k < length old → k < length new
-    → differing (get_or old k 0) (get_or new k 0) + moved_count (drop (k + 1) old) (drop (k + 1) new) ≡ moved_count (drop k old) (drop k new)
-unfolding moved_count
-next-moved old new k h j = rw (drop-cons old k 0 h, drop-cons new k 0 j, add-one) refl
+pub next-moved : (x y : ℕ) (old new olds news : List ℕ) → olds ≡ x ∷ old → news ≡ y ∷ new
+    → from_bool (not (eqb x y)) + moved_count old new ≡ moved_count olds news
+unfolding moved_count differing
+next-moved x y old new olds news e f = rw (e, f, told x y) refl
+  where
+    told : (a b : ℕ) → from_bool (not (eqb a b)) ≡ differing a b
+    told a b = by-test (eqb a b) (λ t. rw t refl) (λ t. rw t refl)
 
--- behind the last there is none
-pub none-moved : (old new : List ℕ) (k : ℕ) → length old ≤ k → moved_count (drop k old) new ≡ 0
+-- behind the last of either there is none
+pub first-empty : (old new : List ℕ) → length old ≡ 0 → moved_count old new ≡ 0
 unfolding moved_count
-none-moved old new k h = rw (drop_of_length-le old h) refl
+first-empty [] new e = refl
+first-empty (x ∷ old) new e = absurd (omega (arith, e))
 
-pub one_at_most : (a b : ℕ) → differing a b ≤ 1
-unfolding differing
-one_at_most a b = by-test (eqb a b) (λ e. rw e (omega arith)) (λ e. rw e (omega arith))
+pub second-empty : (old new : List ℕ) → length new ≡ 0 → moved_count old new ≡ 0
+unfolding moved_count
+second-empty [] new e = refl
+second-empty (x ∷ old) [] e = refl
+second-empty (x ∷ old) (y ∷ new) e = absurd (omega (arith, e))
+
+pub one_at_most : (b : Bool) → from_bool b ≤ 1
+one_at_most true = omega arith
+one_at_most false = omega arith
 
 -- a register, or a code, that there isn't
 pub no_register : (s : Summary) (number bits moved : ℕ) → (bits ≡ 0 → ⊥) → length s.writes ≡ register_count → length s.reaches ≡ register_count

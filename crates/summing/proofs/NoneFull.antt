@@ -14,11 +14,10 @@ use Rattle.file.specs.Sound.{sound}
 use Rattle.access.specs.declared.record.Item.{Item}
 use Rattle.trace.specs.Run.{file_after}
 use Rattle.trace.proofs.RunMore.{run_sound}
-use Rattle.explaining.specs.declared.line.Line.{Line}
 use Rattle.explaining.specs.declared.token.Token.{Token}
 use Rattle.access.specs.Access.{record_in}
 use Rattle.explaining.specs.Explained.{bit_digits, case_of}
-use Rattle.explaining.specs.Lines.{form_text, hex_token, line_most, phrase, say, tokens_text, up_to_dot}
+use Rattle.explaining.specs.Lines.{Line, hex_token, line_most, phrase, say, token_text, tokens_text, up_to_dot}
 use Rattle.explaining.specs.Moves.{number_label}
 use Rattle.explaining.specs.Words.{code_names, code_rows, code_word, code_words}
 use Rattle.explaining.proofs.NothingDropped.{Ends, Total, Within, case-fits, decimal-within, either, eithers, ended, ends-changed, ends-column, ends-told, ends-up, few-digits, first_ends, hex-within, line-ends, lock-short, more, name-within, nothing_yet, number-ends, numbers-low, one-decimal, row_within, rows-within, spoken, up}
@@ -30,7 +29,7 @@ use Rattle.summing.proofs.SummedOneByOne.{codes-told, first-told, last-told, wri
 -- ---- the parts
 
 count-total : (n : ℕ) (one many : Token) → n ≤ most_count → Within one 7 → Within many 7 → Total (counted n one many) 27
-unfolding counted tokens_text form_text up_to_dot
+unfolding counted tokens_text token_text up_to_dot
 count-total n one many h a b = more (decimal-within 19 n (omega (arith, h))) (more (either (eqb n 1) a b) (ended refl))
 
 count-ends : {name often : List Token} → Total name 14 → Total often 27 → Ends (count_line name often) 43
@@ -38,7 +37,7 @@ unfolding count_line
 count-ends name often = ends-column 32 (omega arith) (ends-told (ends-column 15 (omega arith) (ends-told nothing_yet name)) often)
 
 reach-total : (word : Token) (bits n : ℕ) → Within word 6 → Total (phrase (word ∷ hex_token (bit_digits bits) n ∷ [])) 11
-unfolding tokens_text form_text up_to_dot
+unfolding tokens_text token_text up_to_dot
 reach-total word bits n a = more a (more (hex-within 5 (bit_digits bits) n (few-digits bits)) (ended refl))
 
 code-within : (code : ℕ) → Within (code_word code) 24
@@ -46,13 +45,13 @@ unfolding code_word code_rows code_names every_below up_to_dot ascii
 code-within code = rows-within code_rows tt code
 
 code-total : (code : ℕ) → Total (code_words code) 36
-unfolding code_words tokens_text form_text up_to_dot
+unfolding code_words tokens_text token_text up_to_dot
 code-total code = eithers (eqb code 8) lock-short (up 36 (omega arith) (more (code-within code) (ended refl)))
 
 -- ---- the lines
 
 register-ends : (number writes reach moved : ℕ) → writes ≤ most_count → Ends (register_line number writes reach moved) 80
-unfolding register_line tokens_text form_text ascii up_to_dot
+unfolding register_line tokens_text token_text ascii up_to_dot
 register-ends number writes reach moved h =
     line-ends (eqb writes 0) (ends-up 80 (omega arith) nothing_yet)
     (ends-up 80 (omega arith)
@@ -64,7 +63,7 @@ register-ends number writes reach moved h =
     (reach-total (say "moved ") reach moved (spoken 6 refl))))
 
 code-ends : (code times : ℕ) → code < 100 → times ≤ most_count → Ends (code_line code times) 80
-unfolding code_line tokens_text form_text ascii up_to_dot
+unfolding code_line tokens_text token_text ascii up_to_dot
 code-ends code times small h =
     line-ends (eqb times 0) (ends-up 80 (omega arith) nothing_yet)
     (ends-up 80 (omega arith)
@@ -73,7 +72,7 @@ code-ends code times small h =
     (code-total code)))
 
 label-total : (k : ℕ) → Total (number_label k) 25
-unfolding number_label tokens_text form_text ascii up_to_dot
+unfolding number_label tokens_text token_text ascii up_to_dot
 label-total k = more (row_within k) (more (spoken 1 refl) (ended refl))
 
 timing-ends : (k first last : ℕ) → first < 2 ^ 32 → last < 2 ^ 32 → Ends (timing_line k first last) 80

@@ -2,10 +2,9 @@
 -- Assumes nothing.
 use Rattle.std.specs.Prelude.{ℕ, ◌-◌, cond, not, List, [], ◌∷◌, eqb, ltb, get_or}
 use Rattle.file.specs.declared.answer.Answer.{Answer}
-use Rattle.explaining.specs.declared.line.Line.{Line}
 use Rattle.explaining.specs.declared.token.Token.{Token}
 use Rattle.explaining.specs.Explained.{bit_digits, changed}
-use Rattle.explaining.specs.Lines.{blank, columned, decimal_token, hex_token, lines_of, most_answer, name_token, phrase, say, told}
+use Rattle.explaining.specs.Lines.{Line, blank, columned, decimal_token, hex_token, lines_of, most_answer, name_token, phrase, say, told}
 use Rattle.explaining.specs.Moves.{number_label}
 use Rattle.explaining.specs.Words.{code_words}
 use Rattle.summing.specs.declared.summary.Summary.{Summary}

@@ -6,9 +6,8 @@ use Rattle.file.specs.declared.answer.Answer.{Answer}
 use Rattle.file.specs.declared.registers.File.{File}
 use Rattle.access.specs.declared.record.Item.{Item}
 use Rattle.explaining.specs.declared.explain.Case.{Case}
-use Rattle.explaining.specs.declared.line.Line.{Line}
 use Rattle.explaining.specs.Explained.{case_of, first_line, number_line}
-use Rattle.explaining.specs.Lines.{blank, lines_of, most_answer}
+use Rattle.explaining.specs.Lines.{Line, blank, lines_of, most_answer}
 
 -- a number moved: it reads otherwise after than before
 unfoldable pub moved_at : List ℕ → List ℕ → ℕ → Bool

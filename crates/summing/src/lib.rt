@@ -6,5 +6,5 @@ mod summary;
 mod together;
 
 pub use closing::summary_lines;
-pub use summary::{Summary, begin, take_in};
+pub use summary::{Summary, begin, record_summed, take_in};
 pub use together::together_lines;

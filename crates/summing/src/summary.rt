@@ -1,24 +1,25 @@
 // What is kept of a trace, record by record.
 ghost use Rattle.std.specs.Prelude.{◌≡◌};
 ghost use Rattle.summing.specs.Summed.{begun, coded as codedBy, ended as ended_by, more as moreOf, moved_bits, reached as reachedBy, taken_in};
+ghost use Rattle.summing.specs.Told.{record_summed};
 
 use access::Item;
-use explaining::{numbers_in, reach_in, register_of};
+use explaining::{NUMBERS, numbers_in, reach_in, register_of};
 use file::{File, REGISTERS};
 
 // The codes from 0 to 20.
-const CODES: usize = 21;
+pub const CODES: usize = 21;
 
 // Of each register how many writes, the union of reaches and the bits that ever moved; how often each code came; the timing numbers at the start and
-// at the end.
+// at the end. Three tables of registers and not one of structs, since each has a law of its own: how many, a union, what differs.
 #[derive(Clone, Copy)]
 pub struct Summary {
-    pub writes: [u64; 108],
-    pub reaches: [u16; 108],
-    pub moved: [u16; 108],
-    pub codes: [u64; 21],
-    pub first: [u32; 15],
-    pub last: [u32; 15],
+    pub writes: [u64; REGISTERS],
+    pub reaches: [u16; REGISTERS],
+    pub moved: [u16; REGISTERS],
+    pub codes: [u64; CODES],
+    pub first: [u32; NUMBERS],
+    pub last: [u32; NUMBERS],
 }
 
 // Before the first record.
@@ -27,10 +28,10 @@ pub fn begin(file: File) -> Summary
 {
     let numbers = numbers_in(file);
     Summary {
-        writes: [0; 108],
-        reaches: [0; 108],
-        moved: [0; 108],
-        codes: [0; 21],
+        writes: [0; REGISTERS],
+        reaches: [0; REGISTERS],
+        moved: [0; REGISTERS],
+        codes: [0; CODES],
         first: numbers,
         last: numbers,
     }
@@ -40,7 +41,7 @@ pub fn begin(file: File) -> Summary
 fn more(n: u64) -> u64
     ensures { result ≡ moreOf n }
 {
-    if n < u64::MAX { n + 1 } else { n }
+    n.saturating_add(1)
 }
 
 // A register is reached in some bits, of which some moved; one that is reached in none is not.
@@ -74,7 +75,7 @@ fn coded(summary: Summary, code: u8) -> Summary
 }
 
 // The numbers are these.
-fn ended(summary: Summary, numbers: [u32; 15]) -> Summary
+fn ended(summary: Summary, numbers: [u32; NUMBERS]) -> Summary
     ensures { result ≡ ended_by summary numbers }
 {
     let mut after = summary;
@@ -102,4 +103,14 @@ pub fn take_in(summary: Summary, file: File, item: Item) -> Summary
     let summary = reached(summary, number, reach.bits, moved);
     let summary = coded(summary, answer.code());
     ended(summary, numbers_in(after))
+}
+
+// The same where a summary is kept.
+pub fn record_summed(sums: bool, summary: Summary, file: File, item: Item) -> Summary
+    ensures { result ≡ record_summed sums summary file item }
+{
+    if sums {
+        return take_in(summary, file, item);
+    }
+    summary
 }

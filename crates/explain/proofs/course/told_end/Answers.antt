@@ -7,7 +7,7 @@ use lib.ListN.{length}
 use Rattle.explaining.specs.Explained.{record_answer, record_most}
 use Rattle.explaining.specs.Lines.{most_answer}
 use Rattle.summing.specs.Together.{together_answer, together_most}
-use Rattle.explain.specs.Told.{record_told}
+use Rattle.summing.specs.Told.{record_told}
 use Rattle.explain.proofs.ToldInParts.{text-stands}
 use Rattle.explain.proofs.course.told_end.Goals as goal
 

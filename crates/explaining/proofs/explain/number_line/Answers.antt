@@ -7,8 +7,8 @@ use Rattle.explaining.proofs.MovedBits.{no_number}
 use Rattle.explaining.proofs.explain.number_line.Goals as goal
 
 pub returns-then-k-ge-NUMBERS : goal.returns-then-k-ge-NUMBERS
-returns-then-k-ge-NUMBERS c = c.blank_line.ensures ∙ sym (no_number c.args.case c.args.k c.if-k-ge-NUMBERS.true)
+returns-then-k-ge-NUMBERS c = c.blank.ensures ∙ sym (no_number c.args.case c.args.k c.if-k-ge-NUMBERS.true)
 
 pub returns : goal.returns
 unfolding number_line wide register
-returns c = rw (c.part_line.ensures, c.number_label.ensures, c.alone-last.ensures, c.decimal-2.ensures, c.from_u32-2.ensures, c.alone-first.ensures, c.decimal.ensures, c.from_u32.ensures, c.may_move-shown.ensures, c.is_wide-wide.ensures)
+returns c = rw (c.part_line.ensures, c.number_label.ensures, c.phrase-last.ensures, c.decimal-2.ensures, c.from-2.ensures, c.phrase-first.ensures, c.decimal.ensures, c.from.ensures, c.may_move-shown.ensures, c.is_wide-wide.ensures)

@@ -1,29 +1,29 @@
 -- `explain::place_line` meets its contract. Assumes nothing.
 use Prim.Native.Nat.{◌+◌}
-use mathlib.Core.Path.{refl}
-use native.Mathlib.Omega.{arith}
-use borrow.Author.Tests.{le-leb, lt-leb}
+use mathlib.Core.Path.{refl, sym, ◌∙◌}
+use borrow.Author.Tests.{leb-true}
 use lib.ListN.{length}
 use Rattle.explaining.specs.Lines.{line_room, line_text}
-use Rattle.explaining.proofs.PutLines.{line-short}
 use Rattle.explaining.proofs.RoomLined.{lined, unlined}
-use Rattle.explaining.proofs.Typed.{line-count}
 use Rattle.explaining.proofs.explain.place_line.Goals as goal
 
-pub returns-then-buffer-lt160 : goal.returns-then-buffer-lt160
-returns-then-buffer-lt160 c =
+pub put_line-requires : goal.put_line-requires
+put_line-requires c =
     let args = c.args in
-    unlined args.buffer.now args.at line_room (line_text args.line) (lt-leb (args.at + line_room) (length args.buffer.now) (omega arith))
+    leb-true (args.at + line_room) (length args.buffer.now) (sym c.has_room.ensures ∙ c.if-has_room.true)
 
-pub returns-then-buffer-at : goal.returns-then-buffer-at
-returns-then-buffer-at c =
+pub returns-then-has_room : goal.returns-then-has_room
+returns-then-has_room c =
     let args = c.args in
-    unlined args.buffer.now args.at line_room (line_text args.line) (lt-leb (args.at + line_room) (length args.buffer.now) (omega arith))
+    let put = c.put_line.ensures in
+    rw c.stored.ensures (
+    lined args.buffer.now args.at line_room (line_text args.line) (sym c.has_room.ensures ∙ c.if-has_room.true)
+    (line_text args.line) refl _ _ put.wrote put.upper_bound
+    )
 
 pub returns : goal.returns
 returns c =
     let args = c.args in
-    let put = c.put_line in
-    lined args.buffer.now args.at line_room (line_text args.line) (le-leb (args.at + line_room) (length args.buffer.now) (omega arith))
-    (line_text args.line) refl _ _ put.ensures
-    (omega (arith, put.ensures.place, line-short args.line (line-count args.line _ c.well_formed.1.1.0)))
+    rw c.no_room.ensures (
+    unlined args.buffer.now args.at line_room (line_text args.line) (sym c.has_room.ensures ∙ c.if-has_room.false)
+    )

@@ -5,4 +5,4 @@ use Rattle.explaining.proofs.explain.pointer_line.Goals as goal
 
 pub returns : goal.returns
 unfolding pointer_line ascii
-returns c = rw (c.part_line.ensures, c.pointer_words-2.ensures, c.pointer_words.ensures, c.pointer_code-2.ensures, c.pointer_code.ensures, c.alone-label.ensures, c.say.ensures)
+returns c = rw (c.part_line.ensures, c.pointer_words-2.ensures, c.pointer_words.ensures, c.pointer_code-2.ensures, c.pointer_code.ensures, c.phrase-label.ensures, c.say.ensures)

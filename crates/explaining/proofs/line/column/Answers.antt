@@ -3,31 +3,29 @@ use mathlib.Core.Path.{◌≡◌, refl, ap, ◌∙◌}
 use native.Mathlib.Omega.{arith}
 use borrow.Author.Tests.{lt-ltb, le-ltb}
 use lib.ListN.{replicate}
-use Rattle.explaining.specs.declared.line.Line.{Line}
-use Rattle.explaining.specs.Lines.{behind}
+use Rattle.text.specs.Fixed.{behind}
+use Rattle.explaining.specs.Lines.{Line}
 use Rattle.explaining.proofs.line.column.Goals as goal
 
-pub returns-then-line-to : goal.returns-then-line-to
+pub returns-then-end-to : goal.returns-then-end-to
 unfolding behind
-returns-then-line-to c = rw (le-ltb _ _ c.if-line-to.true) c.byte.ensures
+returns-then-end-to c = rw (le-ltb _ _ (rw c.len-end.ensures at c.if-end-to.true)) c.with_byte.ensures
 
-pub loop-at-init : goal.loop-at-init
-loop-at-init c = (refl, omega arith)
+pub spaces-init : goal.spaces-init
+spaces-init c = refl
 
-pub loop-at-preserved : goal.loop-at-preserved
+pub spaces-preserved : goal.spaces-preserved
 unfolding behind
-loop-at-preserved c =
-    let here = c.loop-at in
+spaces-preserved c =
+    let here = c.spaces in
     let to = c.args.to in
-    let left : to - here.at ≡ suc (to - (here.at + 1)) = omega (arith, c.loop-at-test.true) in (
-      ap (λ (l : Line). behind l (replicate (to - (here.at + 1)) 0x20)) c.byte-after.ensures ∙ rw left at here.invariant.0,
-      omega arith,
-    )
+    let left : to - here.counter ≡ suc (to - (here.counter + 1)) = omega arith in
+    ap (λ (l : Line). behind l (replicate (to - (here.counter + 1)) 0x20)) c.with_byte-after.ensures ∙ rw left at here.invariant
 
 pub returns : goal.returns
 unfolding behind
 returns c =
-    let here = c.loop-at in
+    let here = c.spaces in
     let to = c.args.to in
-    let none : to - here.at ≡ 0 = omega (arith, c.loop-at-test.false) in
-    rw (lt-ltb _ _ c.if-line-to.false) (rw none at here.invariant.0)
+    let none : to - here.counter ≡ 0 = omega arith in
+    rw (lt-ltb _ _ (rw c.len-end.ensures at c.if-end-to.false)) (rw c.len-end.ensures at (rw none at here.invariant))

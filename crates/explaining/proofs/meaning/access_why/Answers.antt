@@ -6,4 +6,4 @@ use Rattle.explaining.proofs.meaning.access_why.Goals as goal
 
 pub returns : goal.returns
 unfolding access_why is_write ascii
-returns c = rw (c.choose.ensures, c.say-3.ensures, c.either-sized.ensures, c.choose-value.ensures, c.say-2.ensures, c.say.ensures)
+returns c = rw (c.choose.ensures, c.say-3.ensures, c.choose-value.ensures, c.say-2.ensures, c.say.ensures)

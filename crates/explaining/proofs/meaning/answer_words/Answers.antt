@@ -45,11 +45,11 @@ returns-in-PaletteDown c = rw (c.in-PaletteDown.is, c.down_words.ensures)
 
 pub returns-in-OutOfRange : goal.returns-in-OutOfRange
 unfolding answer_words ascii
-returns-in-OutOfRange c = rw (c.in-OutOfRange.is, c.alone.ensures, c.none.ensures)
+returns-in-OutOfRange c = rw (c.in-OutOfRange.is, c.phrase.ensures, c.none.ensures)
 
 pub returns-in-ShortBuffer : goal.returns-in-ShortBuffer
 unfolding answer_words ascii
-returns-in-ShortBuffer c = rw (c.in-ShortBuffer.is, c.alone-in-ShortBuffer.ensures, c.none-in-ShortBuffer.ensures)
+returns-in-ShortBuffer c = rw (c.in-ShortBuffer.is, c.phrase-in-ShortBuffer.ensures, c.none-in-ShortBuffer.ensures)
 
 pub returns-in-NotSound : goal.returns-in-NotSound
 unfolding answer_words ascii
@@ -57,11 +57,11 @@ returns-in-NotSound c = rw (c.in-NotSound.is, c.code_words-in-NotSound.ensures)
 
 pub returns-in-NotBeforeRed : goal.returns-in-NotBeforeRed
 unfolding answer_words ascii
-returns-in-NotBeforeRed c = rw (c.in-NotBeforeRed.is, c.alone-in-NotBeforeRed.ensures, c.none-in-NotBeforeRed.ensures)
+returns-in-NotBeforeRed c = rw (c.in-NotBeforeRed.is, c.phrase-in-NotBeforeRed.ensures, c.none-in-NotBeforeRed.ensures)
 
 pub returns-in-OtherChip : goal.returns-in-OtherChip
 unfolding answer_words ascii
-returns-in-OtherChip c = rw (c.in-OtherChip.is, c.alone-in-OtherChip.ensures, c.none-in-OtherChip.ensures)
+returns-in-OtherChip c = rw (c.in-OtherChip.is, c.phrase-in-OtherChip.ensures, c.none-in-OtherChip.ensures)
 
 pub returns-in-OtherDirection : goal.returns-in-OtherDirection
 unfolding answer_words ascii

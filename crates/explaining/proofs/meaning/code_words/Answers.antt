@@ -4,4 +4,4 @@ use Rattle.explaining.proofs.meaning.code_words.Goals as goal
 
 pub returns : goal.returns
 unfolding code_words
-returns c = rw (c.choose_phrase.ensures, c.alone.ensures, c.code_word.ensures, c.locked_words.ensures)
+returns c = rw (c.choose.ensures, c.phrase.ensures, c.code_word.ensures, c.locked_words.ensures)

@@ -6,4 +6,4 @@ use Rattle.explaining.proofs.meaning.direction_words.Goals as goal
 
 pub returns : goal.returns
 unfolding direction_words is_write ascii
-returns c = rw (c.alone.ensures, c.choose.ensures, c.say-2.ensures, c.say.ensures)
+returns c = rw (c.phrase.ensures, c.choose.ensures, c.say-2.ensures, c.say.ensures)

@@ -6,4 +6,4 @@ use Rattle.explaining.proofs.meaning.done_words.Goals as goal
 
 pub returns : goal.returns
 unfolding done_words carries is_write is_passing ascii
-returns c = rw (c.choose_phrase.ensures, c.code_words.ensures, c.either.ensures, c.two-read.ensures, c.say.ensures, c.hex-what.ensures, c.wide.ensures, c.pick.ensures)
+returns c = rw (c.choose-2.ensures, c.code_words.ensures, c.phrase-read.ensures, c.say.ensures, c.hex-what.ensures, c.from.ensures, c.choose.ensures)

@@ -5,4 +5,4 @@ use Rattle.explaining.proofs.meaning.half_words.Goals as goal
 
 pub returns : goal.returns
 unfolding half_words ascii
-returns c = rw (c.three.ensures, c.short.ensures, c.named.ensures, c.choose-bit.ensures, c.say-2.ensures, c.say.ensures, c.is_set.ensures, c.register_of.ensures)
+returns c = rw (c.phrase.ensures, c.short.ensures, c.named.ensures, c.choose-bit.ensures, c.say-2.ensures, c.say.ensures, c.is_set.ensures, c.register_of.ensures)

@@ -5,4 +5,4 @@ use Rattle.explaining.proofs.meaning.inside_words.Goals as goal
 
 pub returns : goal.returns
 unfolding inside_words ascii
-returns c = rw (c.two.ensures, c.short.ensures, c.one_less.ensures, c.say.ensures)
+returns c = rw (c.phrase.ensures, c.short.ensures, c.saturating_sub.ensures, c.say.ensures)

@@ -5,4 +5,4 @@ use Rattle.explaining.proofs.meaning.malformed_words.Goals as goal
 
 pub returns : goal.returns
 unfolding malformed_words ascii
-returns c = rw (c.alone.ensures, c.choose.ensures, c.say.ensures, c.malformed_word.ensures)
+returns c = rw (c.phrase.ensures, c.choose.ensures, c.say.ensures, c.malformed_word.ensures)

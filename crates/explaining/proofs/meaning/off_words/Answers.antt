@@ -6,4 +6,4 @@ use Rattle.explaining.proofs.meaning.off_words.Goals as goal
 
 pub returns : goal.returns
 unfolding off_words is_port ascii
-returns c = rw (c.two.ensures, c.named.ensures, c.choose-bit.ensures, c.say-2.ensures, c.say.ensures)
+returns c = rw (c.phrase.ensures, c.named.ensures, c.choose-bit.ensures, c.say-2.ensures, c.say.ensures)

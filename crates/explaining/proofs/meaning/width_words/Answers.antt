@@ -5,4 +5,4 @@ use Rattle.explaining.proofs.meaning.width_words.Goals as goal
 
 pub returns : goal.returns
 unfolding width_words ascii
-returns c = rw (c.alone.ensures, c.choose.ensures, c.say-2.ensures, c.say.ensures)
+returns c = rw (c.phrase.ensures, c.choose.ensures, c.say-2.ensures, c.say.ensures)

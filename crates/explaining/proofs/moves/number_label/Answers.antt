@@ -6,7 +6,7 @@ use native.Mathlib.Omega.{arith}
 use lib.ListN.{get_or-eq_default}
 use Rattle.bits.proofs.Lists.{any-default}
 use Rattle.file.specs.Readers.{ascii}
-use Rattle.explaining.specs.Lines.{nothing, phrase, say, words_token}
+use Rattle.explaining.specs.Lines.{no_words, phrase, say, words_token}
 use Rattle.explaining.specs.Moves.{number_label, number_names, number_rows}
 use Rattle.explaining.proofs.moves.number_label.Goals as goal
 
@@ -14,12 +14,12 @@ pub returns-then-k-ge-NUMBERS : goal.returns-then-k-ge-NUMBERS
 unfolding number_label number_rows number_names ascii
 returns-then-k-ge-NUMBERS c =
     let k = c.args.k in
-    rw (c.two.ensures, c.none.ensures, c.say-space.ensures)
-    (ap (λ (row : List ℕ). phrase (words_token row ∷ say " " ∷ [])) (sym (get_or-eq_default number_rows nothing.bytes {n = k} (omega (arith, c.if-k-ge-NUMBERS.true)))))
+    rw (c.phrase.ensures, c.none.ensures, c.say-space.ensures)
+    (ap (λ (row : List ℕ). phrase (words_token row ∷ say " " ∷ [])) (sym (get_or-eq_default number_rows no_words {n = k} (omega (arith, c.if-k-ge-NUMBERS.true)))))
 
 pub returns : goal.returns
 unfolding number_label number_rows number_names ascii
 returns c =
     let k = c.args.k in
-    rw (c.two-2.ensures, c.say.ensures, c.say-space.ensures)
-    (ap (λ (row : List ℕ). phrase (words_token row ∷ say " " ∷ [])) (any-default number_rows k _ nothing.bytes (omega (arith, c.if-k-ge-NUMBERS.false))))
+    rw (c.phrase-2.ensures, c.say.ensures, c.say-space.ensures)
+    (ap (λ (row : List ℕ). phrase (words_token row ∷ say " " ∷ [])) (any-default number_rows k _ no_words (omega (arith, c.if-k-ge-NUMBERS.false))))

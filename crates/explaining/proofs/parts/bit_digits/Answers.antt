@@ -4,4 +4,4 @@ use Rattle.explaining.proofs.parts.bit_digits.Goals as goal
 
 pub returns : goal.returns
 unfolding bit_digits
-returns c = rw c.pick.ensures
+returns c = rw c.choose.ensures

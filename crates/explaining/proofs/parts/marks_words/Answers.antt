@@ -5,4 +5,4 @@ use Rattle.explaining.proofs.parts.marks_words.Goals as goal
 
 pub returns : goal.returns
 unfolding marks_words ascii
-returns c = rw (c.two.ensures, c.colour_word.ensures, c.choose-way.ensures, c.say-2.ensures, c.say.ensures)
+returns c = rw (c.phrase.ensures, c.colour_word.ensures, c.choose-way.ensures, c.say-2.ensures, c.say.ensures)

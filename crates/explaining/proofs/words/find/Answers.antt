@@ -1,12 +1,12 @@
 -- `words::find` meets its contract. Assumes nothing.
 use Prim.Native.Nat.{ℕ}
 use mathlib.Core.List.{List}
+use Rattle.std.specs.Prelude.{Some}
 use mathlib.Core.Path.{sym, ap, ap₂, ◌∙◌}
 use borrow.Author.Tests.{lt-ltb, le-ltb, not-true, not-false}
 use Rattle.bits.proofs.Test.{passes}
 use Rattle.file.specs.File.{seen}
 use Rattle.places.specs.EngineCells.{cell_in, cell_place, cell_table, is_nothing}
-use Rattle.explaining.specs.declared.words.Found.TheVariants.{Held}
 use Rattle.explaining.specs.Words.{found}
 use Rattle.explaining.proofs.FoundPlaces.{found_none, found_some, place-seen}
 use Rattle.explaining.proofs.words.find.Goals as goal
@@ -39,7 +39,7 @@ returns c =
     let low = c.if-kind-ge6.false in
     let cell = c.cell_at-cell.ensures ∙ ap (λ (t : List ℕ). cell_in t start.asked.kind start.asked.address) c.cells-cells.ensures in
     rw (is-sound, lt-ltb _ _ low)
-    (ap Held
+    (ap Some
     (c.place_of.ensures
     ∙ ap₂ (λ (t : List ℕ) (n : ℕ). cell_place t (seen start.file.registers start.file.state) n) c.cells-cells.ensures cell
     ∙ place-seen (cell_table start.file.state.chip) start.file _)

@@ -3,10 +3,10 @@ use Rattle.file.specs.Readers.{ascii}
 use Rattle.explaining.specs.Words.{found_words}
 use Rattle.explaining.proofs.words.found_words.Goals as goal
 
-pub returns-in-Held : goal.returns-in-Held
+pub returns-in-Some : goal.returns-in-Some
 unfolding found_words ascii
-returns-in-Held c = rw (c.in-Held.is, c.place_words.ensures)
+returns-in-Some c = rw (c.in-Some.is, c.place_words.ensures)
 
-pub returns-in-NotFound : goal.returns-in-NotFound
+pub returns-in-None : goal.returns-in-None
 unfolding found_words ascii
-returns-in-NotFound c = rw (c.in-NotFound.is, c.alone.ensures, c.say.ensures)
+returns-in-None c = rw (c.in-None.is, c.phrase.ensures, c.say.ensures)

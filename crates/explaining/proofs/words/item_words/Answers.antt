@@ -5,4 +5,4 @@ use Rattle.explaining.proofs.words.item_words.Goals as goal
 
 pub returns : goal.returns
 unfolding item_words ascii
-returns c = rw (c.choose_phrase.ensures, c.record_words.ensures, c.alone-fragment.ensures, c.say.ensures)
+returns c = rw (c.choose.ensures, c.record_words.ensures, c.phrase-fragment.ensures, c.say.ensures)

@@ -5,4 +5,4 @@ use Rattle.explaining.proofs.words.looked_words.Goals as goal
 
 pub returns : goal.returns
 unfolding looked_words ascii
-returns c = rw (c.choose_phrase.ensures, c.either-2.ensures, c.choose_phrase-seen.ensures, c.found_words.ensures, c.either.ensures, c.alone-other.ensures, c.say-2.ensures, c.alone-unseen.ensures, c.say.ensures)
+returns c = rw (c.choose.ensures, c.choose-seen.ensures, c.found_words.ensures, c.phrase-other.ensures, c.say-2.ensures, c.phrase-unseen.ensures, c.say.ensures)

@@ -5,4 +5,4 @@ use Rattle.explaining.proofs.words.passing_words.Goals as goal
 
 pub returns : goal.returns
 unfolding passing_words ascii
-returns c = rw (c.choose-address.ensures, c.short.ensures, c.choose-at.ensures, c.say-2.ensures, c.choose-width.ensures, c.decimal.ensures, c.choose-wide.ensures, c.say.ensures, c.decimal-lines.ensures, c.say-pass.ensures, c.none-none.ensures, c.both-odd.ensures)
+returns c = rw (c.choose-address.ensures, c.short.ensures, c.choose-at.ensures, c.say-2.ensures, c.choose-width.ensures, c.decimal.ensures, c.choose-wide.ensures, c.say.ensures, c.decimal-lines.ensures, c.say-pass.ensures, c.none-none.ensures)

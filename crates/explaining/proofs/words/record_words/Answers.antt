@@ -6,4 +6,4 @@ use Rattle.explaining.proofs.words.record_words.Goals as goal
 
 pub returns : goal.returns
 unfolding record_words is_passing ascii
-returns c = rw (c.choose_phrase.ensures, c.access_words.ensures, c.choose_phrase-other.ensures, c.two-unknown.ensures, c.decimal.ensures, c.say.ensures, c.passing_words-lines.ensures)
+returns c = rw (c.choose.ensures, c.access_words.ensures, c.choose-other.ensures, c.phrase-unknown.ensures, c.decimal.ensures, c.say.ensures, c.passing_words-lines.ensures)

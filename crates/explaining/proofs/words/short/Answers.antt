@@ -4,4 +4,4 @@ use Rattle.explaining.proofs.words.short.Goals as goal
 
 pub returns : goal.returns
 unfolding short
-returns c = rw (c.hex.ensures, c.wide.ensures, c.pick-2.ensures, c.pick.ensures)
+returns c = rw (c.hex.ensures, c.from.ensures, c.choose-2.ensures, c.choose.ensures)

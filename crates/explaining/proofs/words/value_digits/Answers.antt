@@ -2,4 +2,4 @@
 use Rattle.explaining.proofs.words.value_digits.Goals as goal
 
 pub returns : goal.returns
-returns c = rw (c.pick-2.ensures, c.pick.ensures, c.both-byte.ensures)
+returns c = rw (c.choose-2.ensures, c.choose.ensures)

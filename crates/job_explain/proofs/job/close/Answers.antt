@@ -2,7 +2,7 @@
 use mathlib.Core.Path.{refl}
 use Rattle.file.specs.Answers.{code_of, refused}
 use Rattle.text.specs.Lent.{behind_by, placed_by}
-use Rattle.job_explain.specs.Told.{closing}
+use Rattle.summing.specs.Told.{closing}
 use Rattle.job_explain.specs.Job.{close_answer}
 use Rattle.job_explain.proofs.job.close.Goals as goal
 
@@ -13,4 +13,4 @@ returns-then-sums c =
 
 pub returns : goal.returns
 unfolding closing close_answer behind_by placed_by refused code_of
-returns c = rw c.if-sums.false (record { answered = refl; ended = refl; bytes = refl })
+returns c = rw (c.stored.ensures, c.if-sums.false) (record { answered = refl; ended = refl; bytes = refl })

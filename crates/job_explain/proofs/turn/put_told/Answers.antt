@@ -3,7 +3,7 @@ use native.Mathlib.Omega.{arith}
 use Rattle.explaining.specs.Explained.{explained, record_answer, record_most}
 use Rattle.explaining.proofs.RoomLined.{had-most}
 use Rattle.summing.specs.Together.{moved_together, together_answer, together_most}
-use Rattle.job_explain.specs.Told.{record_told}
+use Rattle.summing.specs.Told.{record_told}
 use Rattle.job_explain.proofs.RecordsShort.{explained-short, together-short}
 use Rattle.job_explain.proofs.turn.put_told.Goals as goal
 

@@ -4,4 +4,4 @@ use Rattle.summing.proofs.closing.counted.Goals as goal
 
 pub returns : goal.returns
 unfolding counted
-returns c = rw (c.two.ensures, c.choose.ensures, c.decimal.ensures)
+returns c = rw (c.phrase.ensures, c.choose.ensures, c.decimal.ensures)

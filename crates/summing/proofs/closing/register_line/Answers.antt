@@ -5,4 +5,4 @@ use Rattle.summing.proofs.closing.register_line.Goals as goal
 
 pub returns : goal.returns
 unfolding register_line ascii
-returns c = rw (c.choose_line.ensures, c.told-2.ensures, c.blank_line.ensures, c.two-bits-2.ensures, c.hex-2.ensures, c.wide-2.ensures, c.say-2.ensures, c.column-line.ensures, c.told.ensures, c.two-bits.ensures, c.hex.ensures, c.wide.ensures, c.say.ensures, c.bit_digits-digits.ensures, c.count_line-line.ensures, c.counted.ensures, c.alone.ensures, c.named.ensures, c.say-many.ensures, c.say-one.ensures)
+returns c = rw (c.choose.ensures, c.told-2.ensures, c.blank.ensures, c.phrase-bits-2.ensures, c.hex-2.ensures, c.from-2.ensures, c.say-2.ensures, c.column-line.ensures, c.told.ensures, c.phrase-bits.ensures, c.hex.ensures, c.from.ensures, c.say.ensures, c.bit_digits-digits.ensures, c.count_line-line.ensures, c.counted.ensures, c.phrase.ensures, c.named.ensures, c.say-many.ensures, c.say-one.ensures)

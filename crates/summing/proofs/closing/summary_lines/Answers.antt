@@ -1,29 +1,31 @@
 -- `closing::summary_lines` meets its contract. Assumes nothing.
 use Prim.Native.Nat.{◌+◌}
-use mathlib.Core.Path.{refl}
-use native.Mathlib.Omega.{arith}
-use borrow.Author.Tests.{le-leb, lt-leb}
+use mathlib.Core.Path.{refl, sym, ◌∙◌}
+use borrow.Author.Tests.{leb-true}
 use lib.ListN.{length}
 use Rattle.explaining.proofs.RoomLined.{lined, unlined}
 use Rattle.summing.specs.Closing.{summary_answer, summary_most, summary_text}
 use Rattle.summing.proofs.closing.summary_lines.Goals as goal
 
-pub returns-then-buffer-lt-MOST : goal.returns-then-buffer-lt-MOST
-unfolding summary_answer
-returns-then-buffer-lt-MOST c =
+pub put_summary-requires : goal.put_summary-requires
+put_summary-requires c =
     let args = c.args in
-    unlined args.buffer.now args.at summary_most (summary_text args.summary) (lt-leb (args.at + summary_most) (length args.buffer.now) (omega arith))
+    leb-true (args.at + summary_most) (length args.buffer.now) (sym c.has_room.ensures ∙ c.if-has_room.true)
 
-pub returns-then-buffer-at : goal.returns-then-buffer-at
-unfolding summary_answer
-returns-then-buffer-at c =
+pub returns-then-has_room : goal.returns-then-has_room
+unfolding summary_answer summary_text
+returns-then-has_room c =
     let args = c.args in
-    unlined args.buffer.now args.at summary_most (summary_text args.summary) (lt-leb (args.at + summary_most) (length args.buffer.now) (omega arith))
+    let put = c.put_summary.ensures in
+    rw c.stored.ensures (
+    lined args.buffer.now args.at summary_most (summary_text args.summary) (sym c.has_room.ensures ∙ c.if-has_room.true)
+    (summary_text args.summary) refl _ _ put.wrote put.upper_bound
+    )
 
 pub returns : goal.returns
-unfolding summary_answer summary_text
+unfolding summary_answer
 returns c =
     let args = c.args in
-    let put = c.put_summary in
-    lined args.buffer.now args.at summary_most (summary_text args.summary) (le-leb (args.at + summary_most) (length args.buffer.now) (omega arith))
-    (summary_text args.summary) refl _ _ put.ensures.wrote put.ensures.upper_bound
+    rw c.no_room.ensures (
+    unlined args.buffer.now args.at summary_most (summary_text args.summary) (sym c.has_room.ensures ∙ c.if-has_room.false)
+    )

@@ -1,31 +1,20 @@
+-- `together::put_together` meets its contract. Assumes nothing.
+use Prim.Native.Nat.{ℕ, ◌+◌}
+use mathlib.Core.Path.{◌≡◌, sym, ◌∙◌}
 use native.Mathlib.Omega.{arith}
-use Rattle.explaining.specs.Lines.{line_room, line_text}
-use Rattle.explaining.proofs.PutLines.{line-short, lining-all, lining-next, lining-none}
-use Rattle.explaining.proofs.RoomLined.{had-most}
-use Rattle.explaining.proofs.Typed.{line-count}
-use Rattle.summing.specs.Together.{together_count, together_line}
+use borrow.Author.Rules.{rules}
+use Rattle.explaining.specs.Explained.{first_line}
+use Rattle.explaining.proofs.PutLines.{then-lines}
+use Rattle.summing.specs.Together.{moved_line, together_line}
+use Rattle.summing.proofs.LinesTold.{first-told, moved-told}
 use Rattle.summing.proofs.together.put_together.Goals as goal
-
-pub loop-k-init : goal.loop-k-init
-loop-k-init c = lining-none _ _ _ _
-
-pub loop-k-preserved : goal.loop-k-preserved
-loop-k-preserved c =
-    let here = c.loop-k in
-    let made = c.together_line-line in
-    let turn = c.loop-k-test.true in
-    let long = line-count made.result _ made.type_inv in
-    lining-next (together_line c.args.case) together_count _ c.args.at here.buffer here.at here.k here.invariant turn made.result made.ensures long _ _
-    (had-most here.buffer here.at line_room (line_text made.result) (omega (arith, c.requires, here.invariant.near, here.invariant.long, turn)) (line-short made.result long) _ _
-    c.place_line-placed.ensures)
-
-pub shape_of-buffer : goal.shape_of-buffer
-shape_of-buffer c = c.loop-k.invariant.long
 
 pub returns : goal.returns
 returns c =
-    let here = c.loop-k in
-    let start = c.args in record {
-      wrote = lining-all (together_line start.case) together_count _ start.at here.buffer here.at here.k here.invariant c.loop-k-test.false;
-      upper_bound = omega (arith, here.invariant.near, here.invariant.few);
+    let case = c.args.case in
+    let first = c.put_lines-at.ensures in
+    let rest = c.put_lines.ensures in record {
+      wrote = then-lines (together_line case) 1 15 (first.wrote (omega arith) (together_line case) (λ k l low post. let e : l ≡ first_line case = search rules in e ∙ sym (first-told case k low)))
+          (rest.wrote (omega (arith, first.upper_bound)) (λ (n : ℕ). together_line case (1 + n)) (λ k l low post. let e : l ≡ moved_line case k = search rules in e ∙ sym (moved-told case k)));
+      upper_bound = omega (arith, first.upper_bound, rest.upper_bound);
     }

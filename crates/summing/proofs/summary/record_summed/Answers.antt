@@ -1,7 +1,7 @@
--- `summed` keeps a summary where one is asked for. Assumes nothing.
+-- `summary::record_summed` keeps a summary where one is asked for. Assumes nothing.
 use mathlib.Core.Path.{refl}
-use Rattle.job_explain.specs.Told.{record_summed}
-use Rattle.job_explain.proofs.turn.summed.Goals as goal
+use Rattle.summing.specs.Told.{record_summed}
+use Rattle.summing.proofs.summary.record_summed.Goals as goal
 
 pub returns-then-sums : goal.returns-then-sums
 unfolding record_summed

@@ -1,5 +1,0 @@
--- `token::four` meets its contract. Assumes nothing.
-use Rattle.explaining.proofs.token.four.Goals as goal
-
-pub returns : goal.returns
-returns c = rw c.none-none.ensures
