@@ -1,13 +1,12 @@
 -- A number of more than 16 bits is out of range as 65535 is: the code's timing is written as the line's is. Assumes nothing.
-use Prim.Native.Nat.{ℕ, zero, suc, ◌+◌, ◌/◌, ◌%◌, ◌^◌, ◌≤◌, ◌<◌, min}
+use Prim.Native.Nat.{ℕ, zero, suc, ◌+◌, ◌/◌, ◌^◌, ◌≤◌, ◌<◌, min}
 use mathlib.Core.Bool.{Bool, false}
 use mathlib.Core.List.{List, [], ◌∷◌, map}
 use mathlib.Core.Path.{◌≡◌, refl, sym, ap, ◌∙◌}
 use native.Mathlib.Omega.{arith}
-use borrow.Author.Tests.{eq-eqb}
-use lib.Dec.{T, eqb, leb, leb→le, lit<}
+use lib.Dec.{T, leb, leb→le, lit<}
 use lib.ListN.{length, get_or}
-use Rattle.bits.proofs.Test.{by-test, left, right, passes, and-true}
+use Rattle.bits.proofs.Test.{by-test, left, right, passes}
 use Rattle.bits.specs.Numbers.{all_in_range}
 use Rattle.file.specs.File.{crtc_locked}
 use Rattle.file.specs.Sound.{sound}
@@ -18,8 +17,7 @@ use Rattle.timing.specs.Ranges.{Range, ◌to◌, end_of_bits, lies_in, lie_from,
 use Rattle.timing.specs.Table.{table, wide}
 use Rattle.timing.specs.Timing.{timing_of, numbers_of, write_timing}
 use Rattle.timing.specs.declared.Timing.{Timing}
-use Rattle.modes.specs.Form.{every}
-use Rattle.mode_file.specs.Said.{eights, in_clocks, fifteen, timing_said, clamped_said}
+use Rattle.mode_file.specs.Said.{in_clocks, fifteen, timing_said, clamped_said}
 
 -- a number of those that lie in their ranges lies in its own; an end's start is the one before it
 pub lies_at : (last : ℕ) (rs : List Range) (ns : List ℕ) (k : ℕ) → k < length rs → T (lie_from last rs ns)
@@ -150,9 +148,3 @@ pub said-clamped : (numbers : List ℕ) (hd ht vd vt hs he vs ve : ℕ) → hd �
     → timing_of (ht ∷ hd ∷ hd ∷ ht ∷ hs ∷ he ∷ vt ∷ vd ∷ vd ∷ vt ∷ vs ∷ ve ∷ 1023 ∷ hd ∷ 0 ∷ []) ≡ clamped_said numbers
 unfolding clamped_said fifteen in_clocks
 said-clamped numbers hd ht vd vt hs he vs ve a b c d e f g h = rw (a, b, c, d, e, f, g, h)
-
--- three multiples of 8, and a fourth or none
-pub last-even : (numbers : List ℕ) → get_or numbers 0 0 % 8 ≡ 0 → get_or numbers 1 0 % 8 ≡ 0 → get_or numbers 2 0 % 8 ≡ 0
-    → eqb (get_or numbers 3 0 % 8) 0 ≡ eights numbers
-unfolding eights every
-last-even numbers a b c = rw (eq-eqb _ 0 a, eq-eqb _ 0 b, eq-eqb _ 0 c) (sym (and-true (eqb (get_or numbers 3 0 % 8) 0)))

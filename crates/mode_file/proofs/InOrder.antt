@@ -1,27 +1,29 @@
 -- 02, 4/13: 'Reading tests 12, 18, 19, 8, 10': a test that comes first is answered, whatever those behind it would say. Assumes nothing.
+use Prim.Native.Nat.{ℕ}
 use mathlib.Core.Bool.{true, false}
 use mathlib.Core.Path.{◌≡◌}
+use Rattle.std.specs.Prelude.{Result, Ok, Err}
 use Rattle.file.specs.Sound.{sound}
 use Rattle.file.specs.declared.registers.File.{File}
-use Rattle.modes.specs.declared.mode.Parsed.{Parsed}
+use Rattle.modes.specs.declared.mode.Mode.{Mode}
 use Rattle.mode_file.specs.declared.verdict.Verdict.TheVariants.{NotSound, BadText, NotMultiple}
-use Rattle.mode_file.specs.Into.{refused_line, mode_line, read_with}
+use Rattle.mode_file.specs.Into.{mode_line, read_mode, read_parsed, read_result}
 use Rattle.mode_file.specs.Said.{eights}
 
-module _ (p : Parsed) (f : File) where
-  pub first-unsound : sound f ≡ false → refused_line NotSound 0 f ≡ read_with p f
-  unfolding read_with
-  first-unsound s = rw s
+module _ (f : File) where
+  pub first-unsound : (p : Result Mode ℕ) → sound f ≡ false → Err NotSound ≡ read_result p f
+  unfolding read_result
+  first-unsound p s = rw s
 
-  pub then-bad-text : sound f ≡ true → p.good ≡ false → refused_line BadText p.position f ≡ read_with p f
-  unfolding read_with
-  then-bad-text s g = rw (s, g)
+  pub then-bad-text : (place : ℕ) → sound f ≡ true → Err (BadText place) ≡ read_result (Err place) f
+  unfolding read_result read_parsed
+  then-bad-text place s = rw s
 
-  pub then-uneven : sound f ≡ true → p.good ≡ true → eights p.mode.numbers ≡ false → refused_line NotMultiple 0 f ≡ read_with p f
-  unfolding read_with
-  then-uneven s g e = rw (s, g, e)
+  pub then-uneven : (m : Mode) → sound f ≡ true → eights m.numbers ≡ false → Err NotMultiple ≡ read_result (Ok m) f
+  unfolding read_result read_parsed read_mode
+  then-uneven m s e = rw (s, e)
 
   -- 8 and 10 are the timing writer's, in its own order
-  pub then-timing : sound f ≡ true → p.good ≡ true → eights p.mode.numbers ≡ true → mode_line p.mode f ≡ read_with p f
-  unfolding read_with
-  then-timing s g e = rw (s, g, e)
+  pub then-timing : (m : Mode) → sound f ≡ true → eights m.numbers ≡ true → mode_line m f ≡ read_result (Ok m) f
+  unfolding read_result read_parsed read_mode
+  then-timing m s e = rw (s, e)

@@ -1,6 +1,6 @@
 -- 02, 4/13: what a modeline says to a file: the fifteen timing numbers, and the flags' bits of MISC.
 -- Assumes nothing.
-use Rattle.std.specs.Prelude.{ℕ, ◌+◌, ◌/◌, ◌%◌, min, Bool, false, cond, List, [], ◌∷◌, map, eqb, get_or}
+use Rattle.std.specs.Prelude.{ℕ, ◌+◌, ◌/◌, ◌%◌, min, Bool, false, cond, List, [], ◌∷◌, map, eqb, get_or, take}
 use Rattle.file.specs.declared.effect.Effect.{Effect}
 use Rattle.file.specs.declared.effect.Effect.TheVariants.{Store}
 use Rattle.file.specs.declared.registers.File.{File}
@@ -13,8 +13,7 @@ use Rattle.modes.specs.Form.{every}
 
 -- 'Horizontal numbers must be multiples of 8.'
 unfoldable pub eights : List ℕ → Bool
-eights numbers =
-    every (λ (n : ℕ). eqb (n % 8) 0) (get_or numbers 0 0 ∷ get_or numbers 1 0 ∷ get_or numbers 2 0 ∷ get_or numbers 3 0 ∷ [])
+eights numbers = every (λ (n : ℕ). eqb (n % 8) 0) (take 4 numbers)
 
 -- a line's eight numbers are display, sync start, sync end and total across, in pixels, and then down, in scanlines. The same with character clocks for
 -- pixels: eight pixels are one

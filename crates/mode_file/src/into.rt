@@ -1,22 +1,25 @@
 // A line into a file.
 ghost use Rattle.std.specs.Prelude.{◌≡◌};
-ghost use Rattle.mode_file.specs.Into.{ReadInto, mode_line, read_with, refused_line};
+ghost use Rattle.mode_file.specs.Into.{ReadInto, flagged_line, read_mode, read_result};
 
 use crate::said::{eights, flag_store, timing_said};
 use crate::verdict::Verdict;
-use file::{File, is_sound};
-use modes::{Mode, Parsed, parse};
+use file::{Answer, File, is_sound};
+use modes::{Mode, parse};
 use timing::write_timing;
 
-// What is answered: of a line that was read the name, as the place of its first byte and its size, the clock, and the file with the mode.
-// A refusal has no name, no clock and the file as given; of bad text also the place of the first bad byte.
+// What a line that was read says beside the mode: the name, as the place of its first byte and its size, and the clock.
 #[derive(Clone, Copy)]
-pub struct ReadLine {
-    pub verdict: Verdict,
-    pub position: usize,
+pub struct LineSaid {
     pub name_start: usize,
     pub name_size: usize,
     pub khz: u32,
+}
+
+// What is answered: of a line that was read what it says, and the file with the mode; of another why it is refused, and the file as given.
+#[derive(Clone, Copy)]
+pub struct ReadLine {
+    pub said: Result<LineSaid, Verdict>,
     pub file: File,
 }
 
@@ -24,66 +27,55 @@ pub struct ReadLine {
 pub fn read_into(line: &[u8], file: File) -> ReadLine
     ensures { ReadInto line.now file result }
 {
-    into_file(parse(line), file)
-}
-
-fn refused(verdict: Verdict, position: usize, file: File) -> ReadLine
-    ensures { result ≡ refused_line verdict position file }
-{
-    ReadLine {
-        verdict,
-        position,
-        name_start: 0,
-        name_size: 0,
-        khz: 0,
-        file,
+    match into_file(parse(line), file) {
+        Ok(done) => done,
+        Err(verdict) => ReadLine {
+            said: Err(verdict),
+            file,
+        },
     }
 }
 
 // What a line said, into a file.
-fn into_file(parsed: Parsed, file: File) -> ReadLine
-    ensures { result ≡ read_with parsed file }
+fn into_file(parsed: Result<Mode, usize>, file: File) -> Result<ReadLine, Verdict>
+    ensures { result ≡ read_result parsed file }
 {
     if !is_sound(file) {
-        return refused(Verdict::NotSound, 0, file);
+        return Err(Verdict::NotSound);
     }
-    if !parsed.good {
-        return refused(Verdict::BadText, parsed.position, file);
+    match parsed {
+        Ok(mode) => with_mode(mode, file),
+        Err(place) => Err(Verdict::BadText(place)),
     }
-    let mode = parsed.mode;
-    let numbers = mode.numbers;
-    if !eights(numbers) {
-        return refused(Verdict::NotMultiple, 0, file);
-    }
-    with_mode(mode, file)
 }
 
 // A mode into a file.
-fn with_mode(mode: Mode, file: File) -> ReadLine
-    ensures { result ≡ mode_line mode file }
+fn with_mode(mode: Mode, file: File) -> Result<ReadLine, Verdict>
+    ensures { result ≡ read_mode mode file }
 {
-    let numbers = mode.numbers;
-    let written = write_timing(file, timing_said(numbers));
-    let answer = written.answer;
-    let code = answer.code();
-    if code == 8 {
-        return refused(Verdict::Locked, 0, file);
+    if !eights(&mode.numbers[..4]) {
+        return Err(Verdict::NotMultiple);
     }
-    if code == 10 {
-        return refused(Verdict::OutOfRange, 0, file);
+    let written = write_timing(file, timing_said(mode.numbers));
+    match written.answer {
+        Answer::Done(_) => Ok(done(mode, written.file)),
+        Answer::Locked => Err(Verdict::Locked),
+        Answer::OutOfRange => Err(Verdict::OutOfRange),
+        _ => Err(Verdict::NotSound),
     }
-    if code != 0 {
-        return refused(Verdict::NotSound, 0, file);
-    }
-    let timed = written.file;
+}
+
+// What a mode said beside its timing, into a file that has that timing.
+fn done(mode: Mode, timed: File) -> ReadLine
+    ensures { result ≡ flagged_line mode timed }
+{
     let store = flag_store(mode.h_minus, mode.v_minus);
-    let after = store.apply(timed);
     ReadLine {
-        verdict: Verdict::Done,
-        position: 0,
-        name_start: 10,
-        name_size: mode.name,
-        khz: mode.khz,
-        file: after,
+        said: Ok(LineSaid {
+            name_start: 10,
+            name_size: mode.name,
+            khz: mode.khz,
+        }),
+        file: store.apply(timed),
     }
 }

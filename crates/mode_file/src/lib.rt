@@ -5,5 +5,5 @@ mod into;
 mod said;
 mod verdict;
 
-pub use into::{ReadLine, read_into};
+pub use into::{LineSaid, ReadLine, read_into};
 pub use verdict::Verdict;

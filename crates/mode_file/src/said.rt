@@ -1,32 +1,25 @@
 // What a mode says to a file: its fifteen timing numbers, and the bits of MISC.
-ghost use Rattle.std.specs.Prelude.{◌≡◌, min, length};
-ghost use Rattle.mode_file.specs.Said.{eights as allEights, flag_bits, flag_store, clamped_said};
+ghost use Rattle.std.specs.Prelude.{◌≡◌, ◌%◌, eqb, min};
+ghost use Rattle.modes.specs.Form.{every};
+ghost use Rattle.mode_file.specs.Said.{flag_bits, flag_store, clamped_said};
 
 use file::{Effect, MISC};
 use modes::Mode;
 use timing::{Clocks, Scanlines, Timing};
 
-// Each horizontal number is a multiple of 8.
-pub fn eights(numbers: [u32; 8]) -> bool
-    ensures { result ≡ allEights numbers }
+// Each of these numbers is a multiple of 8.
+#[tactic(auto, unfolding(modes::specs::Form::every))]
+pub fn eights(numbers: &[u32]) -> bool
+    ensures { result ≡ every (λ n. eqb (n % 8) 0) numbers.now }
 {
-    if numbers[0] % 8 != 0 {
-        return false;
-    }
-    if numbers[1] % 8 != 0 {
-        return false;
-    }
-    if numbers[2] % 8 != 0 {
-        return false;
-    }
-    numbers[3] % 8 == 0
+    numbers.iter().all(|n| n % 8 == 0)
 }
 
 // A number of 16 bits; one that is larger becomes 65535, which no number of a line may be either.
 fn clamped(n: u32) -> u16
     ensures { result ≡ min n 65535 }
 {
-    if n > 65535 { 65535 } else { n as u16 }
+    n.min(65535) as u16
 }
 
 // The fifteen numbers of a mode. Eight pixels are a character clock.
@@ -56,18 +49,21 @@ pub fn timing_said(numbers: [u32; 8]) -> Timing
     }
 }
 
-// MISC[6] and [7]: 1 is minus.
+// MISC[6] and [7]: 1 is minus. Four numbers, as `mode_text` has four texts: what they have in common is the match.
+#[tactic(auto, unfolding(crate::specs::Said::flag_bits))]
 fn flag_bits(h_minus: bool, v_minus: bool) -> u16
     ensures { result ≡ flag_bits h_minus v_minus }
 {
-    if h_minus {
-        if v_minus { 0xC0 } else { 0x40 }
-    } else {
-        if v_minus { 0x80 } else { 0 }
+    match (h_minus, v_minus) {
+        (true, true) => 0xC0,
+        (true, false) => 0x40,
+        (false, true) => 0x80,
+        (false, false) => 0,
     }
 }
 
 // The flags' store, by the one rule.
+#[tactic(auto, unfolding(crate::specs::Said::flag_store, crate::specs::Said::flag_reach))]
 pub fn flag_store(h_minus: bool, v_minus: bool) -> Effect
     ensures { result ≡ flag_store h_minus v_minus }
 {

@@ -2,7 +2,7 @@
 use Prim.Native.Nat.{ℕ}
 use mathlib.Core.Bool.{Bool, cond, ◌&&◌}
 use mathlib.Core.List.{List, [], ◌∷◌, ◌++◌}
-use mathlib.Core.Path.{◌≡◌, sym, ap, ◌∙◌, subst}
+use mathlib.Core.Path.{◌≡◌, refl, sym, ap, ◌∙◌, subst}
 use borrow.Author.Tests.{ne_eqb}
 use lib.Dec.{T, leb}
 use lib.ListN.{length, drop}
@@ -11,27 +11,36 @@ use Rattle.file.specs.Answers.{among}
 use Rattle.file.specs.Sound.{sound}
 use Rattle.file.specs.declared.registers.File.{File}
 use Rattle.timing.specs.Timing.{timing_in}
-use Rattle.mode_file.specs.Verdicts.{number_of}
+use Rattle.mode_file.specs.Verdicts.{number_of, code_said}
+use Rattle.std.specs.Prelude.{Result, Ok, Err}
 use Rattle.mode_file.specs.declared.verdict.Verdict.{Verdict}
-use Rattle.mode_file.specs.declared.verdict.Verdict.TheVariants.{Done, NotSound, OtherTiming, OutOfForm}
+use Rattle.mode_file.specs.declared.verdict.Verdict.TheVariants.{NotSound, OtherTiming, OutOfForm}
 use Rattle.mode_text.specs.Out.{name_fits, clock_fits, of_form, line_out, write_verdict, done, WroteFrom}
-use Rattle.mode_text.specs.declared.write.WrittenLine.{WrittenLine}
 
-module _ (f : File) (name : List ℕ) (khz : ℕ) (before after : List ℕ) (r : WrittenLine) (met : WroteFrom f name khz before after r) where
-  abbrev listed : Verdict → Bool
-  listed v = among (0 ∷ 12 ∷ 21 ∷ 22 ∷ []) (number_of v)
+only_verdict : (r : Result ℕ Verdict) → (code_said r ≡ 0 → ⊥) → (v : Verdict) × (r ≡ Err v)
+unfolding code_said
+only_verdict (Ok size) n = absurd (n refl)
+only_verdict (Err v) n = (v, refl)
 
-  pub writing-codes : T (among (0 ∷ 12 ∷ 21 ∷ 22 ∷ []) (number_of r.verdict))
-  unfolding write_verdict among number_of
+module _ (f : File) (name : List ℕ) (khz : ℕ) (before after : List ℕ) (r : Result ℕ Verdict) (met : WroteFrom f name khz before after r) where
+  abbrev listed : Result ℕ Verdict → Bool
+  listed x = among (0 ∷ 12 ∷ 21 ∷ 22 ∷ []) (code_said x)
+
+  pub writing-codes : T (among (0 ∷ 12 ∷ 21 ∷ 22 ∷ []) (code_said r))
+  unfolding write_verdict among number_of code_said
   writing-codes =
-      subst (λ (v : Verdict). T (listed v)) (sym met.answered)
-      (chosen listed (sound f) _ NotSound
-      (chosen listed (name_fits name && clock_fits khz && leb 256 (length before)) _ OutOfForm (chosen listed (of_form (timing_in f)) Done OtherTiming tt tt) tt) tt)
+      subst (λ (x : Result ℕ Verdict). T (listed x)) (sym met.answered)
+      (chosen listed (sound f) _ (Err NotSound)
+      (chosen listed (name_fits name && clock_fits khz && leb 256 (length before)) _ (Err OutOfForm)
+      (chosen listed (of_form (timing_in f)) (Ok (length (line_out f name khz))) (Err OtherTiming) tt tt) tt) tt)
 
-  pub writing-refused : (number_of r.verdict ≡ 0 → ⊥) → (after ≡ before) × (r.size ≡ 0)
+  -- a refusal has no size either: it is a verdict alone
+  pub writing-refused : (code_said r ≡ 0 → ⊥) → (after ≡ before) × (v : Verdict) × (r ≡ Err v)
   unfolding done
   writing-refused n =
-      let no = ne_eqb (number_of r.verdict) 0 n in (
-        met.bytes ∙ ap (λ (b : Bool). cond b (line_out f name khz ++ drop (length (line_out f name khz)) before) before) no,
-        met.size ∙ ap (λ (b : Bool). cond b (length (line_out f name khz)) 0) no,
+      let v = only_verdict r n in (
+        met.bytes
+            ∙ ap (λ (b : Bool). cond b (line_out f name khz ++ drop (length (line_out f name khz)) before) before) (ne_eqb (code_said r) 0 n),
+        v.0,
+        v.1,
       )

@@ -1,10 +1,9 @@
 -- The parts that the code stores, one behind the other, are the line. Assumes nothing.
-use Prim.Native.Nat.{ℕ, ◌+◌, ◌/◌, ◌%◌, ◌≤◌, ◌<◌}
+use Prim.Native.Nat.{ℕ, ◌+◌, ◌/◌, ◌%◌, ◌≤◌}
 use mathlib.Core.Bool.{Bool, true, false, cond, true≢false, ◌&&◌}
 use mathlib.Core.List.{List, [], ◌∷◌, ◌++◌, append_assoc, append-nil, map}
 use mathlib.Core.Path.{◌≡◌, refl, sym, ap, ◌∙◌, subst}
 use native.Mathlib.Omega.{arith}
-use borrow.Author.Tests.{le-leb, lt-leb}
 use lib.Dec.{leb}
 use lib.ListN.{length, drop, length-append}
 use lib.Seq.{sets-eq}
@@ -18,9 +17,10 @@ use Rattle.timing.specs.Timing.{timing_in, timing_of, read_timing}
 use Rattle.timing.specs.declared.Read.{Read}
 use Rattle.timing.specs.declared.Timing.{Timing}
 use Rattle.modes.specs.Form.{clock_text, flag_text, flags_text, header, letter, numbers_text, sign, spelled}
-use Rattle.mode_file.specs.Verdicts.{number_of}
+use Rattle.mode_file.specs.Verdicts.{number_of, code_said}
+use Rattle.std.specs.Prelude.{Ok, Err}
 use Rattle.mode_file.specs.declared.verdict.Verdict.{Verdict}
-use Rattle.mode_file.specs.declared.verdict.Verdict.TheVariants.{Done, NotSound, OtherTiming, OutOfForm}
+use Rattle.mode_file.specs.declared.verdict.Verdict.TheVariants.{NotSound, OtherTiming, OutOfForm}
 use Rattle.mode_text.specs.Out.{name_fits, clock_fits, of_form, numbers_out, clock_out, flags_out, minus_in, parts_with, parts_out, line_out, write_verdict, done, WroteFrom}
 
 -- a line's numbers are numbers that are spaced, with no minus
@@ -57,7 +57,7 @@ module _ (name : List ℕ) (khz : ℕ) (ns : List ℕ) (h v : Bool) where
   unfolding parts_with spelled clock_text clock_out
   stored-line = joined header name (clock_out khz) (numbers_text (map decimal ns)) (flags_text (flags_out h v))
 
-  flags_long : length (flags_text (flags_out h v)) ≡ 14
+  pub flags_long : length (flags_text (flags_out h v)) ≡ 14
   unfolding flags_text flags_out flag_text sign letter
   flags_long = refl
 
@@ -82,54 +82,39 @@ unfolding line_out parts_out
 parts-read f name khz t ns h v et en eh ev = rw (en, et, eh, ev)
 
 module _ (f : File) (name : List ℕ) (khz : ℕ) (before : List ℕ) where
-  refused : (v : Verdict) → v ≡ write_verdict f name khz (length before) → done v ≡ false → WroteFrom f name khz before before (record { verdict = v; size = 0 })
+  refused : (v : Verdict) → Err v ≡ write_verdict f name khz (length before) → done {A = ℕ} (Err v) ≡ false → WroteFrom f name khz before before (Err v)
   refused v e n =
       record {
         answered = e;
-        size = ap (λ (b : Bool). cond b (length (line_out f name khz)) 0) (sym n);
         bytes = ap (λ (b : Bool). cond b (line_out f name khz ++ drop (length (line_out f name khz)) before) before) (sym n);
       }
 
-  pub write-unsound : sound f ≡ false → WroteFrom f name khz before before (record { verdict = NotSound; size = 0 })
-  unfolding write_verdict done number_of
+  pub write-unsound : sound f ≡ false → WroteFrom f name khz before before (Err NotSound)
+  unfolding write_verdict done number_of code_said
   write-unsound s = refused NotSound (rw s) refl
 
   abbrev asked : Bool
   asked = name_fits name && clock_fits khz && leb 256 (length before)
 
-  pub write-unfit : sound f ≡ true → asked ≡ false → WroteFrom f name khz before before (record { verdict = OutOfForm; size = 0 })
-  unfolding write_verdict done number_of
+  pub write-unfit : sound f ≡ true → asked ≡ false → WroteFrom f name khz before before (Err OutOfForm)
+  unfolding write_verdict done number_of code_said
   write-unfit s e = refused OutOfForm (rw (s, e)) refl
 
-  pub write-other : sound f ≡ true → asked ≡ true → of_form (timing_in f) ≡ false → WroteFrom f name khz before before (record { verdict = OtherTiming; size = 0 })
-  unfolding write_verdict done number_of
+  pub write-other : sound f ≡ true → asked ≡ true → of_form (timing_in f) ≡ false → WroteFrom f name khz before before (Err OtherTiming)
+  unfolding write_verdict done number_of code_said
   write-other s e o = refused OtherTiming (rw (s, e, o)) refl
 
   pub write_done : (after : List ℕ) (size : ℕ) → sound f ≡ true → asked ≡ true → of_form (timing_in f) ≡ true → Wrote before 0 (line_out f name khz) after size
-      → length (line_out f name khz) ≤ length before → WroteFrom f name khz before after (record { verdict = Done; size = size })
-  unfolding write_verdict done number_of
+      → length (line_out f name khz) ≤ length before → WroteFrom f name khz before after (Ok size)
+  unfolding write_verdict done number_of code_said
   write_done after size s e o w room =
       let long : 0 + length (line_out f name khz) ≡ length (line_out f name khz) = omega arith in
       record {
-        answered = rw (s, e, o);
-        size = w.place ∙ long;
+        answered = ap Ok (w.place ∙ long) ∙ sym (rw (s, e, o));
         bytes =
             w.bytes ∙ sets-eq (line_out f name khz) before 0 (omega (arith, room))
             ∙ ap (λ (k : ℕ). line_out f name khz ++ drop k before) long;
       }
-
-  -- what is asked for, test by test
-  pub no_name : name_fits name ≡ false → asked ≡ false
-  no_name e = rw e
-
-  pub no-clock : name_fits name ≡ true → clock_fits khz ≡ false → asked ≡ false
-  no-clock e c = rw (e, c)
-
-  pub no_room : name_fits name ≡ true → clock_fits khz ≡ true → length before < 256 → asked ≡ false
-  no_room e c h = rw (e, c, lt-leb 256 (length before) h)
-
-  pub all_fit : name_fits name ≡ true → clock_fits khz ≡ true → 256 ≤ length before → asked ≡ true
-  all_fit e c h = rw (e, c, le-leb 256 (length before) h)
 
 -- the timing that was read of a sound file
 pub timing-read : (f : File) (r : Read) → sound f ≡ true → r ≡ read_timing f → r.timing ≡ timing_in f

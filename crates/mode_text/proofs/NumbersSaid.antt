@@ -2,11 +2,11 @@
 use Prim.Native.Nat.{ℕ, zero, suc, ◌*◌, ◌/◌, ◌%◌}
 use mathlib.Core.Bool.{Bool, true}
 use mathlib.Core.List.{List, [], ◌∷◌}
-use mathlib.Core.Path.{◌≡◌, refl, ap}
+use mathlib.Core.Path.{◌≡◌, refl, ap, sym, subst}
 use native.Mathlib.Omega.{arith}
 use borrow.Author.Tests.{eq-eqb}
 use lib.Dec.{T, eqb, eqb→eq}
-use lib.ListN.{length, get_or}
+use lib.ListN.{length, get_or, take}
 use Rattle.bits.proofs.Test.{left, right}
 use Rattle.timing.specs.Timing.{timing_of, numbers_of}
 use Rattle.timing.specs.declared.Timing.{Timing}
@@ -86,10 +86,11 @@ unfolding numbers_out timing_said timing_of fifteen in_clocks eights every
 numbers-back ns e t =
     let multiple : (k : ℕ) → Bool = λ k. eqb (get_or ns k 0 % 8) 0 in
     let tests : List Bool = multiple 0 ∷ multiple 1 ∷ multiple 2 ∷ multiple 3 ∷ [] in
+    let passed : T (every (λ (x : Bool). x) tests) = subst (λ (l : List ℕ). T (every (λ (n : ℕ). eqb (n % 8) 0) (take 4 l))) (sym (eight-of ns e)) t in
     rw (
-      whole (get_or ns 0 0) (each-passes tests 0 t),
-      whole (get_or ns 1 0) (each-passes tests 1 t),
-      whole (get_or ns 2 0) (each-passes tests 2 t),
-      whole (get_or ns 3 0) (each-passes tests 3 t),
+      whole (get_or ns 0 0) (each-passes tests 0 passed),
+      whole (get_or ns 1 0) (each-passes tests 1 passed),
+      whole (get_or ns 2 0) (each-passes tests 2 passed),
+      whole (get_or ns 3 0) (each-passes tests 3 passed),
     )
     (eight-of ns e)

@@ -1,6 +1,6 @@
 -- 02, 4/13: a line that was read, written again with its name and its clock from the file that it was read into, is the same line with three decimals and
 -- both flags. Assumes nothing.
-use Prim.Native.Nat.{ℕ, zero, suc, ◌-◌, ◌*◌, ◌/◌, ◌%◌, ◌^◌}
+use Prim.Native.Nat.{◌≤◌, ℕ, zero, suc, ◌-◌, ◌*◌, ◌/◌, ◌%◌, ◌^◌}
 use mathlib.Core.Bool.{true}
 use mathlib.Core.List.{List, ◌++◌, map}
 use mathlib.Core.Path.{◌≡◌, sym, ap, ◌∙◌}
@@ -15,13 +15,16 @@ use Rattle.file.specs.declared.registers.File.{File}
 use Rattle.text.specs.Text.{decimal}
 use Rattle.timing.specs.Timing.{timing_in}
 use Rattle.modes.proofs.Tokens.{value-append}
-use Rattle.modes.specs.Form.{horizontal, vertical, Parts, every, digit, value_from, value_of, kilohertz, Formed, spelled, minus_of, mode_of}
+use Rattle.modes.specs.declared.mode.Axis.TheVariants.{Horizontal, Vertical}
+use Rattle.modes.specs.Form.{Parts, every, digit, value_from, value_of, kilohertz, Formed, spelled, minus_of, mode_of}
 use Rattle.mode_file.proofs.Laws.{line-accepted, line-good, line_read, line-sound}
 use Rattle.mode_file.specs.Into.{ReadInto}
 use Rattle.mode_file.specs.Said.{timing_said}
-use Rattle.mode_file.specs.Verdicts.{number_of}
+use Rattle.mode_file.specs.Verdicts.{code_said}
 use Rattle.mode_file.specs.declared.into.ReadLine.{ReadLine}
-use Rattle.mode_file.specs.declared.verdict.Verdict.TheVariants.{Done}
+use Rattle.mode_file.specs.declared.into.LineSaid.{LineSaid}
+use Rattle.mode_file.specs.Promises.{name_in}
+use Rattle.std.specs.Prelude.{Ok}
 use Rattle.mode_text.specs.Out.{name_fits, clock_fits, numbers_out, parts_with, parts_out, line_out, minus_in, write_verdict}
 use Rattle.mode_text.specs.Promises.{respelled, Respelled, WrittenAgain}
 use Rattle.mode_text.proofs.Decimals.{every_append}
@@ -69,7 +72,7 @@ module _ (p : Parts) (formed : Formed p) where
   clock-right =
       rw (le-leb 1 (kilohertz p.whole p.decimals) formed.clock-least, le-leb (kilohertz p.whole p.decimals) 999999 formed.clock-most)
 
-module _ (line : List ℕ) (f : File) (r : ReadLine) (met : ReadInto line f r) (z : number_of r.verdict ≡ 0) (p : Parts) (formed : Formed p)
+module _ (line : List ℕ) (f : File) (r : ReadLine) (met : ReadInto line f r) (z : code_said r.said ≡ 0) (p : Parts) (formed : Formed p)
     (text : line ≡ spelled p) where
   timing-read : timing_in r.file ≡ timing_said (map value_of p.numbers)
   unfolding mode_of
@@ -77,7 +80,7 @@ module _ (line : List ℕ) (f : File) (r : ReadLine) (met : ReadInto line f r) (
       let done = (line-accepted line f r met z p formed text).0 in
       ap timing_in (line_read line f r met z p formed text).file ∙ mode-timing f (mode_of p) (passes _ done.is-sound) done.written
 
-  flags-read : (minus_in r.file 6 ≡ minus_of horizontal p.flags) × (minus_in r.file 7 ≡ minus_of vertical p.flags)
+  flags-read : (minus_in r.file 6 ≡ minus_of Horizontal p.flags) × (minus_in r.file 7 ≡ minus_of Vertical p.flags)
   unfolding mode_of
   flags-read =
       let done = (line-accepted line f r met z p formed text).0 in
@@ -93,31 +96,44 @@ module _ (line : List ℕ) (f : File) (r : ReadLine) (met : ReadInto line f r) (
       ∙ ap (map decimal) (numbers-back (map value_of p.numbers) (length-map p.numbers value_of ∙ formed.count) (passes _ done.even))
       ∙ decimals-of 5 p.numbers formed.numbers
 
+  abbrev said : LineSaid
+  said = (line_read line f r met z p formed text).said
+
+  accepts : (room : ℕ) → 256 ≤ room → write_verdict r.file (name_in line said) said.khz room ≡ Ok (length (line_out r.file (name_in line said) said.khz))
+  unfolding write_verdict
+  accepts room h =
+      rw (
+        is_true (sound r.file) (line-sound line f r met (passes _ (line-accepted line f r met z p formed text).0.is-sound)),
+        (line_read line f r met z p formed text).name,
+        (line_read line f r met z p formed text).clock,
+        name-right p formed,
+        clock-right p formed,
+        le-leb 256 room h,
+        timing-read,
+        said-form (map value_of p.numbers),
+      )
+
+  same-line : line_out r.file (name_in line said) said.khz ≡ spelled (respelled p)
+  unfolding line_out parts_out parts_with respelled
+  same-line =
+      let read = line_read line f r met z p formed text in
+      ap spelled (rw (read.name, read.clock, whole_back p formed, decimals-back p formed, numbers-read, flags-read.0, flags-read.1))
+
   -- for whatever parts the line is made of
   pub parts_again : WrittenAgain line r p
-  unfolding line_out parts_out parts_with respelled write_verdict
   parts_again =
-      let read = line_read line f r met z p formed text in
       record {
-        accepted = λ room h.
-            rw (
-              is_true (sound r.file) (line-sound line f r met (passes _ (line-accepted line f r met z p formed text).0.is-sound)),
-              read.name,
-              read.clock,
-              name-right p formed,
-              clock-right p formed,
-              le-leb 256 room h,
-              timing-read,
-              said-form (map value_of p.numbers),
-            );
-        again = ap spelled (rw (read.name, read.clock, whole_back p formed, decimals-back p formed, numbers-read, flags-read.0, flags-read.1));
+        said = said;
+        answered = (line_read line f r met z p formed text).answered;
+        accepted = λ room h. accepts room h ∙ ap (λ (l : List ℕ). Ok (length l)) same-line;
+        again = same-line;
       }
 
 -- for every line that was read
-pub read-writes-again : (line : List ℕ) (f : File) (r : ReadLine) → ReadInto line f r → r.verdict ≡ Done → Respelled line r
-unfolding number_of
-read-writes-again line f r met e =
-    let z : number_of r.verdict ≡ 0 = ap number_of e in
+pub read-writes-again : (line : List ℕ) (f : File) (r : ReadLine) → ReadInto line f r → (said : LineSaid) → r.said ≡ Ok said → Respelled line r
+unfolding code_said
+read-writes-again line f r met said e =
+    let z : code_said r.said ≡ 0 = ap code_said e in
     let good = line-good line f r met z in
     record {
       parts = good.parts;

@@ -21,17 +21,18 @@ use Rattle.timing.proofs.Writer.{accepted-by-range}
 use Rattle.timing.specs.Table.{table, wide}
 use Rattle.timing.specs.Timing.{numbers_of, timing_in, timing_answer}
 use Rattle.modes.proofs.Once.{told-good}
-use Rattle.modes.specs.declared.mode.Parsed.{Parsed}
-use Rattle.mode_file.proofs.Laws.{line_read}
-use Rattle.mode_file.specs.Into.{done_line, by_code, mode_line, read_with, ReadInto}
+use Rattle.mode_file.proofs.Laws.{line_read, ok-same}
+use Rattle.mode_file.specs.Promises.{name_in}
+use Rattle.mode_file.specs.Into.{said_of, flagged_line, done_line, by_code, mode_line, read_mode, read_parsed, read_result, answered, read_with, ReadInto}
 use Rattle.mode_file.specs.Said.{timing_said, with_mode}
-use Rattle.mode_file.specs.Verdicts.{number_of}
+use Rattle.mode_file.specs.Verdicts.{number_of, code_said}
+use Rattle.modes.specs.declared.mode.Mode.{Mode}
+use Rattle.std.specs.Prelude.{Result, Ok, Err}
 use Rattle.mode_file.specs.declared.into.ReadLine.{ReadLine}
 use Rattle.mode_file.specs.declared.verdict.Verdict.{Verdict}
-use Rattle.mode_file.specs.declared.verdict.Verdict.TheVariants.{Done, NotSound, OtherTiming, OutOfForm}
+use Rattle.mode_file.specs.declared.verdict.Verdict.TheVariants.{NotSound, OtherTiming, OutOfForm}
 use Rattle.mode_text.specs.Out.{name_fits, clock_fits, of_form, numbers_out, parts_out, line_out, minus_in, write_verdict, done, WroteFrom}
 use Rattle.mode_text.specs.Promises.{SameMode}
-use Rattle.mode_text.specs.declared.write.WrittenLine.{WrittenLine}
 use Rattle.mode_text.proofs.ModeInFile.{mode-timing, mode-flags}
 use Rattle.mode_text.proofs.NumbersSaid.{of-form-said, out-even}
 use Rattle.mode_text.proofs.WrittenGood.{mode_out, parts-formed, written-good}
@@ -51,23 +52,24 @@ module _ (f g : File) (name : List ℕ) (khz : ℕ) (n : T (name_fits name)) (c 
 
   -- the line is read, with its name and its clock
   done-again : (r : ReadLine) → ReadInto (line_out f name khz) g r → r ≡ done_line (mode_out f name khz) g
-  unfolding read_with mode_line by_code mode_out code_of
+  unfolding read_with answered read_result read_parsed read_mode mode_line by_code mode_out code_of
   done-again r met =
       met.answers
-      ∙ ap (λ (p : Parsed). read_with p g) (told-good (line_out f name khz) (mode_out f name khz) met.parsed (written-good f name khz n c) met.told)
+      ∙ ap (λ (p : Result Mode ℕ). read_with p g) (told-good (line_out f name khz) (mode_out f name khz) met.parsed (written-good f name khz n c) met.told)
       ∙ rw (is_true (sound g) s, out-even (timing_in f), accepts)
 
   -- and the file has the same timing and the same flags
   reads-back : (r : ReadLine) → ReadInto (line_out f name khz) g r → SameMode f name khz (line_out f name khz) r
-  unfolding done_line mode_out number_of line_out parts_out
+  unfolding done_line flagged_line said_of with_mode mode_out code_said line_out parts_out
   reads-back r met =
       let all = done-again r met in
-      let read = line_read (line_out f name khz) g r met (ap (λ (x : ReadLine). number_of x.verdict) all) (parts_out f name khz) (parts-formed f name khz n c) refl in
+      let read = line_read (line_out f name khz) g r met (ap (λ (x : ReadLine). code_said x.said) all) (parts_out f name khz) (parts-formed f name khz n c) refl in
       let put : r.file ≡ with_mode (mode_out f name khz) g = ap (λ (x : ReadLine). x.file) all in
       record {
-        answered = ap (λ (x : ReadLine). x.verdict) all;
-        same_name = read.name;
-        same-clock = ap (λ (x : ReadLine). x.khz) all;
+        said = said_of (mode_out f name khz);
+        answered = ap (λ (x : ReadLine). x.said) all;
+        same_name = ap (name_in (line_out f name khz)) (ok-same (sym (ap (λ (x : ReadLine). x.said) all) ∙ read.answered)) ∙ read.name;
+        same-clock = refl;
         same-timing = ap timing_in put ∙ mode-timing g (mode_out f name khz) s accepts ∙ of-form-said (timing_in f) o;
         same_flags = (
           ap (λ (x : File). minus_in x 6) put ∙ (mode-flags g (mode_out f name khz) s accepts).0,
@@ -81,13 +83,13 @@ record Passed (f : File) (name : List ℕ) (khz : ℕ) : Type 0 where
   clocked : T (clock_fits khz)
   formed : T (of_form (timing_in f))
 
-passed : (f : File) (name : List ℕ) (khz room : ℕ) → write_verdict f name khz room ≡ Done → Passed f name khz
-unfolding write_verdict number_of
-passed f name khz room e =
+passed : (f : File) (name : List ℕ) (khz room size : ℕ) → write_verdict f name khz room ≡ Ok size → Passed f name khz
+unfolding write_verdict number_of code_said
+passed f name khz room size e =
     by_tests (sound f) (name_fits name && clock_fits khz && leb 256 room) (of_form (timing_in f)) refl refl e
   where
     by_tests : (a b d : Bool) → name_fits name && clock_fits khz && leb 256 room ≡ b → of_form (timing_in f) ≡ d
-        → cond a (cond b (cond d Done OtherTiming) OutOfForm) NotSound ≡ Done → Passed f name khz
+        → ◌≡◌ {A = Result ℕ Verdict} (cond a (cond b (cond d (Ok (length (line_out f name khz))) (Err OtherTiming)) (Err OutOfForm)) (Err NotSound)) (Ok size) → Passed f name khz
     by_tests true true true p q z =
         let t : T (name_fits name && clock_fits khz && leb 256 room) = passes _ p in
         record {
@@ -95,21 +97,39 @@ passed f name khz room e =
           clocked = right (name_fits name) (clock_fits khz) (left (name_fits name && clock_fits khz) (leb 256 room) t);
           formed = passes _ q;
         }
-    by_tests true true false p q z = absurd (let x : ◌≡◌ {A = ℕ} 21 0 = ap number_of z in omega arith)
-    by_tests true false d p q z = absurd (let x : ◌≡◌ {A = ℕ} 22 0 = ap number_of z in omega arith)
-    by_tests false b d p q z = absurd (let x : ◌≡◌ {A = ℕ} 12 0 = ap number_of z in omega arith)
+    by_tests true true false p q z = absurd (let x : ◌≡◌ {A = ℕ} 21 0 = ap code_said z in omega arith)
+    by_tests true false d p q z = absurd (let x : ◌≡◌ {A = ℕ} 22 0 = ap code_said z in omega arith)
+    by_tests false b d p q z = absurd (let x : ◌≡◌ {A = ℕ} 12 0 = ap code_said z in omega arith)
+
+-- what is written is done
+pub done-ok : (size : ℕ) → done {A = ℕ} (Ok size) ≡ true
+unfolding done code_said
+done-ok size = refl
+
+-- a line that was written has its size
+pub written-size : (f : File) (name : List ℕ) (khz room size : ℕ) → write_verdict f name khz room ≡ Ok size → size ≡ length (line_out f name khz)
+unfolding write_verdict
+written-size f name khz room size e = by_tests (sound f) (name_fits name && clock_fits khz && leb 256 room) (of_form (timing_in f)) e
+  where
+    by_tests : (a b d : Bool)
+        → ◌≡◌ {A = Result ℕ Verdict} (cond a (cond b (cond d (Ok (length (line_out f name khz))) (Err OtherTiming)) (Err OutOfForm)) (Err NotSound)) (Ok size)
+        → size ≡ length (line_out f name khz)
+    by_tests true true true z = cc z
+    by_tests true true false z = cc z
+    by_tests true false d z = cc z
+    by_tests false b d z = cc z
 
 -- by the contracts of `write_from` and `read_into`
-pub written-reads-back : (f : File) (name : List ℕ) (khz : ℕ) (before after : List ℕ) (w : WrittenLine) → WroteFrom f name khz before after w
-    → w.verdict ≡ Done → (g : File) → T (sound g) → crtc_locked g ≡ false → register g CR1B ≡ register f CR1B
-    → (r : ReadLine) → ReadInto (take w.size after) g r → SameMode f name khz (take w.size after) r
-unfolding done number_of
-written-reads-back f name khz before after w wrote e g s u same =
-    let p = passed f name khz (length before) (sym wrote.answered ∙ e) in
-    let line : take w.size after ≡ line_out f name khz =
-    ap₂ take
-    (wrote.size ∙ ap (λ (v : Verdict). cond (done v) (length (line_out f name khz)) 0) e)
-    (wrote.bytes ∙ ap (λ (v : Verdict). cond (done v) (line_out f name khz ++ drop (length (line_out f name khz)) before) before) e)
+pub written-reads-back : (f : File) (name : List ℕ) (khz : ℕ) (before after : List ℕ) (w : Result ℕ Verdict) → WroteFrom f name khz before after w
+    → (size : ℕ) → w ≡ Ok size → (g : File) → T (sound g) → crtc_locked g ≡ false → register g CR1B ≡ register f CR1B
+    → (r : ReadLine) → ReadInto (take size after) g r → SameMode f name khz (take size after) r
+unfolding done code_said
+written-reads-back f name khz before after w wrote size e g s u same =
+    let written = sym wrote.answered ∙ e in
+    let p = passed f name khz (length before) size written in
+    let line : take size after ≡ line_out f name khz =
+    ap₂ take (written-size f name khz (length before) size written)
+    (wrote.bytes ∙ ap (λ (x : Result ℕ Verdict). cond (done x) (line_out f name khz ++ drop (length (line_out f name khz)) before) before) e)
     ∙ take_at (line_out f name khz) (drop (length (line_out f name khz)) before) (length (line_out f name khz)) refl in
     subst (λ (l : List ℕ). (r : ReadLine) → ReadInto l g r → SameMode f name khz l r) (sym line)
     (reads-back f g name khz p.named p.clocked p.formed s u same)

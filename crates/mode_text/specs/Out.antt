@@ -1,6 +1,6 @@
 -- 02, 4/13: a line written from a file, a name and a clock.
 -- Assumes nothing.
-use Rattle.std.specs.Prelude.{ℕ, ◌*◌, ◌/◌, ◌%◌, Bool, cond, ◌&&◌, List, [], ◌∷◌, ◌++◌, map, ◌≡◌, eqb, leb, length, drop}
+use Rattle.std.specs.Prelude.{ℕ, ◌*◌, ◌/◌, ◌%◌, Bool, cond, ◌&&◌, List, [], ◌∷◌, ◌++◌, map, ◌≡◌, eqb, leb, length, drop, Result, Ok, Err}
 use Rattle.bits.specs.Store.{bit}
 use Rattle.io.specs.Digits.{last_digits}
 use Rattle.file.specs.declared.registers.File.{File}
@@ -10,11 +10,11 @@ use Rattle.file.specs.Sound.{sound}
 use Rattle.text.specs.Text.{decimal}
 use Rattle.timing.specs.declared.Timing.{Timing}
 use Rattle.timing.specs.Timing.{timing_in}
-use Rattle.modes.specs.Form.{horizontal, vertical, Flag, Parts, every, name_byte, spelled}
+use Rattle.modes.specs.declared.mode.Axis.TheVariants.{Horizontal, Vertical}
+use Rattle.modes.specs.Form.{Flag, Parts, every, name_byte, spelled}
 use Rattle.mode_file.specs.declared.verdict.Verdict.{Verdict}
-use Rattle.mode_file.specs.declared.verdict.Verdict.TheVariants.{Done, NotSound, OtherTiming, OutOfForm}
-use Rattle.mode_file.specs.Verdicts.{number_of}
-use Rattle.mode_text.specs.declared.write.WrittenLine.{WrittenLine}
+use Rattle.mode_file.specs.declared.verdict.Verdict.TheVariants.{NotSound, OtherTiming, OutOfForm}
+use Rattle.mode_file.specs.Verdicts.{code_said}
 
 -- '22 name or clock out of form': as the form of a line has them
 unfoldable pub name_fits : List ℕ → Bool
@@ -59,7 +59,7 @@ clock_out khz = decimal (khz / 1000) ++ 0x2E ∷ last_digits 10 3 (khz % 1000)
 
 -- 'and both flags, horizontal first'
 unfoldable pub flags_out : Bool → Bool → List Flag
-flags_out h v = record { axis = horizontal; minus = h } ∷ record { axis = vertical; minus = v } ∷ []
+flags_out h v = record { axis = Horizontal; minus = h } ∷ record { axis = Vertical; minus = v } ∷ []
 
 -- MISC[6] is horizontal, [7] vertical, 1 is minus
 unfoldable pub minus_in : File → ℕ → Bool
@@ -84,16 +84,17 @@ parts_out f name khz = parts_with name khz (numbers_out (timing_in f)) (minus_in
 unfoldable pub line_out : File → List ℕ → ℕ → List ℕ
 line_out f name khz = spelled (parts_out f name khz)
 
--- 'writing 12, 22, 21'; '22 .. or a buffer under 256 bytes'
-unfoldable pub write_verdict : File → List ℕ → ℕ → ℕ → Verdict
+-- 'writing 12, 22, 21'; '22 .. or a buffer under 256 bytes'; else how many bytes the line has
+unfoldable pub write_verdict : File → List ℕ → ℕ → ℕ → Result ℕ Verdict
 write_verdict f name khz room =
-    cond (sound f) (cond (name_fits name && clock_fits khz && leb 256 room) (cond (of_form (timing_in f)) Done OtherTiming) OutOfForm) NotSound
+    cond (sound f)
+    (cond (name_fits name && clock_fits khz && leb 256 room) (cond (of_form (timing_in f)) (Ok (length (line_out f name khz))) (Err OtherTiming)) (Err OutOfForm))
+    (Err NotSound)
 
-unfoldable pub done : Verdict → Bool
-done v = eqb (number_of v) 0
+unfoldable pub done : {A : Type 0} → Result A Verdict → Bool
+done r = eqb (code_said r) 0
 
--- the answer, the line's length, and each byte of the buffer: a refusal leaves it, and the bytes behind the line stay
-pub record WroteFrom (f : File) (name : List ℕ) (khz : ℕ) (before after : List ℕ) (r : WrittenLine) : Type 0 where
-  pub answered : r.verdict ≡ write_verdict f name khz (length before)
-  pub size : r.size ≡ cond (done r.verdict) (length (line_out f name khz)) 0
-  pub bytes : after ≡ cond (done r.verdict) (line_out f name khz ++ drop (length (line_out f name khz)) before) before
+-- the line's length or the refusal, and each byte of the buffer: a refusal leaves it, and the bytes behind the line stay
+pub record WroteFrom (f : File) (name : List ℕ) (khz : ℕ) (before after : List ℕ) (r : Result ℕ Verdict) : Type 0 where
+  pub answered : r ≡ write_verdict f name khz (length before)
+  pub bytes : after ≡ cond (done r) (line_out f name khz ++ drop (length (line_out f name khz)) before) before

@@ -5,4 +5,4 @@ mod fits;
 mod put;
 mod write;
 
-pub use write::{WrittenLine, write_from};
+pub use write::write_from;

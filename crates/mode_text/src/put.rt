@@ -23,7 +23,7 @@ pub fn put_line(
     let at = put_name(name, buffer);
     let at = put_clock(khz, buffer, at);
     let at = put_numbers(numbers, buffer, at);
-    put_flags(h_minus, v_minus, buffer, at)
+    put(flags(h_minus, v_minus), buffer, at)
 }
 
 // A text from a place on; the place behind it.
@@ -31,8 +31,7 @@ fn put(text: &[u8], buffer: &mut [u8], at: usize) -> usize
     requires { at + length text.now ≤ length buffer.old }
     ensures { Wrote buffer.old at text.now buffer.new result }
 {
-    let placed = plain_text(buffer, at, text);
-    placed.end
+    plain_text(buffer, at, text).end
 }
 
 // Numbers, each behind a space.
@@ -40,9 +39,7 @@ fn put_numbers(numbers: &[u32], buffer: &mut [u8], at: usize) -> usize
     requires { at + length (numbers_text (map decimal numbers.now)) ≤ length buffer.old }
     ensures { Wrote buffer.old at (numbers_text (map decimal numbers.now)) buffer.new result }
 {
-    let minus: [bool; 0] = [];
-    let placed = spaced_numbers(buffer, at, &minus, numbers);
-    placed.end
+    spaced_numbers(buffer, at, &[], numbers).end
 }
 
 // The word, a quote, the name and a quote, from the start on.
@@ -59,7 +56,7 @@ fn put_name(name: &[u8], buffer: &mut [u8]) -> usize
 fn digit(n: u32) -> u8
     ensures { result ≡ hex_digit_ascii (n % 10) }
 {
-    48 + (n % 10) as u8
+    b'0' + (n % 10) as u8
 }
 
 // A point and three decimals.
@@ -74,28 +71,19 @@ fn put_clock(khz: u32, buffer: &mut [u8], at: usize) -> usize
     requires { at + length (0x20 ∷ clock_out khz) ≤ length buffer.old }
     ensures { Wrote buffer.old at (0x20 ∷ clock_out khz) buffer.new result }
 {
-    let whole = [khz / 1000];
-    let at = put_numbers(&whole, buffer, at);
-    let rest = decimals(khz % 1000);
-    put(&rest, buffer, at)
+    let at = put_numbers(&[khz / 1000], buffer, at);
+    put(&decimals(khz % 1000), buffer, at)
 }
 
-// Both flags, horizontal first.
-fn put_flags(h_minus: bool, v_minus: bool, buffer: &mut [u8], at: usize) -> usize
-    requires { at + 14 ≤ length buffer.old }
-    ensures { Wrote buffer.old at (flags_text (flags_out h_minus v_minus)) buffer.new result }
+// The text of both flags, horizontal first.
+#[tactic(auto, unfolding(modes::specs::Form::flags_text, modes::specs::Form::flag_text, modes::specs::Form::sign, modes::specs::Form::letter, crate::specs::Out::flags_out))]
+fn flags(h_minus: bool, v_minus: bool) -> &'static [u8]
+    ensures { result.now ≡ flags_text (flags_out h_minus v_minus) }
 {
-    if h_minus {
-        if v_minus {
-            put(b" -hsync -vsync", buffer, at)
-        } else {
-            put(b" -hsync +vsync", buffer, at)
-        }
-    } else {
-        if v_minus {
-            put(b" +hsync -vsync", buffer, at)
-        } else {
-            put(b" +hsync +vsync", buffer, at)
-        }
+    match (h_minus, v_minus) {
+        (true, true) => b" -hsync -vsync",
+        (true, false) => b" -hsync +vsync",
+        (false, true) => b" +hsync -vsync",
+        (false, false) => b" +hsync +vsync",
     }
 }

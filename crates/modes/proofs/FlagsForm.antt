@@ -6,7 +6,7 @@ use mathlib.Core.Logic.{◌⊎◌, inl, inr, ⊎_elim}
 use mathlib.Core.Path.{◌≡◌, refl, ap, ◌∙◌, subst}
 use lib.Dec.{T}
 use Rattle.modes.specs.declared.mode.Mode.{Mode}
-use Rattle.modes.specs.Form.{Axis, horizontal, vertical, Flag, same_axis, each_once, sign, letter, flag_text, flags_text, minus_of}
+use Rattle.modes.specs.Form.{Axis, Horizontal, Vertical, Flag, other_axis, same_axis, each_once, sign, letter, flag_text, flags_text, minus_of}
 use Rattle.modes.specs.Scan.{unflagged, flagged, sync}
 use Rattle.modes.proofs.Readers.{Form, EndL, LitL, PickL}
 use Rattle.modes.proofs.Forms.{OtherL, AxisL, FlagsL}
@@ -39,9 +39,9 @@ two-signs : (minus : Bool) → (minus ≡ false) ⊎ (minus ≡ true)
 two-signs false = inl refl
 two-signs true = inr refl
 
-two-axes : (axis : Axis) → (axis ≡ horizontal) ⊎ (axis ≡ vertical)
-two-axes horizontal = inl refl
-two-axes vertical = inr refl
+two-axes : (axis : Axis) → (axis ≡ Horizontal) ⊎ (axis ≡ Vertical)
+two-axes Horizontal = inl refl
+two-axes Vertical = inr refl
 
 -- flags, of which a test says which, and what a mode is with them
 pub record Flagged (test : List Flag → Bool) (m : Mode) (s : List ℕ) (o : Mode) : Type 0 where
@@ -58,15 +58,15 @@ only axis (f ∷ g ∷ fs) = false
 
 same_self : (a : Axis) → T (same_axis a a)
 unfolding same_axis
-same_self horizontal = tt
-same_self vertical = tt
+same_self Horizontal = tt
+same_self Vertical = tt
 
 same-is : (a b : Axis) → T (same_axis a b) → b ≡ a
 unfolding same_axis
-same-is horizontal horizontal t = refl
-same-is horizontal vertical t = absurd t
-same-is vertical horizontal t = absurd t
-same-is vertical vertical t = refl
+same-is Horizontal Horizontal t = refl
+same-is Horizontal Vertical t = absurd t
+same-is Vertical Horizontal t = absurd t
+same-is Vertical Vertical t = refl
 
 abbrev sync-of : Axis → Mode → Bool → Form
 sync-of axis m minus = LitL (letter axis ∷ sync) (EndL (flagged axis minus m))
@@ -111,26 +111,22 @@ other-back axis m s o x = by_flags x.flags x.passed x.text x.says
         })
     by_flags (f ∷ g ∷ fs) t e h = absurd t
 
-abbrev other_axis : Axis → Axis
-other_axis horizontal = vertical
-other_axis vertical = horizontal
-
 abbrev first_of : Mode → Bool → Axis → Form
 first_of m minus axis = LitL sync (OtherL (other_axis axis) (flagged axis minus m))
 
 axes-differ : (a b : Axis) → T (same_axis (other_axis a) b) → T (not (same_axis a b))
-unfolding same_axis
-axes-differ horizontal horizontal t = absurd t
-axes-differ horizontal vertical t = tt
-axes-differ vertical horizontal t = tt
-axes-differ vertical vertical t = absurd t
+unfolding same_axis other_axis
+axes-differ Horizontal Horizontal t = absurd t
+axes-differ Horizontal Vertical t = tt
+axes-differ Vertical Horizontal t = tt
+axes-differ Vertical Vertical t = absurd t
 
 axes-other : (a b : Axis) → T (not (same_axis a b)) → T (same_axis (other_axis a) b)
-unfolding same_axis
-axes-other horizontal horizontal t = absurd t
-axes-other horizontal vertical t = tt
-axes-other vertical horizontal t = tt
-axes-other vertical vertical t = absurd t
+unfolding same_axis other_axis
+axes-other Horizontal Horizontal t = absurd t
+axes-other Horizontal Vertical t = tt
+axes-other Vertical Horizontal t = tt
+axes-other Vertical Vertical t = absurd t
 
 once_more : (f : Flag) (fs : List Flag) → T (only (other_axis f.axis) fs) → T (each_once (f ∷ fs))
 unfolding only each_once
@@ -145,11 +141,11 @@ once-less f (g ∷ []) t = axes-other f.axis g.axis t
 once-less f (g ∷ h ∷ fs) t = absurd t
 
 pub flags-to : (m : Mode) (s : List ℕ) (o : Mode) → FlagsL m s o → Flagged each_once m s o
-unfolding each_once flags_text flag_text with_flags sync sign letter
+unfolding each_once flags_text flag_text with_flags sync sign letter other_axis
 flags-to m s o x =
     ⊎_elim (λ e. record { flags = []; passed = tt; text = e.0; says = e.1 })
     (λ y. let z = one-to sign (AxisL m) y.rest o false true y.then in
-    let w = one-to letter (first_of m z.which) z.rest o horizontal vertical z.then in
+    let w = one-to letter (first_of m z.which) z.rest o Horizontal Vertical z.then in
     let u = other-to (other_axis w.which) (flagged w.which z.which m) w.then.rest o w.then.then in
     record {
       flags = record { axis = w.which; minus = z.which } ∷ u.flags;
@@ -159,7 +155,7 @@ flags-to m s o x =
     }) x
 
 pub flags-back : (m : Mode) (s : List ℕ) (o : Mode) → Flagged each_once m s o → FlagsL m s o
-unfolding each_once flags_text flag_text with_flags sync sign letter
+unfolding each_once flags_text flag_text with_flags sync sign letter other_axis
 flags-back m s o x = by_flags x.flags x.passed x.text x.says
   where
     by_flags : (fs : List Flag) → T (each_once fs) → s ≡ flags_text fs → o ≡ with_flags m fs → FlagsL m s o
@@ -176,7 +172,7 @@ flags-back m s o x = by_flags x.flags x.passed x.text x.says
                 rest = letter f.axis ∷ sync ++ flags_text fs;
                 text = refl;
                 then =
-                    one-back letter (first_of m f.minus) (letter f.axis ∷ sync ++ flags_text fs) o horizontal vertical
+                    one-back letter (first_of m f.minus) (letter f.axis ∷ sync ++ flags_text fs) o Horizontal Vertical
                     (record {
                       which = f.axis;
                       rest = sync ++ flags_text fs;
@@ -198,7 +194,7 @@ flags-back m s o x = by_flags x.flags x.passed x.text x.says
 -- what a line says that has these flags
 unfoldable pub saying : ℕ → ℕ → List ℕ → List Flag → Mode
 saying name khz numbers fs =
-    record { name = name; khz = khz; numbers = numbers; h_minus = minus_of horizontal fs; v_minus = minus_of vertical fs }
+    record { name = name; khz = khz; numbers = numbers; h_minus = minus_of Horizontal fs; v_minus = minus_of Vertical fs }
 
 pub flags-say : (name khz : ℕ) (numbers : List ℕ) (fs : List Flag) → T (each_once fs)
     → with_flags (unflagged name khz numbers) fs ≡ saying name khz numbers fs
@@ -207,13 +203,13 @@ flags-say name khz numbers [] t = refl
 flags-say name khz numbers (f ∷ []) t = by-axis f.axis
   where
     by-axis : (a : Axis) → flagged a f.minus (unflagged name khz numbers) ≡ saying name khz numbers (record { axis = a; minus = f.minus } ∷ [])
-    by-axis horizontal = refl
-    by-axis vertical = refl
+    by-axis Horizontal = refl
+    by-axis Vertical = refl
 flags-say name khz numbers (f ∷ g ∷ []) t = by-axes f.axis g.axis t
   where
     by-axes : (a b : Axis) → T (not (same_axis a b)) → flagged b g.minus (flagged a f.minus (unflagged name khz numbers)) ≡ saying name khz numbers (record { axis = a; minus = f.minus } ∷ record { axis = b; minus = g.minus } ∷ [])
-    by-axes horizontal horizontal u = absurd u
-    by-axes horizontal vertical u = refl
-    by-axes vertical horizontal u = refl
-    by-axes vertical vertical u = absurd u
+    by-axes Horizontal Horizontal u = absurd u
+    by-axes Horizontal Vertical u = refl
+    by-axes Vertical Horizontal u = refl
+    by-axes Vertical Vertical u = absurd u
 flags-say name khz numbers (f ∷ g ∷ h ∷ fs) t = absurd t

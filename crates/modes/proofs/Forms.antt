@@ -9,15 +9,15 @@ use borrow.Author.Tests.{ltb-true, ltb-false, eqb-false, le-ltb, eq-eqb}
 use lib.Dec.{T, eqb, leb, ltb, ltb→lt, lt→ltb, eqb→eq, not_T, T_not}
 use Rattle.bits.proofs.Test.{by-test, left, right, both, passes, is_true}
 use Rattle.modes.specs.declared.mode.Mode.{Mode}
-use Rattle.modes.specs.Form.{Axis, horizontal, vertical, name_byte, digit, header, letter}
-use Rattle.modes.specs.Scan.{Result, lit, pick, Runner, name_runner, Digits, spell, digit_runner, decimal_runner, passing, read_token, unflagged, flagged, sync, read_other, read_axis, read_flags, read_numbers, read_decimals, read_behind, read_clock, read_name, read_line}
+use Rattle.modes.specs.Form.{Axis, Horizontal, Vertical, name_byte, digit, header, letter}
+use Rattle.modes.specs.Scan.{Outcome, lit, pick, Runner, name_runner, Digits, spell, digit_runner, decimal_runner, passing, read_token, unflagged, flagged, sync, read_other, read_axis, read_flags, read_numbers, read_decimals, read_behind, read_clock, read_name, read_line}
 use Rattle.modes.proofs.Readers.{Form, Right, Live, recast, EndL, right_end, MayEndL, right-may-end, LitL, live-lit, right-lit, PickL, right-pick, walks, after, RunL, Ending, reads, wants, right-run}
 
 -- a state's form, where the state passes
 abbrev pub PassL : {Q : Type 0} → (Q → Bool) → (Q → Form) → Q → Form
 PassL test K q s o = T (test q) × K q s o
 
-module _ {Q : Type 0} (r : Runner Q) (test : Q → Bool) (K : Q → Form) (k : Q → List ℕ → Result) where
+module _ {Q : Type 0} (r : Runner Q) (test : Q → Bool) (K : Q → Form) (k : Q → List ℕ → Outcome) where
   pub ending-by : (q : Q) → (test q ≡ true → Right (k q) (K q)) → (test q ≡ false → Live (RunL r (PassL test K) q))
       → Ending r (PassL test K) (passing test k) q
   unfolding passing
@@ -58,17 +58,17 @@ right-other axis m =
 -- the axis of a first flag, and then
 abbrev pub AxisL : Mode → Bool → Form
 AxisL m minus =
-    PickL 0x68 0x76 (LitL sync (OtherL vertical (flagged horizontal minus m))) (LitL sync (OtherL horizontal (flagged vertical minus m)))
+    PickL 0x68 0x76 (LitL sync (OtherL Vertical (flagged Horizontal minus m))) (LitL sync (OtherL Horizontal (flagged Vertical minus m)))
 
 live-axis : (m : Mode) (minus : Bool) → Live (AxisL m minus)
-live-axis m minus = live-first 0x68 0x76 _ _ (live-lit sync _ (live-may (flagged horizontal minus m) _))
+live-axis m minus = live-first 0x68 0x76 _ _ (live-lit sync _ (live-may (flagged Horizontal minus m) _))
 
 right-axis : (m : Mode) (minus : Bool) → Right (read_axis m minus) (AxisL m minus)
 unfolding read_axis
 right-axis m minus =
-    right-pick 0x68 0x76 _ _ _ _ (λ e. omega (arith, e)) (live-lit sync _ (live-may (flagged horizontal minus m) _))
-    (right-lit _ _ (live-may (flagged horizontal minus m) _) (right-other vertical (flagged horizontal minus m)) sync)
-    (right-lit _ _ (live-may (flagged vertical minus m) _) (right-other horizontal (flagged vertical minus m)) sync)
+    right-pick 0x68 0x76 _ _ _ _ (λ e. omega (arith, e)) (live-lit sync _ (live-may (flagged Horizontal minus m) _))
+    (right-lit _ _ (live-may (flagged Horizontal minus m) _) (right-other Vertical (flagged Horizontal minus m)) sync)
+    (right-lit _ _ (live-may (flagged Vertical minus m) _) (right-other Horizontal (flagged Vertical minus m)) sync)
 
 abbrev pub FlagsL : Mode → Form
 FlagsL m = MayEndL m (LitL (0x20 ∷ []) (PickL 0x2B 0x2D (AxisL m false) (AxisL m true)))
@@ -131,7 +131,7 @@ module _ (most : ℕ) (K : ℕ → Form) (some_more : 0 < most) (live : (v : ℕ
   live-token : Live (TokenL most K)
   live-token = live-digit (record { left = most; value = 0 }) (omega arith) (le-ltb most most (omega arith))
 
-  module _ (k : ℕ → List ℕ → Result) (apart : (v : ℕ) → Apart (K v)) (h : (v : ℕ) → Right (k v) (K v)) where
+  module _ (k : ℕ → List ℕ → Outcome) (apart : (v : ℕ) → Apart (K v)) (h : (v : ℕ) → Right (k v) (K v)) where
     pub right-token : Right (read_token most k) (TokenL most K)
     unfolding read_token digit_runner
     right-token =

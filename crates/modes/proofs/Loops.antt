@@ -1,18 +1,19 @@
 -- What the loops over a line keep: a word that matches so far, a run that was walked so far. Assumes nothing.
 use Prim.Native.Nat.{ℕ, suc, ◌+◌, ◌-◌, ◌*◌, ◌^◌, ◌≤◌, ◌<◌}
-use mathlib.Core.Bool.{Bool, true, false, cond, not, ◌&&◌, true≢false}
+use mathlib.Core.Bool.{Bool, true, false, cond, not, ◌&&◌}
 use mathlib.Core.List.{List, ◌∷◌}
 use mathlib.Core.Path.{◌≡◌, refl, sym, ap, ◌∙◌, subst}
 use native.Mathlib.Nat.{pow-suc, one-le-pow, pow-le-pow_right, mul_assoc, lt_of_lt_of_le, add-zero, add_assoc, mul-pos, mul-le-mul_left}
 use native.Mathlib.Numerals.{add-one}
 use native.Mathlib.Omega.{arith}
-use borrow.Author.Tests.{ltb-true, ltb-false, eqb-true, lt-ltb, le-ltb, eq-eqb, ne_eqb}
+use borrow.Author.Tests.{ltb-true, ltb-false, eqb-true, lt-ltb, le-ltb}
 use lib.Dec.{T, eqb, ltb, eqb_refl}
-use lib.ListN.{length, get_or, drop, drop_of_length-le}
+use lib.ListN.{length, get_or, take, drop, drop_of_length-le}
+use Rattle.std.proofs.lemmas.List.{get_or-drop, take_all, length-drop}
 use lib.Seq.{drop-cons}
 use Rattle.bits.proofs.Test.{by-test, is_true, passes}
-use Rattle.modes.specs.Form.{digit, name_byte}
-use Rattle.modes.specs.Scan.{Runner, Digits, spell, digit_runner, decimal_runner, name_runner, is_at, matched_in, run_count, run_end, state, number_from}
+use Rattle.modes.specs.Form.{digit}
+use Rattle.modes.specs.Scan.{Runner, Digits, spell, digit_runner, decimal_runner, is_at, matched_in, run_count, run_end, state, number_from}
 use Rattle.modes.proofs.Steps.{and_left, and_right, and_no, more, none, there, not_there, within}
 use Rattle.modes.proofs.Forms.{zero_or}
 use Rattle.modes.proofs.Tokens.{digit-range}
@@ -119,68 +120,33 @@ bound-next n k v b h t =
 pub bound-most : (v k : ℕ) → v < 10 ^ k → k ≤ 6 → v < 1000000
 bound-most v k h l = lt_of_lt_of_le h (pow-le-pow_right {n = 10} (omega arith) {i = k} {j = 6} l)
 
-pub bound-thousands : (v k : ℕ) → v < 1000 * 10 ^ k → k ≤ 3 → v < 1000000
-bound-thousands v k h l = lt_of_lt_of_le h (mul-le-mul_left 1000 (pow-le-pow_right {n = 10} (omega arith) {i = k} {j = 3} l))
+-- a line's bytes from a place on, one by one: the byte at an index
+module _ (line : List ℕ) (at i end : ℕ) (e : end ≡ at + i) where
+  abbrev pub tail : List ℕ
+  tail = take (length line - at) (drop at line)
 
--- so many bytes of a name were walked, and those that are left tell how many are
-pub record Naming (line : List ℕ) (at n : ℕ) : Type 0 where
-  pub fits : at + n ≤ length line
-  pub short : n ≤ 32
-  pub same : run_count name_runner 0 (drop at line) ≡ n + run_count name_runner n (drop (at + n) line)
+  pub tail-is : tail ≡ drop at line
+  tail-is = take_all (length line - at) (drop at line) (omega (arith, length-drop at line))
 
-and_both : (a b c : Bool) → a && b ≡ true → c ≡ true → a && (b && c) ≡ true
-and_both true true c e d = d
-and_both true false c e d = e
-and_both false b c e d = e
+  pub byte-is : get_or tail i 0 ≡ get_or line end 0
+  byte-is = ap (λ (s : List ℕ). get_or s i 0) tail-is ∙ get_or-drop at line i 0 ∙ ap (λ (k : ℕ). get_or line k 0) (sym e)
 
-and_first : (a b c : Bool) → a && b ≡ false → a && (b && c) ≡ false
-and_first true true c e = absurd (true≢false e)
-and_first true false c e = e
-and_first false b c e = e
+  pub byte-within : i < length tail → end < length line
+  byte-within h =
+      let z : i < length (drop at line) = subst (λ (s : List ℕ). i < length s) tail-is h in omega (arith, z, e, length-drop at line)
 
-and_last : (a b c : Bool) → c ≡ false → a && (b && c) ≡ false
-and_last true true c e = e
-and_last true false c e = refl
-and_last false b c e = refl
+  pub byte-beyond : length tail ≤ i → length line ≤ end
+  byte-beyond h =
+      let z : length (drop at line) ≤ i = subst (λ (s : List ℕ). length s ≤ i) tail-is h in omega (arith, z, e, length-drop at line)
 
-module _ (line : List ℕ) (at : ℕ) where
-  pub naming : at ≤ length line → Naming line at 0
-  naming h =
-      record {
-        fits = omega arith;
-        short = omega arith;
-        same = ap (λ (k : ℕ). run_count name_runner 0 (drop k line)) (sym (add-zero at)) ∙ omega arith;
-      }
+-- a test of the byte at a place, which stands there, and where none does
+pub tested : (test : ℕ → Bool) (line : List ℕ) (end byte : ℕ) (r : Bool) → end < length line → byte ≡ get_or line end 0 → r ≡ test byte
+    → ltb end (length line) && test (get_or line end 0) ≡ r
+tested test line end byte r h e t =
+    ap (λ (b : Bool). b && test (get_or line end 0)) (lt-ltb end (length line) h) ∙ ap test (sym e) ∙ sym t
 
-  module _ (n : ℕ) (m : Naming line at n) where
-    abbrev named-byte : Bool
-    named-byte = ltb (at + n) (length line) && name_byte (get_or line (at + n) 0)
-
-    pub naming-next : n < 32 → named-byte ≡ true → Naming line at (n + 1)
-    unfolding name_runner
-    naming-next h e =
-        record {
-          fits = omega (arith, ltb-true (at + n) (length line) (and_left (ltb (at + n) (length line)) (name_byte (get_or line (at + n) 0)) e));
-          short = omega arith;
-          same =
-              m.same
-              ∙ ap (λ (k : ℕ). n + k)
-              (taken-count name_runner line (at + n) n
-              (and_both (ltb (at + n) (length line)) (name_byte (get_or line (at + n) 0)) (ltb n 32) e (lt-ltb n 32 h)))
-              ∙ ap (λ (i : ℕ). n + suc (run_count name_runner i (drop (at + n + 1) line))) (sym (add-one n))
-              ∙ ap (λ (i : ℕ). n + suc (run_count name_runner (n + 1) (drop i line))) (add_assoc at n 1)
-              ∙ omega arith;
-        }
-
-    stopped : ltb (at + n) (length line) && (name_byte (get_or line (at + n) 0) && ltb n 32) ≡ false → n ≡ run_count name_runner 0 (drop at line)
-    unfolding name_runner
-    stopped e = sym (m.same ∙ ap (λ (k : ℕ). n + k) (stop-count name_runner line (at + n) n e) ∙ omega arith)
-
-    pub naming-off : named-byte ≡ false → n ≡ run_count name_runner 0 (drop at line)
-    naming-off e = stopped (and_first (ltb (at + n) (length line)) (name_byte (get_or line (at + n) 0)) (ltb n 32) e)
-
-    pub naming-end : 32 ≤ n → n ≡ run_count name_runner 0 (drop at line)
-    naming-end h = stopped (and_last (ltb (at + n) (length line)) (name_byte (get_or line (at + n) 0)) (ltb n 32) (le-ltb n 32 h))
+pub untested : (test : ℕ → Bool) (line : List ℕ) (end : ℕ) → length line ≤ end → ltb end (length line) && test (get_or line end 0) ≡ false
+untested test line end h = ap (λ (b : Bool). b && test (get_or line end 0)) (le-ltb end (length line) h)
 
 -- digits were spelled up to a place, and those that are left tell the number
 pub record Spelling (r : Runner Digits) (line : List ℕ) (at most start scale : ℕ) (end left value : ℕ) : Type 0 where
@@ -274,33 +240,3 @@ module _ (line : List ℕ) (at most start scale end left value : ℕ) where
       → record { end = end; left = left; value = value } ≡ number_from decimal_runner line at (state most start)
   unfolding decimal_runner spell
   decimals-stop s e = sym (s.same ∙ number-stop decimal_runner line end (state left value) e)
-
--- whether a decimal is taken, by whether a digit is
-module _ (line : List ℕ) (at left value : ℕ) where
-  abbrev a-digit : Bool
-  a-digit = ltb at (length line) && (digit (get_or line at 0) && ltb 0 left)
-
-  abbrev a-decimal : Bool
-  a-decimal = ltb at (length line) && ((digit (get_or line at 0) && ltb 0 left) && not (eqb left 1 && eqb (10 * value + (get_or line at 0 - 0x30)) 0))
-
-  same_rest : (a b c : Bool) → a && b ≡ true → c ≡ a && (b && c)
-  same_rest true true c e = refl
-  same_rest true false c e = absurd (true≢false (sym e))
-  same_rest false b c e = absurd (true≢false (sym e))
-
-  pub decimal-none : a-digit ≡ false → false ≡ a-decimal
-  decimal-none e =
-      sym
-      (and_first (ltb at (length line)) (digit (get_or line at 0) && ltb 0 left) (not (eqb left 1 && eqb (10 * value + (get_or line at 0 - 0x30)) 0)) e)
-
-  pub decimal-some : a-digit ≡ true → (left ≡ 1 → ⊥) → true ≡ a-decimal
-  decimal-some e n =
-      sym
-      (and_both (ltb at (length line)) (digit (get_or line at 0) && ltb 0 left) (not (eqb left 1 && eqb (10 * value + (get_or line at 0 - 0x30)) 0)) e
-      (rw (ne_eqb left 1 n)))
-
-  pub decimal-last : a-digit ≡ true → left ≡ 1 → (v : ℕ) → v ≡ 10 * value + (get_or line at 0 - 0x30) → not (eqb v 0) ≡ a-decimal
-  decimal-last e n v ev =
-      ap (λ (x : ℕ). not (eqb x 0)) ev
-      ∙ ap (λ (b : Bool). not (b && eqb (10 * value + (get_or line at 0 - 0x30)) 0)) (sym (eq-eqb left 1 n))
-      ∙ same_rest (ltb at (length line)) (digit (get_or line at 0) && ltb 0 left) (not (eqb left 1 && eqb (10 * value + (get_or line at 0 - 0x30)) 0)) e

@@ -1,8 +1,7 @@
 -- What is told of a line is told once: two answers that the contract of `parse` allows are equal. Assumes nothing.
 use Prim.Native.Nat.{ℕ, suc, ◌≤◌, ◌<◌}
-use mathlib.Core.Bool.{Bool, true, false}
 use mathlib.Core.List.{List, ◌++◌, append_assoc}
-use mathlib.Core.Path.{◌≡◌, refl, sym, ap, ap₂, ◌∙◌, subst}
+use mathlib.Core.Path.{◌≡◌, sym, ap, ◌∙◌, subst}
 use native.Mathlib.Omega.{arith}
 use borrow.Author.Tests.{ltb-true, ltb-false}
 use lib.Dec.{ltb}
@@ -10,11 +9,10 @@ use lib.ListN.{take, drop, take-append-drop}
 use lib.Seq.{take-take}
 use Rattle.bits.proofs.Test.{by-test}
 use Rattle.modes.specs.declared.mode.Mode.{Mode}
-use Rattle.modes.specs.declared.mode.Parsed.{Parsed}
 use Rattle.modes.specs.Form.{Good}
 use Rattle.modes.specs.Place.{Begins, BadAt, Says}
-use Rattle.modes.specs.Promises.{Told, told_by}
-use Rattle.modes.specs.Scan.{Result, accepted, bad, read_line}
+use Rattle.modes.specs.Promises.{Told}
+use Rattle.modes.specs.Scan.{Outcome, Ok, Err, read_line}
 use Rattle.modes.proofs.Lines.{reads-good}
 use Rattle.modes.proofs.Readers.{Form, RightAt}
 
@@ -43,26 +41,20 @@ module _ (L : Form) (line : List ℕ) where
       by-test (ltb j k) (λ e. absurd (not-before j k a b (ltb-true j k e)))
       (λ e. by-test (ltb k j) (λ d. absurd (not-before k j b a (ltb-true k j d))) (λ d. omega (arith, ltb-false j k e, ltb-false k j d)))
 
-pub told-once : (line : List ℕ) (r s : Parsed) → Told line r → Told line s → r ≡ s
-told-once line r s a b = by-good r.good s.good a b
-  where
-    by-good : (g h : Bool) → told_by g line r → told_by h line s
-        → ◌≡◌ {A = Parsed} (record { good = g; position = r.position; mode = r.mode }) (record { good = h; position = s.position; mode = s.mode })
-    by-good true true x y =
-        ap₂ (λ (k : ℕ) (m : Mode). record { good = true; position = k; mode = m }) (x.0 ∙ sym y.0) (y.1.alone r.mode x.1.good)
-    by-good true false x y = absurd (y.1.refused r.mode x.1.good)
-    by-good false true x y = absurd (x.1.refused s.mode y.1.good)
-    by-good false false x y =
-        ap₂ (λ (k : ℕ) (m : Mode). record { good = false; position = k; mode = m }) (one_place Good line r.position s.position x.1 y.1) (x.0 ∙ sym y.0)
+pub told-once : (line : List ℕ) (r s : Outcome) → Told line r → Told line s → r ≡ s
+told-once line (Ok m) (Ok n) a b = ap Ok (b.alone m a.good)
+told-once line (Ok m) (Err k) a b = absurd (b.refused m a.good)
+told-once line (Err j) (Ok n) a b = absurd (a.refused n b.good)
+told-once line (Err j) (Err k) a b = ap Err (one_place Good line j k a b)
 
 -- what a good line says is all that it says
 says_all : (line : List ℕ) (m : Mode) → Good line m → Says Good line m
 says_all line m g = by_result (read_line line) (reads-good line)
   where
-    by_result : (r : Result) → RightAt r Good line → Says Good line m
-    by_result (accepted k) h = record { good = g; alone = λ o x. h.alone o x ∙ sym (h.alone m g) }
-    by_result (bad k) h = absurd (h.refused m g)
+    by_result : (r : Outcome) → RightAt r Good line → Says Good line m
+    by_result (Ok k) h = record { good = g; alone = λ o x. h.alone o x ∙ sym (h.alone m g) }
+    by_result (Err k) h = absurd (h.refused m g)
 
 -- so this is told of it, and nothing else
-pub told-good : (line : List ℕ) (m : Mode) (r : Parsed) → Good line m → Told line r → r ≡ record { good = true; position = 0; mode = m }
-told-good line m r g t = told-once line r (record { good = true; position = 0; mode = m }) t (refl, says_all line m g)
+pub told-good : (line : List ℕ) (m : Mode) (r : Outcome) → Good line m → Told line r → r ≡ Ok m
+told-good line m r g t = told-once line r (Ok m) t (says_all line m g)

@@ -11,16 +11,16 @@ use lib.Dec.{T, eqb}
 use Rattle.bits.proofs.Test.{by-test, left, right, both, passes}
 use Rattle.modes.specs.declared.mode.Mode.{Mode}
 use Rattle.modes.specs.Place.{BadAt, Says}
-use Rattle.modes.specs.Scan.{Result, accepted, bad, up, at_end, may_end, lit, pick, Runner, run}
+use Rattle.modes.specs.Scan.{Outcome, Ok, Err, up, at_end, may_end, lit, pick, Runner, run}
 
 abbrev pub Form : Type 1
 Form = List ℕ → Mode → Type 0
 
-abbrev pub RightAt : Result → Form → List ℕ → Type 0
-RightAt (accepted m) L s = Says L s m
-RightAt (bad k) L s = BadAt L s k
+abbrev pub RightAt : Outcome → Form → List ℕ → Type 0
+RightAt (Ok m) L s = Says L s m
+RightAt (Err k) L s = BadAt L s k
 
-abbrev pub Right : (List ℕ → Result) → Form → Type 0
+abbrev pub Right : (List ℕ → Outcome) → Form → Type 0
 Right r L = (s : List ℕ) → RightAt (r s) L s
 
 -- some line is of the form
@@ -32,11 +32,11 @@ pub record Live (L : Form) : Type 0 where
 module _ (L : Form) where
   -- a byte that every line from here on may have: what is right behind it is right from it on
   pub further : (A : Form) (b : ℕ) → ((s : List ℕ) (m : Mode) → L (b ∷ s) m → A s m) → ((s : List ℕ) (m : Mode) → A s m → L (b ∷ s) m)
-      → (r : Result) (s : List ℕ) → RightAt r A s → RightAt (up r) L (b ∷ s)
+      → (r : Outcome) (s : List ℕ) → RightAt r A s → RightAt (up r) L (b ∷ s)
   unfolding up
-  further A b to back (accepted m) s h =
+  further A b to back (Ok m) s h =
       record { good = back s m h.good; alone = λ o g. h.alone o (to s o g) }
-  further A b to back (bad k) s h =
+  further A b to back (Err k) s h =
       record {
         within = omega (arith, h.within);
         begun = record { rest = h.begun.rest; mode = h.begun.mode; good = back _ _ h.begun.good };
@@ -65,10 +65,10 @@ module _ (L : Form) where
       }
 
   -- a part of the form that has every line that goes on as this one does
-  pub narrowed : (K : Form) → ((s : List ℕ) (m : Mode) → K s m → L s m) → (r : Result) (b : ℕ) (s : List ℕ)
+  pub narrowed : (K : Form) → ((s : List ℕ) (m : Mode) → K s m → L s m) → (r : Outcome) (b : ℕ) (s : List ℕ)
       → ((t : List ℕ) (m : Mode) → L (b ∷ t) m → K (b ∷ t) m) → RightAt r K (b ∷ s) → RightAt r L (b ∷ s)
-  narrowed K wider (accepted m) b s same h = record { good = wider _ m h.good; alone = λ o g. h.alone o (same s o g) }
-  narrowed K wider (bad k) b s same h =
+  narrowed K wider (Ok m) b s same h = record { good = wider _ m h.good; alone = λ o g. h.alone o (same s o g) }
+  narrowed K wider (Err k) b s same h =
       record {
         within = h.within;
         begun = record { rest = h.begun.rest; mode = h.begun.mode; good = wider _ _ h.begun.good };
@@ -77,10 +77,10 @@ module _ (L : Form) where
       }
 
   -- and where the line ends here
-  pub narrowed-end : (K : Form) → ((s : List ℕ) (m : Mode) → K s m → L s m) → (r : Result) → ((m : Mode) → L [] m → K [] m)
+  pub narrowed-end : (K : Form) → ((s : List ℕ) (m : Mode) → K s m → L s m) → (r : Outcome) → ((m : Mode) → L [] m → K [] m)
       → RightAt r K [] → RightAt r L []
-  narrowed-end K wider (accepted m) same h = record { good = wider _ m h.good; alone = λ o g. h.alone o (same o g) }
-  narrowed-end K wider (bad k) same h =
+  narrowed-end K wider (Ok m) same h = record { good = wider _ m h.good; alone = λ o g. h.alone o (same o g) }
+  narrowed-end K wider (Err k) same h =
       record {
         within = h.within;
         begun = record { rest = h.begun.rest; mode = h.begun.mode; good = wider _ _ h.begun.good };
@@ -90,9 +90,9 @@ module _ (L : Form) where
 
   -- the same form under another name
   pub recast : (K : Form) → ((s : List ℕ) (m : Mode) → K s m → L s m) → ((s : List ℕ) (m : Mode) → L s m → K s m)
-      → (r : Result) (s : List ℕ) → RightAt r K s → RightAt r L s
-  recast K wider same (accepted m) s h = record { good = wider _ m h.good; alone = λ o g. h.alone o (same s o g) }
-  recast K wider same (bad k) s h =
+      → (r : Outcome) (s : List ℕ) → RightAt r K s → RightAt r L s
+  recast K wider same (Ok m) s h = record { good = wider _ m h.good; alone = λ o g. h.alone o (same s o g) }
+  recast K wider same (Err k) s h =
       record {
         within = h.within;
         begun = record { rest = h.begun.rest; mode = h.begun.mode; good = wider _ _ h.begun.good };
@@ -116,7 +116,7 @@ right_end m (b ∷ s) = stops (EndL m) (record { text = []; mode = m; good = (re
 abbrev pub MayEndL : Mode → Form → Form
 MayEndL m K s o = EndL m s o ⊎ K s o
 
-pub right-may-end : (m : Mode) (K : Form) (k : List ℕ → Result) → ((o : Mode) → K [] o → ⊥) → Right k K → Right (may_end m k) (MayEndL m K)
+pub right-may-end : (m : Mode) (K : Form) (k : List ℕ → Outcome) → ((o : Mode) → K [] o → ⊥) → Right k K → Right (may_end m k) (MayEndL m K)
 unfolding may_end
 right-may-end m K k some h [] =
     record { good = inl (refl, refl); alone = λ o g. ⊎_elim (λ e. e.1) (λ x. absurd (some o x)) g }
@@ -133,7 +133,7 @@ pub live-lit : (w : List ℕ) (K : Form) → Live K → Live (LitL w K)
 live-lit w K live =
     record { text = w ++ live.text; mode = live.mode; good = record { rest = live.text; text = refl; then = live.good } }
 
-module _ (K : Form) (k : List ℕ → Result) (live : Live K) (h : Right k K) where
+module _ (K : Form) (k : List ℕ → Outcome) (live : Live K) (h : Right k K) where
   pub right-lit : (w : List ℕ) → Right (lit w k) (LitL w K)
   unfolding lit
   right-lit [] s =
@@ -142,14 +142,14 @@ module _ (K : Form) (k : List ℕ → Result) (live : Live K) (h : Right k K) wh
   right-lit (c ∷ w) [] = ends (LitL (c ∷ w) K) (live-lit (c ∷ w) K live) (λ o x. clash x.text)
   right-lit (c ∷ w) (b ∷ s) = by-test (eqb b c) (there (right-lit w s)) other
     where
-      there : RightAt (lit w k s) (LitL w K) s → eqb b c ≡ true → RightAt (cond (eqb b c) (up (lit w k s)) (bad 0)) (LitL (c ∷ w) K) (b ∷ s)
+      there : RightAt (lit w k s) (LitL w K) s → eqb b c ≡ true → RightAt (cond (eqb b c) (up (lit w k s)) (Err 0)) (LitL (c ∷ w) K) (b ∷ s)
       there behind e =
           rw e
           (further (LitL (c ∷ w) K) (LitL w K) b
           (λ t o x. record { rest = x.rest; text = cc x.text; then = x.then })
           (λ t o x. record { rest = x.rest; text = cc (x.text, eqb-true b c e); then = x.then }) (lit w k s) s behind)
 
-      other : eqb b c ≡ false → RightAt (cond (eqb b c) (up (lit w k s)) (bad 0)) (LitL (c ∷ w) K) (b ∷ s)
+      other : eqb b c ≡ false → RightAt (cond (eqb b c) (up (lit w k s)) (Err 0)) (LitL (c ∷ w) K) (b ∷ s)
       other e =
           rw e (stops (LitL (c ∷ w) K) (live-lit (c ∷ w) K live) b s (λ t o x. eqb-false b c e (cc x.text)))
 
@@ -157,7 +157,7 @@ module _ (K : Form) (k : List ℕ → Result) (live : Live K) (h : Right k K) wh
 abbrev pub PickL : ℕ → ℕ → Form → Form → Form
 PickL c d K M s o = LitL (c ∷ []) K s o ⊎ LitL (d ∷ []) M s o
 
-module _ (c d : ℕ) (K M : Form) (k l : List ℕ → Result) (apart : c ≡ d → ⊥) (live : Live K) (h : Right k K) (g : Right l M) where
+module _ (c d : ℕ) (K M : Form) (k l : List ℕ → Outcome) (apart : c ≡ d → ⊥) (live : Live K) (h : Right k K) (g : Right l M) where
   live-pick : Live (PickL c d K M)
   live-pick = record { text = c ∷ live.text; mode = live.mode; good = inl (record { rest = live.text; text = refl; then = live.good }) }
 
@@ -167,7 +167,7 @@ module _ (c d : ℕ) (K M : Form) (k l : List ℕ → Result) (apart : c ≡ d �
   right-pick (b ∷ s) = by-test (eqb b c) first (λ e. by-test (eqb b d) (second e) (neither e))
     where
       Goal : Type 0
-      Goal = RightAt (cond (eqb b c) (up (k s)) (cond (eqb b d) (up (l s)) (bad 0))) (PickL c d K M) (b ∷ s)
+      Goal = RightAt (cond (eqb b c) (up (k s)) (cond (eqb b d) (up (l s)) (Err 0))) (PickL c d K M) (b ∷ s)
 
       first : eqb b c ≡ true → Goal
       first e =
@@ -207,14 +207,14 @@ module _ {Q : Type 0} (r : Runner Q) where
     pub then : K (after q bytes) rest o
 
   -- what may end a run: a state's own form; or none, where more bytes are wanted
-  pub data Ending (K : Q → Form) (k : Q → List ℕ → Result) (q : Q) : Type 0 where
+  pub data Ending (K : Q → Form) (k : Q → List ℕ → Outcome) (q : Q) : Type 0 where
     reads : Right (k q) (K q) → Ending K k q
-    wants : ((s : List ℕ) (o : Mode) → K q s o → ⊥) → ((s : List ℕ) → k q s ≡ bad 0) → Live (RunL K q) → Ending K k q
+    wants : ((s : List ℕ) (o : Mode) → K q s o → ⊥) → ((s : List ℕ) → k q s ≡ Err 0) → Live (RunL K q) → Ending K k q
 
-  module _ (K : Q → Form) (k : Q → List ℕ → Result) (Ok : Q → Type 0)
-      (keep : (q : Q) (b : ℕ) → Ok q → T (r.taken q b) → Ok (r.next q b))
-      (apart : (q : Q) (b : ℕ) → Ok q → T (r.taken q b) → (s : List ℕ) (o : Mode) → K q (b ∷ s) o → ⊥)
-      (ending : (q : Q) → Ok q → Ending K k q) where
+  module _ (K : Q → Form) (k : Q → List ℕ → Outcome) (Fine : Q → Type 0)
+      (keep : (q : Q) (b : ℕ) → Fine q → T (r.taken q b) → Fine (r.next q b))
+      (apart : (q : Q) (b : ℕ) → Fine q → T (r.taken q b) → (s : List ℕ) (o : Mode) → K q (b ∷ s) o → ⊥)
+      (ending : (q : Q) → Fine q → Ending K k q) where
     -- a line that goes on with a byte that is not taken has no run here
     no_run : (q : Q) (s : List ℕ) (o : Mode) → RunL K q s o → ((b : ℕ) (t : List ℕ) → s ≡ b ∷ t → T (r.taken q b) → ⊥) → K q s o
     unfolding walks after
@@ -245,7 +245,7 @@ module _ {Q : Type 0} (r : Runner Q) where
         rw (e (b ∷ s)) (stops (RunL K q) live b s (λ t o x. none (b ∷ t) o (not_taken q b n t o x)))
 
     -- behind a byte that is taken
-    is-taken : (q : Q) (b : ℕ) → Ok q → T (r.taken q b) → (t : List ℕ) (o : Mode) → RunL K q (b ∷ t) o → RunL K (r.next q b) t o
+    is-taken : (q : Q) (b : ℕ) → Fine q → T (r.taken q b) → (t : List ℕ) (o : Mode) → RunL K q (b ∷ t) o → RunL K (r.next q b) t o
     unfolding walks after
     is-taken q b ok y t o x = by_bytes x.bytes x.walked x.text x.then
       where
@@ -271,7 +271,7 @@ module _ {Q : Type 0} (r : Runner Q) where
           then = x.then;
         }
 
-    pub right-run : (q : Q) → Ok q → Right (run r k q) (RunL K q)
+    pub right-run : (q : Q) → Fine q → Right (run r k q) (RunL K q)
     unfolding run
     right-run q ok [] = run_ends q (ending q ok)
     right-run q ok (b ∷ s) =

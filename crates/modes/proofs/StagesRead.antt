@@ -9,56 +9,44 @@ use borrow.Author.Tests.{lt-ltb, le-ltb, eq-eqb, ne_eqb}
 use lib.Dec.{eqb, ltb}
 use lib.ListN.{length, drop, take, set, length-set}
 use lib.Seq.{take_all, take-suc-set}
-use Rattle.bits.proofs.Test.{by-test}
-use Rattle.modes.specs.declared.mode.Mode.{Mode}
+use Rattle.bits.proofs.Test.{by-test, and-false}
+use Rattle.std.specs.List.{prefix_len}
 use Rattle.modes.specs.declared.number.Number.{Number}
-use Rattle.modes.specs.Form.{header, Good}
+use Rattle.modes.specs.declared.number.Spelled.{Spelled}
+use Rattle.modes.specs.Form.{name_byte, header, Good}
 use Rattle.modes.specs.Promises.{Told}
-use Rattle.modes.specs.Scan.{Result, accepted, bad, may_end, lit, pick, Digits, passing, shift, is_at, matched_in, run_count, run_end, state, number_from, name_runner, digit_runner, decimal_runner, read_token, unflagged, read_flags, read_numbers, read_decimals, read_behind, read_clock, read_name, read_line, parsed_of}
-use Rattle.modes.proofs.Steps.{shift_zero, lit-there, lit-not, pick_first, pick_second, pick_other, may-end, may_more, word-whole, word-part, matched-most, run_at}
+use Rattle.modes.specs.Scan.{Outcome, Ok, Err, Passes, Stops, read_word, lit, pick, Digits, passing, shift, is_at, matched_in, run_count, run_end, state, number_from, name_runner, digit_runner, decimal_runner, read_token, unflagged, read_flags, read_numbers, read_decimals, read_behind, read_clock, read_name, read_line}
+use Rattle.modes.proofs.Steps.{shift_zero, lit-there, lit-not, pick_first, pick_second, pick_other, word-whole, word-part, matched-most, run_at}
 use Rattle.modes.proofs.Readers.{RightAt}
 use Rattle.modes.proofs.Lines.{reads-good}
+use Rattle.modes.proofs.Loops.{tail, tail-is}
 
-shift_none : (n : ℕ) → shift n (bad 0) ≡ bad n
+shift_none : (n : ℕ) → shift n (Err 0) ≡ Err n
 unfolding shift
-shift_none n = ap bad (omega arith)
+shift_none n = ap Err (omega arith)
 
 next : (at : ℕ) → at + 1 + 1 ≡ at + 2
 next at = omega arith
 
--- nothing more, or a space and a sign
-module _ (line : List ℕ) (at : ℕ) (m : Mode) (k l : List ℕ → Result) where
-  abbrev signed : Result
-  signed = shift at (may_end m (lit (0x20 ∷ []) (pick 0x2B 0x2D k l)) (drop at line))
+-- one of two things, by its byte
+module _ {A : Type 0} (line : List ℕ) (at c d : ℕ) (apart : d ≡ c → ⊥) (x y : A) where
+  abbrev pub one_of : (A → List ℕ → Outcome) → List ℕ → Outcome
+  one_of k = pick c d (k x) (k y)
 
-  pub signed-end : length line ≤ at → signed ≡ accepted m
-  signed-end h = may-end line at m (lit (0x20 ∷ []) (pick 0x2B 0x2D k l)) h
+  pub picks-first : at < length line → is_at line at c ≡ true → Passes one_of line at x (at + 1)
+  picks-first h e = record { within = omega arith; same = λ k. pick_first line at c d (k x) (k y) e }
 
-  pub signed-none : at < length line → is_at line at 0x20 ≡ false → signed ≡ bad at
-  signed-none h e =
-      may_more line at m (lit (0x20 ∷ []) (pick 0x2B 0x2D k l)) h ∙ lit-not line at 0x20 [] (pick 0x2B 0x2D k l) e
+  pub picks-second : at < length line → is_at line at d ≡ true → Passes one_of line at y (at + 1)
+  picks-second h e = record { within = omega arith; same = λ k. pick_second line at c d (k x) (k y) apart e }
 
-  space-there : at < length line → is_at line at 0x20 ≡ true → signed ≡ shift (at + 1) (pick 0x2B 0x2D k l (drop (at + 1) line))
-  unfolding lit
-  space-there h e =
-      may_more line at m (lit (0x20 ∷ []) (pick 0x2B 0x2D k l)) h ∙ lit-there line at 0x20 [] (pick 0x2B 0x2D k l) e
-
-  pub signed-plus : at < length line → is_at line at 0x20 ≡ true → is_at line (at + 1) 0x2B ≡ true → signed ≡ shift (at + 2) (k (drop (at + 2) line))
-  signed-plus h e p =
-      space-there h e ∙ pick_first line (at + 1) 0x2B 0x2D k l p ∙ ap (λ (i : ℕ). shift i (k (drop i line))) (next at)
-
-  pub signed-minus : at < length line → is_at line at 0x20 ≡ true → is_at line (at + 1) 0x2D ≡ true → signed ≡ shift (at + 2) (l (drop (at + 2) line))
-  signed-minus h e p =
-      space-there h e ∙ pick_second line (at + 1) 0x2B 0x2D k l (λ z. omega (arith, z)) p ∙ ap (λ (i : ℕ). shift i (l (drop i line))) (next at)
-
-  pub signed-bad : at < length line → is_at line at 0x20 ≡ true → is_at line (at + 1) 0x2B ≡ false → is_at line (at + 1) 0x2D ≡ false → signed ≡ bad (at + 1)
-  signed-bad h e p q = space-there h e ∙ pick_other line (at + 1) 0x2B 0x2D k l p ∙ lit-not line (at + 1) 0x2D [] l q
+  pub picks-none : is_at line at c ≡ false → is_at line at d ≡ false → Stops one_of line at at
+  picks-none e f = λ k. pick_other line at c d (k x) (k y) e ∙ lit-not line at d [] (k y) f
 
 -- a word, by how many bytes of it match
-module _ (line : List ℕ) (at : ℕ) (w : List ℕ) (k : List ℕ → Result) (count : ℕ) (e : count ≡ matched_in w (drop at line)) where
-  pub word-short : count < length w → shift at (lit w k (drop at line)) ≡ bad (at + count)
+module _ (line : List ℕ) (at : ℕ) (w : List ℕ) (k : List ℕ → Outcome) (count : ℕ) (e : count ≡ matched_in w (drop at line)) where
+  pub word-short : count < length w → shift at (lit w k (drop at line)) ≡ Err (at + count)
   word-short h =
-      word-part line at w k (subst (λ (n : ℕ). n < length w) e h) ∙ ap (λ (n : ℕ). bad (at + n)) (sym e)
+      word-part line at w k (subst (λ (n : ℕ). n < length w) e h) ∙ ap (λ (n : ℕ). Err (at + n)) (sym e)
 
   pub word-full : length w ≤ count → shift at (lit w k (drop at line)) ≡ shift (at + length w) (k (drop (at + length w) line))
   word-full h = word-whole line at w k (omega (arith, e, matched-most w (drop at line)))
@@ -70,69 +58,70 @@ end-count c [] = omega arith
 end-count c (b ∷ s) =
     by-test (name_runner.taken c b) (λ e. rw e (end-count (suc c) s ∙ omega arith)) (λ e. rw e (omega arith))
 
-module _ (line : List ℕ) (at count : ℕ) (e : count ≡ run_count name_runner 0 (drop at line)) where
-  abbrev quoted : ℕ → List ℕ → Result
+-- how many bytes a name has, counted in the first 32 bytes
+name-counted : (c n : ℕ) (s : List ℕ) → c + n ≡ 32 → prefix_len name_byte (take n s) ≡ run_count name_runner c s
+unfolding run_count name_runner
+name-counted c zero [] e = refl
+name-counted c (suc n) [] e = refl
+name-counted c zero (b ∷ s) e =
+    sym (ap (λ (t : Bool). cond (name_byte b && t) (suc (run_count name_runner (suc c) s)) 0) (le-ltb c 32 (omega (arith, e)))
+    ∙ ap (λ (t : Bool). cond t (suc (run_count name_runner (suc c) s)) 0) (and-false (name_byte b)))
+name-counted c (suc n) (b ∷ s) e =
+    by-test (name_byte b)
+    (λ t. rw (t, lt-ltb c 32 (omega (arith, e))) (ap (λ (k : ℕ). 1 + k) (name-counted (suc c) n s (omega (arith, e))) ∙ omega arith))
+    (λ t. rw t refl)
+
+module _ (line : List ℕ) (at count : ℕ) (e : count ≡ prefix_len name_byte (take 32 (tail line at 0 at (omega arith)))) where
+  abbrev quoted : ℕ → List ℕ → Outcome
   quoted name = lit (0x22 ∷ 0x20 ∷ []) (read_clock name)
+
+  counted : count ≡ run_count name_runner 0 (drop at line)
+  counted = e ∙ ap (λ (s : List ℕ). prefix_len name_byte (take 32 s)) (tail-is line at 0 at (omega arith)) ∙ name-counted 0 32 (drop at line) refl
 
   name-read : shift at (read_name (drop at line)) ≡ shift (at + count) (passing (ltb 0) quoted count (drop (at + count) line))
   unfolding read_name
   name-read =
       run_at name_runner (passing (ltb 0) quoted) 0 line at
-      ∙ ap (λ (n : ℕ). shift (at + n) (passing (ltb 0) quoted (run_end name_runner 0 (drop at line)) (drop (at + n) line))) (sym e)
+      ∙ ap (λ (n : ℕ). shift (at + n) (passing (ltb 0) quoted (run_end name_runner 0 (drop at line)) (drop (at + n) line))) (sym counted)
       ∙ ap (λ (n : ℕ). shift (at + count) (passing (ltb 0) quoted n (drop (at + count) line)))
-      (end-count 0 (drop at line) ∙ ap (λ (n : ℕ). 0 + n) (sym e) ∙ omega arith)
+      (end-count 0 (drop at line) ∙ ap (λ (n : ℕ). 0 + n) (sym counted) ∙ omega arith)
 
-  pub name-none : count ≡ 0 → shift at (read_name (drop at line)) ≡ bad (at + count)
+  pub name-none : count ≡ 0 → shift at (read_name (drop at line)) ≡ Err at
   unfolding passing
   name-none z =
       name-read
-      ∙ ap (λ (b : Bool). shift (at + count) (cond b (quoted count (drop (at + count) line)) (bad 0))) (le-ltb 0 count (omega (arith, z)))
-      ∙ shift_none (at + count)
+      ∙ ap (λ (b : Bool). shift (at + count) (cond b (quoted count (drop (at + count) line)) (Err 0))) (le-ltb 0 count (omega (arith, z)))
+      ∙ shift_none (at + count) ∙ ap Err (omega (arith, z))
 
-  name-some : 0 < count → shift at (read_name (drop at line)) ≡ shift (at + count) (quoted count (drop (at + count) line))
+  pub name-some : 0 < count → shift at (read_name (drop at line)) ≡ shift (at + count) (quoted count (drop (at + count) line))
   unfolding passing
   name-some h =
-      name-read ∙ ap (λ (b : Bool). shift (at + count) (cond b (quoted count (drop (at + count) line)) (bad 0))) (lt-ltb 0 count h)
-
-  pub name-open : 0 < count → is_at line (at + count) 0x22 ≡ false → shift at (read_name (drop at line)) ≡ bad (at + count)
-  name-open h q = name-some h ∙ lit-not line (at + count) 0x22 (0x20 ∷ []) (read_clock count) q
-
-  pub name-close : 0 < count → is_at line (at + count) 0x22 ≡ true → is_at line (at + count + 1) 0x20 ≡ false
-      → shift at (read_name (drop at line)) ≡ bad (at + count + 1)
-  name-close h q s =
-      name-some h ∙ lit-there line (at + count) 0x22 (0x20 ∷ []) (read_clock count) q ∙ lit-not line (at + count + 1) 0x20 [] (read_clock count) s
-
-  pub name_done : 0 < count → is_at line (at + count) 0x22 ≡ true → is_at line (at + count + 1) 0x20 ≡ true
-      → shift at (read_name (drop at line)) ≡ shift (at + count + 2) (read_clock count (drop (at + count + 2) line))
-  unfolding lit
-  name_done h q s =
-      name-some h ∙ lit-there line (at + count) 0x22 (0x20 ∷ []) (read_clock count) q
-      ∙ lit-there line (at + count + 1) 0x20 [] (read_clock count) s ∙ ap (λ (i : ℕ). shift i (read_clock count (drop i line))) (next (at + count))
+      name-read ∙ ap (λ (b : Bool). shift (at + count) (cond b (quoted count (drop (at + count) line)) (Err 0))) (lt-ltb 0 count h)
 
 -- a number
-module _ (line : List ℕ) (at most : ℕ) (k : ℕ → List ℕ → Result) (n : Number) (e : n ≡ number_from digit_runner line at (state most 0)) where
+module _ (line : List ℕ) (at most : ℕ) (k : ℕ → List ℕ → Outcome) (n : Spelled) (e : n ≡ number_from digit_runner line at (state most 0)) where
   token-read : shift at (read_token most k (drop at line))
       ≡ shift n.end (passing (λ q. ltb q.left most) (λ q. k q.value) (state n.left n.value) (drop n.end line))
   unfolding read_token number_from
   token-read =
       run_at digit_runner (passing (λ q. ltb q.left most) (λ q. k q.value)) (state most 0) line at
-      ∙ ap (λ (x : Number). shift x.end (passing (λ q. ltb q.left most) (λ q. k q.value) (state x.left x.value) (drop x.end line))) (sym e)
+      ∙ ap (λ (x : Spelled). shift x.end (passing (λ q. ltb q.left most) (λ q. k q.value) (state x.left x.value) (drop x.end line))) (sym e)
 
-  pub token-none : most ≤ n.left → shift at (read_token most k (drop at line)) ≡ bad n.end
+  pub token-none : most ≤ n.left → shift at (read_token most k (drop at line)) ≡ Err n.end
   unfolding passing
   token-none h =
       token-read
-      ∙ ap (λ (b : Bool). shift n.end (cond b (k n.value (drop n.end line)) (bad 0))) (le-ltb n.left most h)
+      ∙ ap (λ (b : Bool). shift n.end (cond b (k n.value (drop n.end line)) (Err 0))) (le-ltb n.left most h)
       ∙ shift_none n.end
 
   pub token-some : n.left < most → shift at (read_token most k (drop at line)) ≡ shift n.end (k n.value (drop n.end line))
   unfolding passing
   token-some h =
-      token-read ∙ ap (λ (b : Bool). shift n.end (cond b (k n.value (drop n.end line)) (bad 0))) (lt-ltb n.left most h)
+      token-read ∙ ap (λ (b : Bool). shift n.end (cond b (k n.value (drop n.end line)) (Err 0))) (lt-ltb n.left most h)
 
 -- behind the whole MHz
 module _ (line : List ℕ) (at name whole : ℕ) where
-  first : List ℕ → Result
+  first : List ℕ → Outcome
   first = read_token 5 (λ n. read_numbers 7 name (whole * 1000) (n ∷ []))
 
   pub behind-point : is_at line at 0x2E ≡ true
@@ -143,7 +132,7 @@ module _ (line : List ℕ) (at name whole : ℕ) where
       (λ z. rw z (lit-there line at 0x2E [] (read_decimals name whole) e))
       (λ z. rw z (pick_first line at 0x2E 0x20 (read_decimals name whole) (read_token 5 (λ n. read_numbers 7 name (whole * 1000) (n ∷ []))) e))
 
-  pub behind-zero : is_at line at 0x2E ≡ false → whole ≡ 0 → shift at (read_behind name whole (drop at line)) ≡ bad at
+  pub behind-zero : is_at line at 0x2E ≡ false → whole ≡ 0 → shift at (read_behind name whole (drop at line)) ≡ Err at
   unfolding read_behind
   behind-zero e z = rw (eq-eqb whole 0 z) (lit-not line at 0x2E [] (read_decimals name whole) e)
 
@@ -154,11 +143,11 @@ module _ (line : List ℕ) (at name whole : ℕ) where
       rw (ne_eqb whole 0 z) (pick_other line at 0x2E 0x20 (read_decimals name whole) (read_token 5 (λ n. read_numbers 7 name (whole * 1000) (n ∷ []))) e)
 
 -- behind the point
-module _ (line : List ℕ) (at name whole : ℕ) (n : Number) (e : n ≡ number_from decimal_runner line at (state 3 whole)) where
+module _ (line : List ℕ) (at name whole : ℕ) (n : Spelled) (e : n ≡ number_from decimal_runner line at (state 3 whole)) where
   abbrev passed : Digits → Bool
   passed q = ltb q.left 3 && ltb 0 q.value
 
-  abbrev following : Digits → List ℕ → Result
+  abbrev following : Digits → List ℕ → Outcome
   following q = read_numbers 8 name (q.value * 10 ^ q.left) []
 
   decimals-read : shift at (read_decimals name whole (drop at line))
@@ -166,13 +155,13 @@ module _ (line : List ℕ) (at name whole : ℕ) (n : Number) (e : n ≡ number_
   unfolding read_decimals number_from
   decimals-read =
       run_at decimal_runner (passing passed following) (state 3 whole) line at
-      ∙ ap (λ (x : Number). shift x.end (passing passed following (state x.left x.value) (drop x.end line))) (sym e)
+      ∙ ap (λ (x : Spelled). shift x.end (passing passed following (state x.left x.value) (drop x.end line))) (sym e)
 
-  pub decimals-bad : passed (state n.left n.value) ≡ false → shift at (read_decimals name whole (drop at line)) ≡ bad n.end
+  pub decimals-bad : passed (state n.left n.value) ≡ false → shift at (read_decimals name whole (drop at line)) ≡ Err n.end
   unfolding passing
   decimals-bad h =
       decimals-read
-      ∙ ap (λ (b : Bool). shift n.end (cond b (following (state n.left n.value) (drop n.end line)) (bad 0))) h
+      ∙ ap (λ (b : Bool). shift n.end (cond b (following (state n.left n.value) (drop n.end line)) (Err 0))) h
       ∙ shift_none n.end
 
   pub decimals-done : n.left < 3 → 0 < n.value
@@ -180,8 +169,8 @@ module _ (line : List ℕ) (at name whole : ℕ) (n : Number) (e : n ≡ number_
   unfolding passing
   decimals-done h g =
       decimals-read
-      ∙ ap (λ (b : Bool). shift n.end (cond (b && ltb 0 n.value) (following (state n.left n.value) (drop n.end line)) (bad 0))) (lt-ltb n.left 3 h)
-      ∙ ap (λ (b : Bool). shift n.end (cond b (following (state n.left n.value) (drop n.end line)) (bad 0))) (lt-ltb 0 n.value g)
+      ∙ ap (λ (b : Bool). shift n.end (cond (b && ltb 0 n.value) (following (state n.left n.value) (drop n.end line)) (Err 0))) (lt-ltb n.left 3 h)
+      ∙ ap (λ (b : Bool). shift n.end (cond b (following (state n.left n.value) (drop n.end line)) (Err 0))) (lt-ltb 0 n.value g)
 
 -- so many numbers were read
 pub record Numbering (line : List ℕ) (at name khz : ℕ) (numbers : List ℕ) (end count : ℕ) : Type 0 where
@@ -199,30 +188,28 @@ module _ (line : List ℕ) (at name khz : ℕ) (numbers : List ℕ) (end count :
   unfolding read_numbers
   numbers_more h = m.same ∙ ap (λ (k : ℕ). shift end (read_numbers k name khz (take count numbers) (drop end line))) (one_more h)
 
-  pub numbers-none : count < 8 → is_at line end 0x20 ≡ false → shift at (read_numbers 8 name khz [] (drop at line)) ≡ bad end
-  numbers-none h e =
-      numbers_more h ∙ lit-not line end 0x20 [] (read_token 5 (λ n. read_numbers (8 - (count + 1)) name khz (take count numbers ++ n ∷ []))) e
+  abbrev another : ℕ → List ℕ → Outcome
+  another n = read_numbers (8 - (count + 1)) name khz (take count numbers ++ n ∷ [])
 
-  number_at : count < 8 → is_at line end 0x20 ≡ true → shift at (read_numbers 8 name khz [] (drop at line))
-      ≡ shift (end + 1) (read_token 5 (λ n. read_numbers (8 - (count + 1)) name khz (take count numbers ++ n ∷ [])) (drop (end + 1) line))
-  unfolding lit
-  number_at h e =
-      numbers_more h ∙ lit-there line end 0x20 [] (read_token 5 (λ n. read_numbers (8 - (count + 1)) name khz (take count numbers ++ n ∷ []))) e
+  pub numbers-none : (place : ℕ) → count < 8 → Stops (read_word (0x20 ∷ [])) line end place → shift at (read_numbers 8 name khz [] (drop at line)) ≡ Err place
+  numbers-none place h s = numbers_more h ∙ s (λ u. read_token 5 another)
 
-  module _ (h : count < 8) (e : is_at line end 0x20 ≡ true) (n : Number) (r : n ≡ number_from digit_runner line (end + 1) (state 5 0)) where
-    pub numbers-bad : 5 ≤ n.left → shift at (read_numbers 8 name khz [] (drop at line)) ≡ bad n.end
-    numbers-bad f =
-        number_at h e ∙ token-none line (end + 1) 5 (λ n. read_numbers (8 - (count + 1)) name khz (take count numbers ++ n ∷ [])) n r f
+  module _ (h : count < 8) (digits : ℕ) (p : Passes (read_word (0x20 ∷ [])) line end tt digits) where
+    number_at : shift at (read_numbers 8 name khz [] (drop at line)) ≡ shift digits (read_token 5 another (drop digits line))
+    number_at = numbers_more h ∙ p.same (λ u. read_token 5 another)
 
-    pub numbers-next : n.left < 5 → n.end ≤ length line → Numbering line at name khz (set numbers count n.value) n.end (count + 1)
-    numbers-next f g =
+    pub numbers-bad : (place : ℕ) → Stops (read_token 5) line digits place → shift at (read_numbers 8 name khz [] (drop at line)) ≡ Err place
+    numbers-bad place s = number_at ∙ s another
+
+    pub numbers-next : (n : Number) → Passes (read_token 5) line digits n.value n.end
+        → Numbering line at name khz (set numbers count n.value) n.end (count + 1)
+    numbers-next n r =
         record {
-          fits = g;
+          fits = r.within;
           some = omega arith;
           size = simp length-set m.size;
           same =
-              number_at h e
-              ∙ token-some line (end + 1) 5 (λ n. read_numbers (8 - (count + 1)) name khz (take count numbers ++ n ∷ [])) n r f
+              number_at ∙ r.same another
               ∙ ap (λ (ns : List ℕ). shift n.end (read_numbers (8 - (count + 1)) name khz ns (drop n.end line)))
               (sym (ap (λ (k : ℕ). take k (set numbers count n.value)) (add-one count) ∙ take-suc-set numbers count n.value (omega (arith, m.size))));
         }
@@ -238,23 +225,17 @@ pub numbering : (line : List ℕ) (at name khz : ℕ) (numbers : List ℕ) → a
 numbering line at name khz numbers h e = record { fits = h; some = omega arith; size = e; same = refl }
 
 -- the whole line
-pub line_word : (line : List ℕ) (count : ℕ) → count ≡ matched_in header (drop 0 line) → count < 10 → read_line line ≡ bad count
-unfolding read_line header
-line_word line count e h =
-    sym (shift_zero (lit header read_name line)) ∙ word-short line 0 header read_name count e h ∙ ap bad (omega arith)
-
-pub line-named : (line : List ℕ) (count : ℕ) → count ≡ matched_in header (drop 0 line) → 10 ≤ count → read_line line ≡ shift 10 (read_name (drop 10 line))
-unfolding read_line header
-line-named line count e h = sym (shift_zero (lit header read_name line)) ∙ word-full line 0 header read_name count e h
+pub line-whole : (line : List ℕ) → read_line line ≡ shift 0 (lit header read_name (drop 0 line))
+unfolding read_line
+line-whole line = sym (shift_zero (lit header read_name line))
 
 -- what the reader answers is what is told
-pub tells : (line : List ℕ) → Told line (parsed_of (read_line line))
-unfolding parsed_of unflagged
+pub tells : (line : List ℕ) → Told line (read_line line)
 tells line = by_result (read_line line) (reads-good line)
   where
-    by_result : (r : Result) → RightAt r Good line → Told line (parsed_of r)
-    by_result (accepted m) h = (refl, h)
-    by_result (bad k) h = (refl, h)
+    by_result : (r : Outcome) → RightAt r Good line → Told line r
+    by_result (Ok m) h = h
+    by_result (Err k) h = h
 
 -- a clock has six digits at most
 pub khz-below : (v l : ℕ) → l < 3 → v < 1000 * 10 ^ (3 - l) → v * 10 ^ l < 1000000

@@ -1,13 +1,12 @@
 -- 02, 4/13: what a good line is: the parts that it is made of, and the text that they spell.
 -- Assumes nothing.
 use Rattle.std.specs.Prelude.{ℕ, ◌+◌, ◌-◌, ◌*◌, ◌^◌, ◌≤◌, Bool, true, false, cond, not, ◌&&◌, ◌||◌, List, [], ◌∷◌, ◌++◌, map, ◌≡◌, T, eqb, leb, length}
+use Rattle.std.specs.List.{list_all}
 use Rattle.file.specs.Readers.{ascii}
 use Rattle.modes.specs.declared.mode.Mode.{Mode}
-
 -- 'Allow +hsync, -hsync, +vsync, -vsync'
-pub data Axis : Type 0 where
-  horizontal : Axis
-  vertical : Axis
+pub use Rattle.modes.specs.declared.mode.Axis.{Axis}
+pub use Rattle.modes.specs.declared.mode.Axis.TheVariants.{Horizontal, Vertical}
 
 pub record Flag : Type 0 where
   pub axis : Axis
@@ -23,8 +22,7 @@ pub record Parts : Type 0 where
 
 -- each element of a list passes a test
 unfoldable pub every : {A : Type 0} → (A → Bool) → List A → Bool
-every test [] = true
-every test (x ∷ xs) = test x && every test xs
+every test xs = list_all test xs
 
 -- 'bytes 20h to 7Eh, no quote'
 unfoldable pub name_byte : ℕ → Bool
@@ -50,11 +48,15 @@ value_of t = value_from 0 t
 unfoldable pub kilohertz : List ℕ → List ℕ → ℕ
 kilohertz whole decimals = value_of (whole ++ decimals) * 10 ^ (3 - length decimals)
 
+unfoldable pub other_axis : Axis → Axis
+other_axis Horizontal = Vertical
+other_axis Vertical = Horizontal
+
 unfoldable pub same_axis : Axis → Axis → Bool
-same_axis horizontal horizontal = true
-same_axis horizontal vertical = false
-same_axis vertical horizontal = false
-same_axis vertical vertical = true
+same_axis Horizontal Horizontal = true
+same_axis Horizontal Vertical = false
+same_axis Vertical Horizontal = false
+same_axis Vertical Vertical = true
 
 -- 'each axis at most once': of two axes, so at most two flags
 unfoldable pub each_once : List Flag → Bool
@@ -95,8 +97,8 @@ unfoldable pub sign : Bool → ℕ
 sign minus = cond minus 0x2D 0x2B
 
 unfoldable pub letter : Axis → ℕ
-letter horizontal = 0x68
-letter vertical = 0x76
+letter Horizontal = 0x68
+letter Vertical = 0x76
 
 unfoldable pub flag_text : Flag → List ℕ
 unfolding sign letter ascii
@@ -128,8 +130,8 @@ mode_of p =
       name = length p.name;
       khz = kilohertz p.whole p.decimals;
       numbers = map value_of p.numbers;
-      h_minus = minus_of horizontal p.flags;
-      v_minus = minus_of vertical p.flags;
+      h_minus = minus_of Horizontal p.flags;
+      v_minus = minus_of Vertical p.flags;
     }
 
 -- a good line, and what it says

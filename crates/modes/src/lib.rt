@@ -6,8 +6,7 @@ mod mode;
 mod number;
 mod place;
 mod stages;
-mod told;
 
-pub use mode::{Mode, Parsed};
+pub use mode::{Axis, Mode};
 pub use place::name_byte;
 pub use stages::parse;

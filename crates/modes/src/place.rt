@@ -1,73 +1,73 @@
 // What stands at a place of a line.
-ghost use Rattle.std.specs.Prelude.{true, ◌&&◌, ◌≡◌, ◌+◌, ◌<◌, ◌≤◌, ltb, drop, get_or, length};
+ghost use Rattle.std.specs.Prelude.{true, ◌≡◌, ◌+◌, ◌<◌, ◌≤◌, take, length, MatchResult};
+ghost use Rattle.std.specs.List.{prefix_len};
 ghost use Rattle.modes.specs.Form.{name_byte};
-ghost use Rattle.modes.specs.Scan.{is_at, matched_in, name_runner, run_count};
+ghost use Rattle.modes.specs.Scan.{Passes, Stops, is_at, read_letter, read_sign, read_word};
+
+use crate::mode::Axis;
 
 // This byte stands there.
+#[tactic(auto, unfolding(crate::specs::Scan::is_at))]
 pub fn is_at(line: &[u8], at: usize, byte: u8) -> bool
     ensures value { result ≡ is_at line.now at byte }
     ensures at_in_bounds { result ≡ true → at < length line.now }
 {
-    if at < line.len() {
-        line[at] == byte
-    } else {
-        false
-    }
+    line.get(at) == Some(&byte)
 }
 
-// How many bytes of a word stand from a place on.
-pub fn matched(line: &[u8], at: usize, word: &[u8]) -> usize
+// The place behind a word that stands there, or of the first byte that differs from it.
+pub fn word(line: &[u8], at: usize, word: &[u8]) -> Result<usize, usize>
     requires { at ≤ length line.now }
-    ensures value { result ≡ matched_in word.now (drop at line.now) }
-    ensures result_in_bounds { at + result ≤ length line.now }
+    ensures { MatchResult result (λ end. Passes (read_word word.now) line.now at tt end) (λ place. Stops (read_word word.now) line.now at place) }
 {
-    let mut n: usize = 0;
-    while n < word.len() {
-        if !is_at(line, at + n, word[n]) {
-            return n;
+    for (n, byte) in word.iter().enumerate() {
+        if !is_at(line, at + n, *byte) {
+            return Err(at + n);
         }
-        n += 1;
     }
-    n
+    Ok(at + word.len())
+}
+
+// Whether the sign that stands there is a minus, or the place if none does.
+pub fn sign(line: &[u8], at: usize) -> Result<bool, usize>
+    requires { at ≤ length line.now }
+    ensures { MatchResult result (λ minus. Passes read_sign line.now at minus (at + 1)) (λ place. Stops read_sign line.now at place) }
+{
+    if is_at(line, at, b'+') {
+        return Ok(false);
+    }
+    if is_at(line, at, b'-') {
+        return Ok(true);
+    }
+    Err(at)
+}
+
+// The axis whose letter stands there, or the place if none does.
+pub fn axis(line: &[u8], at: usize) -> Result<Axis, usize>
+    requires { at ≤ length line.now }
+    ensures { MatchResult result (λ found. Passes read_letter line.now at found (at + 1)) (λ place. Stops read_letter line.now at place) }
+{
+    if is_at(line, at, b'h') {
+        return Ok(Axis::Horizontal);
+    }
+    if is_at(line, at, b'v') {
+        return Ok(Axis::Vertical);
+    }
+    Err(at)
 }
 
 // A name may have this byte.
+#[tactic(auto, unfolding(crate::specs::Form::name_byte))]
 pub fn name_byte(b: u8) -> bool
     ensures { result ≡ name_byte b }
 {
-    if b < 0x20 {
-        return false;
-    }
-    if b > 0x7E {
-        return false;
-    }
-    b != 0x22
+    matches!(b, 0x20..=0x7E) && b != b'"'
 }
 
-// A name may have the byte that stands there.
-fn is_name(line: &[u8], at: usize) -> bool
-    ensures value { result ≡ (ltb at (length line.now) && name_byte (get_or line.now at 0)) }
-    ensures at_in_bounds { result ≡ true → at < length line.now }
+// How many bytes of a name a text begins with.
+pub fn name_length(left: &[u8]) -> usize
+    ensures value { result ≡ prefix_len name_byte (take 32 left.now) }
+    ensures result_in_bounds { result ≤ length left.now }
 {
-    if at < line.len() {
-        name_byte(line[at])
-    } else {
-        false
-    }
-}
-
-// How many bytes of a name stand from a place on.
-pub fn name_length(line: &[u8], at: usize) -> usize
-    requires { at ≤ length line.now }
-    ensures value { result ≡ run_count name_runner 0 (drop at line.now) }
-    ensures result_in_bounds { at + result ≤ length line.now }
-{
-    let mut n: usize = 0;
-    while n < 32 {
-        if !is_name(line, at + n) {
-            return n;
-        }
-        n += 1;
-    }
-    n
+    left.iter().take(32).take_while(|b| name_byte(**b)).count()
 }

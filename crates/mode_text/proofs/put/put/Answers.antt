@@ -3,4 +3,4 @@ use Rattle.text.proofs.Stores.{had-room}
 use Rattle.mode_text.proofs.put.put.Goals as goal
 
 pub returns : goal.returns
-returns c = had-room c.requires c.plain_text-placed.ensures
+returns c = had-room c.requires c.plain_text.ensures

@@ -12,8 +12,8 @@ put_numbers-at-requires c =
 
 pub put-requires : goal.put-requires
 put-requires c =
-    omega (arith, clock-long c.args.khz, c.requires, c.put_numbers-at.ensures.place, ap length c.decimals-rest.ensures)
+    omega (arith, clock-long c.args.khz, c.requires, c.put_numbers-at.ensures.place, ap length c.decimals.ensures)
 
 pub returns : goal.returns
 returns c =
-    wrote_as (clock-stored c.args.khz) (then-text c.put_numbers-at.ensures (wrote_as c.decimals-rest.ensures c.put.ensures))
+    wrote_as (clock-stored c.args.khz) (then-text c.put_numbers-at.ensures (wrote_as c.decimals.ensures c.put.ensures))

@@ -6,4 +6,4 @@ use Rattle.mode_text.proofs.put.put_numbers.Goals as goal
 pub returns : goal.returns
 returns c =
     let numbers = c.args.numbers.now in
-    wrote_as (spaced-decimals numbers) (had-room (rw (spaced-decimals numbers) c.requires) c.spaced_numbers-placed.ensures)
+    wrote_as (spaced-decimals numbers) (had-room (rw (spaced-decimals numbers) c.requires) c.spaced_numbers.ensures)

@@ -1,46 +1,44 @@
 -- `modes::flags::other` meets its contract. Assumes nothing.
+use Prim.Native.Nat.{ℕ, ◌+◌}
+use mathlib.Core.List.{List}
+use mathlib.Core.Path.{subst, sym, ap, ◌∙◌}
 use mathlib.Core.Bool.{true, false}
-use mathlib.Core.List.{◌∷◌}
-use mathlib.Core.Path.{sym, ap, ◌∙◌}
-use native.Mathlib.Omega.{arith}
-use borrow.Author.Tests.{not-true, not-false}
+use mathlib.Core.List.{[], ◌∷◌}
+use Rattle.std.proofs.lemmas.Result.{err_from_is_err_and}
 use Rattle.modes.specs.Form.{letter}
-use Rattle.modes.specs.Scan.{at_end, axis_of, flagged, lit, parsed_of, read_other, sync}
-use Rattle.modes.proofs.StagesRead.{signed-end, signed-none, signed-plus, signed-minus, signed-bad}
+use Rattle.modes.specs.Scan.{Ok, Err, Passes, Stops, read_word, at_end, flagged, lit, pick, read_other, sync}
+use Rattle.modes.proofs.Steps.{may-end, may_more, end-there, end-not}
 use Rattle.modes.proofs.flags.other.Goals as goal
 
 pub returns-then-line-at : goal.returns-then-line-at
 unfolding read_other
-returns-then-line-at c =
-    let args = c.args in
-    c.said.ensures ∙ ap parsed_of (sym (signed-end args.line.now args.at args.mode (lit (letter (axis_of args.vertical) ∷ sync) (at_end (flagged (axis_of args.vertical) false args.mode))) (lit (letter (axis_of args.vertical) ∷ sync) (at_end (flagged (axis_of args.vertical) true args.mode))) c.if-line-at.true))
+returns-then-line-at c = sym (may-end c.args.line.now c.args.at c.args.mode (lit (0x20 ∷ []) (pick 0x2B 0x2D (lit (letter c.args.axis ∷ sync) (at_end (flagged c.args.axis false c.args.mode))) (lit (letter c.args.axis ∷ sync) (at_end (flagged c.args.axis true c.args.mode))))) c.if-line-at.true)
 
-pub returns-then-not-is_at : goal.returns-then-not-is_at
+pub returns-in_err-at : goal.returns-in_err-at
 unfolding read_other
-returns-then-not-is_at c =
-    let args = c.args in
-    c.bad.ensures ∙ ap parsed_of (sym (signed-none args.line.now args.at args.mode (lit (letter (axis_of args.vertical) ∷ sync) (at_end (flagged (axis_of args.vertical) false args.mode))) (lit (letter (axis_of args.vertical) ∷ sync) (at_end (flagged (axis_of args.vertical) true args.mode))) c.if-line-at.false (sym c.is_at.ensures.value ∙ not-true _ c.if-not-is_at.true-raw)))
+returns-in_err-at c =
+    let p = err_from_is_err_and c.from_residual.result c.from_residual.ensures.1 in
+    p.1 ∙ ap Err p.2 ∙ sym (may_more c.args.line.now c.args.at c.args.mode (lit (0x20 ∷ []) (pick 0x2B 0x2D (lit (letter c.args.axis ∷ sync) (at_end (flagged c.args.axis false c.args.mode))) (lit (letter c.args.axis ∷ sync) (at_end (flagged c.args.axis true c.args.mode))))) c.if-line-at.false ∙ c.in_err-at.ensures (λ u. (pick 0x2B 0x2D (lit (letter c.args.axis ∷ sync) (at_end (flagged c.args.axis false c.args.mode))) (lit (letter c.args.axis ∷ sync) (at_end (flagged c.args.axis true c.args.mode))))))
 
-pub last-requires : goal.last-requires
-last-requires c = omega (arith, c.is_at-2.ensures.at_in_bounds c.if-is_at.true)
-
-pub returns-then-is_at : goal.returns-then-is_at
+pub returns-in_err-minus : goal.returns-in_err-minus
 unfolding read_other
-returns-then-is_at c =
-    let args = c.args in
-    c.last.ensures ∙ ap parsed_of (sym (signed-plus args.line.now args.at args.mode (lit (letter (axis_of args.vertical) ∷ sync) (at_end (flagged (axis_of args.vertical) false args.mode))) (lit (letter (axis_of args.vertical) ∷ sync) (at_end (flagged (axis_of args.vertical) true args.mode))) c.if-line-at.false (sym c.is_at.ensures.value ∙ not-false _ c.if-not-is_at.false-raw) (sym c.is_at-2.ensures.value ∙ c.if-is_at.true)))
+returns-in_err-minus c =
+    let p = err_from_is_err_and c.from_residual-in_err-minus.result c.from_residual-in_err-minus.ensures.1 in
+    p.1 ∙ ap Err p.2 ∙ sym (may_more c.args.line.now c.args.at c.args.mode (lit (0x20 ∷ []) (pick 0x2B 0x2D (lit (letter c.args.axis ∷ sync) (at_end (flagged c.args.axis false c.args.mode))) (lit (letter c.args.axis ∷ sync) (at_end (flagged c.args.axis true c.args.mode))))) c.if-line-at.false ∙ c.in_ok-at.ensures.same (λ u. (pick 0x2B 0x2D (lit (letter c.args.axis ∷ sync) (at_end (flagged c.args.axis false c.args.mode))) (lit (letter c.args.axis ∷ sync) (at_end (flagged c.args.axis true c.args.mode))))) ∙ c.in_err-minus.ensures (λ minus. lit (letter c.args.axis ∷ sync) (at_end (flagged c.args.axis minus c.args.mode))))
 
-pub last-requires-then-is_at-2 : goal.last-requires-then-is_at-2
-last-requires-then-is_at-2 c = omega (arith, c.is_at-3.ensures.at_in_bounds c.if-is_at-2.true)
-
-pub returns-then-is_at-2 : goal.returns-then-is_at-2
+pub returns-in_err-at-2 : goal.returns-in_err-at-2
 unfolding read_other
-returns-then-is_at-2 c =
-    let args = c.args in
-    c.last-then-is_at-2.ensures ∙ ap parsed_of (sym (signed-minus args.line.now args.at args.mode (lit (letter (axis_of args.vertical) ∷ sync) (at_end (flagged (axis_of args.vertical) false args.mode))) (lit (letter (axis_of args.vertical) ∷ sync) (at_end (flagged (axis_of args.vertical) true args.mode))) c.if-line-at.false (sym c.is_at.ensures.value ∙ not-false _ c.if-not-is_at.false-raw) (sym c.is_at-3.ensures.value ∙ c.if-is_at-2.true)))
+returns-in_err-at-2 c =
+    let p = err_from_is_err_and c.from_residual-in_err-at-2.result c.from_residual-in_err-at-2.ensures.1 in
+    p.1 ∙ ap Err p.2 ∙ sym (may_more c.args.line.now c.args.at c.args.mode (lit (0x20 ∷ []) (pick 0x2B 0x2D (lit (letter c.args.axis ∷ sync) (at_end (flagged c.args.axis false c.args.mode))) (lit (letter c.args.axis ∷ sync) (at_end (flagged c.args.axis true c.args.mode))))) c.if-line-at.false ∙ c.in_ok-at.ensures.same (λ u. (pick 0x2B 0x2D (lit (letter c.args.axis ∷ sync) (at_end (flagged c.args.axis false c.args.mode))) (lit (letter c.args.axis ∷ sync) (at_end (flagged c.args.axis true c.args.mode))))) ∙ c.in_ok-minus.ensures.same (λ minus. lit (letter c.args.axis ∷ sync) (at_end (flagged c.args.axis minus c.args.mode))) ∙ subst (λ (w : List ℕ). Stops (read_word w) c.args.line.now (c.in_ok-at.at + 1) c.in_err-at-2.field-0.0) c.word-2.ensures c.in_err-at-2.ensures (λ u. at_end (flagged c.args.axis c.in_ok-minus.minus c.args.mode)))
+
+pub returns-then-at-line : goal.returns-then-at-line
+unfolding read_other
+returns-then-at-line c =
+    sym (may_more c.args.line.now c.args.at c.args.mode (lit (0x20 ∷ []) (pick 0x2B 0x2D (lit (letter c.args.axis ∷ sync) (at_end (flagged c.args.axis false c.args.mode))) (lit (letter c.args.axis ∷ sync) (at_end (flagged c.args.axis true c.args.mode))))) c.if-line-at.false ∙ c.in_ok-at.ensures.same (λ u. (pick 0x2B 0x2D (lit (letter c.args.axis ∷ sync) (at_end (flagged c.args.axis false c.args.mode))) (lit (letter c.args.axis ∷ sync) (at_end (flagged c.args.axis true c.args.mode))))) ∙ c.in_ok-minus.ensures.same (λ minus. lit (letter c.args.axis ∷ sync) (at_end (flagged c.args.axis minus c.args.mode))) ∙ (subst (λ (w : List ℕ). Passes (read_word w) c.args.line.now (c.in_ok-at.at + 1) tt c.in_ok-at-2.at) c.word-2.ensures c.in_ok-at-2.ensures).same (λ u. at_end (flagged c.args.axis c.in_ok-minus.minus c.args.mode)) ∙ end-not c.args.line.now _ (flagged c.args.axis c.in_ok-minus.minus c.args.mode) c.if-at-line.true)
 
 pub returns : goal.returns
 unfolding read_other
 returns c =
-    let args = c.args in
-    c.bad-2.ensures ∙ ap parsed_of (sym (signed-bad args.line.now args.at args.mode (lit (letter (axis_of args.vertical) ∷ sync) (at_end (flagged (axis_of args.vertical) false args.mode))) (lit (letter (axis_of args.vertical) ∷ sync) (at_end (flagged (axis_of args.vertical) true args.mode))) c.if-line-at.false (sym c.is_at.ensures.value ∙ not-false _ c.if-not-is_at.false-raw) (sym c.is_at-2.ensures.value ∙ c.if-is_at.false) (sym c.is_at-3.ensures.value ∙ c.if-is_at-2.false)))
+    ap Ok c.flagged.ensures
+    ∙ sym (may_more c.args.line.now c.args.at c.args.mode (lit (0x20 ∷ []) (pick 0x2B 0x2D (lit (letter c.args.axis ∷ sync) (at_end (flagged c.args.axis false c.args.mode))) (lit (letter c.args.axis ∷ sync) (at_end (flagged c.args.axis true c.args.mode))))) c.if-line-at.false ∙ c.in_ok-at.ensures.same (λ u. (pick 0x2B 0x2D (lit (letter c.args.axis ∷ sync) (at_end (flagged c.args.axis false c.args.mode))) (lit (letter c.args.axis ∷ sync) (at_end (flagged c.args.axis true c.args.mode))))) ∙ c.in_ok-minus.ensures.same (λ minus. lit (letter c.args.axis ∷ sync) (at_end (flagged c.args.axis minus c.args.mode))) ∙ (subst (λ (w : List ℕ). Passes (read_word w) c.args.line.now (c.in_ok-at.at + 1) tt c.in_ok-at-2.at) c.word-2.ensures c.in_ok-at-2.ensures).same (λ u. at_end (flagged c.args.axis c.in_ok-minus.minus c.args.mode)) ∙ end-there c.args.line.now _ (flagged c.args.axis c.in_ok-minus.minus c.args.mode) c.if-at-line.false)

@@ -1,42 +1,34 @@
-use mathlib.Core.Path.{refl, sym, ap, ◌∙◌}
-use native.Mathlib.Omega.{arith}
-use borrow.Author.Tests.{not-true, not-false}
-use Rattle.modes.specs.Scan.{parsed_of, unflagged}
+-- `modes::stages::numbered` meets its contract. Assumes nothing.
+use mathlib.Core.Path.{sym, ap, ◌∙◌}
+use mathlib.Core.Path.{refl}
+use Rattle.std.proofs.lemmas.Result.{err_from_is_err_and}
+use Rattle.modes.specs.Scan.{Err, unflagged}
 use Rattle.modes.proofs.StagesRead.{numbering, numbers-none, numbers-bad, numbers-next, numbers-done}
 use Rattle.modes.proofs.stages.numbered.Goals as goal
 
 pub loop-count-init : goal.loop-count-init
-loop-count-init c =
-    let args = c.args in
-    numbering args.line.now args.at args.name args.khz _ c.requires refl
+loop-count-init c = numbering c.args.line.now c.args.at c.args.name c.args.khz _ c.requires refl
 
-pub returns-then-not-is_at : goal.returns-then-not-is_at
-returns-then-not-is_at c =
+pub returns-in_err-digits : goal.returns-in_err-digits
+returns-in_err-digits c =
     let here = c.loop-count in
-    let args = c.args in
-    c.bad.ensures ∙ ap parsed_of (sym (numbers-none args.line.now args.at args.name args.khz here.numbers here.end here.count here.invariant c.loop-count-test.true (sym c.is_at.ensures.value ∙ not-true _ c.if-not-is_at.true-raw)))
+    let p = err_from_is_err_and c.from_residual.result c.from_residual.ensures.1 in
+    p.1 ∙ ap Err p.2 ∙ sym (numbers-none c.args.line.now c.args.at c.args.name c.args.khz here.numbers here.end here.count here.invariant _ c.loop-count-test.true c.in_err-digits.ensures)
 
-pub digits-number-requires : goal.digits-number-requires
-digits-number-requires c = record {
-  at_in_bounds = omega (arith, c.is_at.ensures.at_in_bounds (not-false _ c.if-not-is_at.false-raw));
-  most_bound = omega arith;
-}
-
-pub returns-then-number-ge5 : goal.returns-then-number-ge5
-returns-then-number-ge5 c =
+pub returns-in_err-read : goal.returns-in_err-read
+returns-in_err-read c =
     let here = c.loop-count in
-    let args = c.args in
-    c.bad-then-number-ge5.ensures ∙ ap parsed_of (sym (numbers-bad args.line.now args.at args.name args.khz here.numbers here.end here.count here.invariant c.loop-count-test.true (sym c.is_at.ensures.value ∙ not-false _ c.if-not-is_at.false-raw) c.digits-number.result c.digits-number.ensures.value c.if-number-ge5.true))
+    let p = err_from_is_err_and c.from_residual-in_err-read.result c.from_residual-in_err-read.ensures.1 in
+    p.1 ∙ ap Err p.2
+    ∙ sym (numbers-bad c.args.line.now c.args.at c.args.name c.args.khz here.numbers here.end here.count here.invariant c.loop-count-test.true _ c.in_ok-digits.ensures _ c.in_err-read.ensures.value)
 
 pub loop-count-preserved : goal.loop-count-preserved
 loop-count-preserved c =
     let here = c.loop-count in
-    let args = c.args in
-    numbers-next args.line.now args.at args.name args.khz here.numbers here.end here.count here.invariant c.loop-count-test.true (sym c.is_at.ensures.value ∙ not-false _ c.if-not-is_at.false-raw) c.digits-number.result c.digits-number.ensures.value c.if-number-ge5.false c.digits-number.ensures.end_in_bounds
+    numbers-next c.args.line.now c.args.at c.args.name c.args.khz here.numbers here.end here.count here.invariant c.loop-count-test.true _ c.in_ok-digits.ensures c.in_ok-read.read c.in_ok-read.ensures.value
 
 pub returns : goal.returns
 unfolding unflagged
 returns c =
     let here = c.loop-count in
-    let args = c.args in
-    c.flags.ensures ∙ ap parsed_of (sym (numbers-done args.line.now args.at args.name args.khz here.numbers here.end here.count here.invariant c.loop-count-test.false))
+    c.flags.ensures ∙ sym (numbers-done c.args.line.now c.args.at c.args.name c.args.khz here.numbers here.end here.count here.invariant c.loop-count-test.false)

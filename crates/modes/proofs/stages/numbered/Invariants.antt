@@ -1,10 +1,6 @@
 -- `modes::stages::numbered` meets its contract. Assumes nothing.
-use Prim.Native.Nat.{◌-◌}
 use Rattle.modes.proofs.StagesRead.{Numbering}
 use Rattle.modes.proofs.stages.numbered.Given as goal
 
 abbrev pub invariant-loop-count : goal.invariant-loop-count
 invariant-loop-count l = Numbering l.line l.at l.name l.khz l.numbers l.end l.count
-
-abbrev pub decreases-loop-count : goal.decreases-loop-count
-decreases-loop-count l = 8 - l.count
