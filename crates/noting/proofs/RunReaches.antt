@@ -27,7 +27,8 @@ use Rattle.trace.proofs.RunMore.{items_more}
 use Rattle.touched.specs.declared.set.Touched.{Touched}
 use Rattle.touched.specs.Noted.{noted, noted_all}
 use Rattle.touched.proofs.NotedNames.{all_more, nothing-noted}
-use Rattle.noting.specs.declared.kept.RunNoted.{RunNoted}
+use Rattle.noting.specs.declared.kept.Noted.{Noted}
+use Rattle.trace.specs.declared.running.Ran.{Ran}
 use Rattle.noting.specs.Noting.{item_reach, run_reaches, RunNotedKept}
 
 -- the reaches of one item more
@@ -89,7 +90,7 @@ module _ (s : Touched) (f : File) (trace : List ℕ) where
   unfolding run
   sound-left before t = rw (is_true (sound f) t) refl
 
-  pub sound-run : (before after : List ℕ) (count : ℕ) (r : RunNoted) (file : File) (set : Touched) → T (sound f) → count ≡ run_count trace before
+  pub sound-run : (before after : List ℕ) (count : ℕ) (r : Noted Ran) (file : File) (set : Touched) → T (sound f) → count ≡ run_count trace before
       → file ≡ file_after f (items count trace) → set ≡ Then count → after ≡ replies f (items count trace) ++ drop (8 * count) before
       → r ≡ record { done = record { answer = Done 0; file = file; count = count }; touched = set }
       → RunNotedKept s f trace before after r
@@ -100,15 +101,15 @@ module _ (s : Touched) (f : File) (trace : List ℕ) where
       record {
         done =
             record {
-              answered = ap (λ (x : RunNoted). x.done.answer) e ∙ sym (ap (λ (l : RunLeft). l.answer) left);
+              answered = ap (λ (x : Noted Ran). x.done.answer) e ∙ sym (ap (λ (l : RunLeft). l.answer) left);
               ended =
-                  ap (λ (x : RunNoted). x.done.file) e
+                  ap (λ (x : Noted Ran). x.done.file) e
                   ∙ ended ∙ ap (λ (k : ℕ). file_after f (items k trace)) same ∙ sym (ap (λ (l : RunLeft). l.file) left);
-              counted = ap (λ (x : RunNoted). x.done.count) e ∙ counted;
+              counted = ap (λ (x : Noted Ran). x.done.count) e ∙ counted;
               replied =
                   said ∙ ap (λ (k : ℕ). replies f (items k trace) ++ drop (8 * k) before) same ∙ sym (ap (λ (l : RunLeft). l.buffer) left);
             };
-        noted = ap (λ (x : RunNoted). x.touched) e ∙ noted-so ∙ ap Then counted;
+        noted = ap (λ (x : Noted Ran). x.touched) e ∙ noted-so ∙ ap Then counted;
       }
 
   -- an unsound file's run

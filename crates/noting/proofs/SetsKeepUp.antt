@@ -37,7 +37,7 @@ use Rattle.timing.specs.Timing.{timing_answer, written_file, write_timing}
 use Rattle.timing.proofs.Writer.{same-outside as outside-table}
 use Rattle.mode_file.specs.Promises.{SameOutsideMode}
 use Rattle.mode_file.specs.Said.{flag_reach}
-use Rattle.mode_file.specs.Verdicts.{number_of}
+use Rattle.mode_file.specs.Verdicts.{code_said}
 use Rattle.mode_file.proofs.Laws.{line-outside, line_refused}
 use Rattle.touched.specs.declared.set.Touched.{Touched}
 use Rattle.touched.specs.Noted.{reaches, noted, any_reaches, noted_all}
@@ -45,7 +45,8 @@ use Rattle.touched.specs.Outside.{agrees_outside}
 use Rattle.touched.specs.Things.{Thing, a_register, in_palette, in_bank, the_pointer, the_marks, the_toggle, there, names, IsSet}
 use Rattle.touched.proofs.Elsewhere.{agrees-elsewhere, elsewhere-agrees}
 use Rattle.touched.proofs.NotedNames.{noted-set, all_named}
-use Rattle.noting.specs.declared.kept.LineNoted.{LineNoted}
+use Rattle.noting.specs.declared.kept.Noted.{Noted}
+use Rattle.mode_file.specs.declared.into.ReadLine.{ReadLine}
 use Rattle.noting.specs.Noting.{access_noting, item_reach, run_reaches, store_reach, timing_reaches, timing_noting, line_reaches, LineNotedKept}
 
 -- what no reach of a list reaches is the same in two files
@@ -190,15 +191,15 @@ line-unreached f g same =
       toggle = λ e. ap (λ (q : State). q.toggle) same.state;
     }
 
-pub line-keeps-up : (s : Touched) (line : List ℕ) (f w : File) (r : LineNoted) → LineNotedKept s line f r → IsSet s → T (agrees_outside s f w)
+pub line-keeps-up : (s : Touched) (line : List ℕ) (f w : File) (r : Noted ReadLine) → LineNotedKept s line f r → IsSet s → T (agrees_outside s f w)
     → T (agrees_outside r.touched r.done.file w)
 line-keeps-up s line f w r kept is old =
-    by-test (eqb (number_of r.done.verdict) 0)
+    by-test (eqb (code_said r.done.said) 0)
     (λ e. subst (λ (x : Touched). T (agrees_outside x r.done.file w)) (sym (kept.noted ∙ set true e))
     (keeps-up (line_reaches (wide f)) s f r.done.file w is (line-unreached f r.done.file (line-outside line f r.done kept.read)) old))
     (λ e. subst₂ (λ (x : Touched) (g : File). T (agrees_outside x g w)) (sym (kept.noted ∙ set false e))
-    (sym (line_refused line f r.done kept.read (eqb-false (number_of r.done.verdict) 0 e)).0) old)
+    (sym (line_refused line f r.done kept.read (eqb-false (code_said r.done.said) 0 e)).0) old)
   where
-    set : (b : Bool) → eqb (number_of r.done.verdict) 0 ≡ b
-        → cond (eqb (number_of r.done.verdict) 0) (noted_all (line_reaches (wide f)) s) s ≡ cond b (noted_all (line_reaches (wide f)) s) s
+    set : (b : Bool) → eqb (code_said r.done.said) 0 ≡ b
+        → cond (eqb (code_said r.done.said) 0) (noted_all (line_reaches (wide f)) s) s ≡ cond b (noted_all (line_reaches (wide f)) s) s
     set b e = ap (λ (x : Bool). cond x (noted_all (line_reaches (wide f)) s) s) e

@@ -20,18 +20,19 @@ use Rattle.timing.specs.Table.{table, wide}
 use Rattle.timing.specs.Timing.{timing_answer, write_timing}
 use Rattle.mode_file.specs.Into.{ReadInto}
 use Rattle.mode_file.specs.Said.{flag_reach}
-use Rattle.mode_file.specs.Verdicts.{number_of}
+use Rattle.mode_file.specs.Verdicts.{code_said}
 use Rattle.touched.specs.declared.set.Touched.{Touched}
+use Rattle.noting.specs.declared.kept.Noted.{Noted}
+use Rattle.access.specs.declared.access.Accessed.{Accessed}
+use Rattle.trace.specs.declared.running.Ran.{Ran}
+use Rattle.timing.specs.declared.Written.{Written}
+use Rattle.mode_file.specs.declared.into.ReadLine.{ReadLine}
 use Rattle.touched.specs.Noted.{noted, noted_all}
-use Rattle.noting.specs.declared.kept.AccessNoted.{AccessNoted}
-use Rattle.noting.specs.declared.kept.LineNoted.{LineNoted}
-use Rattle.noting.specs.declared.kept.RunNoted.{RunNoted}
-use Rattle.noting.specs.declared.kept.TimingNoted.{TimingNoted}
 
 -- ---- accesses
 
 -- an access: what it does without the set, and the set with what it reached. A refusal's effect is nothing, so it reaches nothing
-unfoldable pub access_noting : Touched → File → Record → AccessNoted
+unfoldable pub access_noting : Touched → File → Record → Noted Accessed
 access_noting s f r = record { done = access f r; touched = noted (reach f r) s }
 
 -- a fragment is refused
@@ -45,7 +46,7 @@ run_reaches f [] = []
 run_reaches f (i ∷ is) = item_reach f i ∷ run_reaches (access_item f i).file is
 
 -- a run: what it does without the set, and the set with what the items reached that it counts; of an unsound file it counts none
-pub record RunNotedKept (s : Touched) (f : File) (trace before after : List ℕ) (r : RunNoted) : Type 0 where
+pub record RunNotedKept (s : Touched) (f : File) (trace before after : List ℕ) (r : Noted Ran) : Type 0 where
   pub done : RunKept f trace before after r.done
   pub noted : r.touched ≡ noted_all (run_reaches f (items (run f trace before).count trace)) s
 
@@ -60,7 +61,7 @@ unfoldable pub timing_reaches : Bool → List Reach
 timing_reaches is_wide = map (λ (p : Piece). store_reach p.register (piece_reach p)) (pieces_of (table is_wide))
 
 -- a timing write that is refused stores nothing
-unfoldable pub timing_noting : Touched → File → Timing → TimingNoted
+unfoldable pub timing_noting : Touched → File → Timing → Noted Written
 timing_noting s f t =
     record { done = write_timing f t; touched = cond (refused (timing_answer f t)) s (noted_all (timing_reaches (wide f)) s) }
 
@@ -68,6 +69,6 @@ timing_noting s f t =
 unfoldable pub line_reaches : Bool → List Reach
 line_reaches is_wide = store_reach MISC flag_reach ∷ timing_reaches is_wide
 
-pub record LineNotedKept (s : Touched) (line : List ℕ) (f : File) (r : LineNoted) : Type 0 where
+pub record LineNotedKept (s : Touched) (line : List ℕ) (f : File) (r : Noted ReadLine) : Type 0 where
   pub read : ReadInto line f r.done
-  pub noted : r.touched ≡ cond (eqb (number_of r.done.verdict) 0) (noted_all (line_reaches (wide f)) s) s
+  pub noted : r.touched ≡ cond (eqb (code_said r.done.said) 0) (noted_all (line_reaches (wide f)) s) s

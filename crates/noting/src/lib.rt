@@ -5,6 +5,6 @@ mod kept;
 mod running;
 mod writing;
 
-pub use kept::{AccessNoted, LineNoted, RunNoted, TimingNoted};
+pub use kept::Noted;
 pub use running::run_noting;
 pub use writing::{access_noting, line_noting, timing_noting};

@@ -12,7 +12,7 @@ ghost use Rattle.trace.specs.Run.{file_after, replies as repliesOf, run_count};
 ghost use Rattle.touched.specs.Noted.{noted_all};
 ghost use Rattle.noting.specs.Noting.{run_reaches, RunNotedKept};
 
-use crate::kept::RunNoted;
+use crate::kept::Noted;
 use access::{Record, decide, is_in_bank};
 use file::{Answer, File, REGISTERS, Reach, State, is_sound};
 use places::CELLS;
@@ -27,13 +27,6 @@ use trace::{
 pub struct ServedNoting {
     pub served: Served,
     pub reach: Reach,
-}
-
-// The file and the set behind some records.
-#[derive(Clone, Copy)]
-pub struct Behind {
-    pub file: File,
-    pub touched: Touched,
 }
 
 // The record of a place where 8 bytes stand.
@@ -72,9 +65,9 @@ fn run_whole_noting(
     trace: &[u8],
     replies: &mut [u8],
     count: usize,
-) -> Behind
+) -> Noted<File>
     requires { T (sound whole) × (8 * count ≤ length trace.now) × (8 * count ≤ length replies.old) }
-    ensures file_value { (result.file ≡ file_after whole (items count trace.now)) × (result.touched ≡ noted_all (run_reaches whole (items count trace.now)) touched) }
+    ensures file_value { (result.done ≡ file_after whole (items count trace.now)) × (result.touched ≡ noted_all (run_reaches whole (items count trace.now)) touched) }
     ensures replies_after { replies.new ≡ repliesOf whole (items count trace.now) ++ drop (8 * count) replies.old }
 {
     let mut registers = whole.registers;
@@ -85,6 +78,7 @@ fn run_whole_noting(
     let chip = state.chip;
     let cells = places::cells(chip);
     let stored = File::stored(chip);
+    // By number: it says where the record stands and where its reply goes.
     for n in 0..count {
         let asked = record_at(trace, 8 * n);
         let done = serve_noting(&cells, &stored, &mut registers, state, asked);
@@ -109,17 +103,17 @@ fn run_whole_noting(
         }
         state = served.state;
     }
-    let file = File {
+    let done = File {
         registers,
         palette,
         bank,
         state,
     };
-    Behind { file, touched: set }
+    Noted { done, touched: set }
 }
 
 // A run from a sound file.
-fn run_sound_noting(whole: File, touched: Touched, trace: &[u8], replies: &mut [u8]) -> RunNoted
+fn run_sound_noting(whole: File, touched: Touched, trace: &[u8], replies: &mut [u8]) -> Noted<Ran>
     requires { T (sound whole) }
     ensures { RunNotedKept touched whole trace.now replies.old replies.new result }
 {
@@ -140,21 +134,21 @@ fn run_sound_noting(whole: File, touched: Touched, trace: &[u8], replies: &mut [
 }
 
 // A run that is done, by what stands behind its records and how many they are.
-fn ran(behind: Behind, count: usize) -> RunNoted
-    ensures { result ≡ record { done = record { answer = DoneAnswer 0; file = behind.file; count = count }; touched = behind.touched } }
+fn ran(behind: Noted<File>, count: usize) -> Noted<Ran>
+    ensures { result ≡ record { done = record { answer = DoneAnswer 0; file = behind.done; count = count }; touched = behind.touched } }
 {
-    let file = behind.file;
-    let touched = behind.touched;
-    let done = Ran {
-        answer: Answer::Done(0),
-        file,
-        count,
-    };
-    RunNoted { done, touched }
+    Noted {
+        done: Ran {
+            answer: Answer::Done(0),
+            file: behind.done,
+            count,
+        },
+        touched: behind.touched,
+    }
 }
 
 // A run over a trace as without the set: replies into whole 8-byte places of a buffer until records or places end.
-pub fn run_noting(whole: File, touched: Touched, trace: &[u8], replies: &mut [u8]) -> RunNoted
+pub fn run_noting(whole: File, touched: Touched, trace: &[u8], replies: &mut [u8]) -> Noted<Ran>
     ensures { RunNotedKept touched whole trace.now replies.old replies.new result }
 {
     if is_sound(whole) {
@@ -165,5 +159,5 @@ pub fn run_noting(whole: File, touched: Touched, trace: &[u8], replies: &mut [u8
         file: whole,
         count: 0,
     };
-    RunNoted { done, touched }
+    Noted { done, touched }
 }

@@ -1,11 +1,11 @@
 -- `line_noting` meets its contract: a line that is read marks MISC and the table's registers. Assumes nothing.
 use mathlib.Core.Path.{◌≡◌, sym, ap, ◌∙◌}
-use mathlib.Core.Bool.{Bool, true, false, cond}
-use borrow.Author.Tests.{eq-eqb, ne_eqb}
+use mathlib.Core.Bool.{Bool, true, false, cond, not}
 use lib.Dec.{eqb}
 use Rattle.file.specs.File.{register}
 use Rattle.timing.specs.Table.{wide}
-use Rattle.mode_file.specs.Verdicts.{number_of}
+use Rattle.mode_file.specs.Verdicts.{code_said}
+use Rattle.mode_file.proofs.Codes.{code-ok}
 use Rattle.touched.specs.Noted.{noted_all}
 use Rattle.touched.proofs.MarkedRegisters.{set_all, marked}
 use Rattle.touched.proofs.SetIsSet.{is-set}
@@ -13,11 +13,11 @@ use Rattle.noting.specs.Noting.{timing_reaches, line_reaches}
 use Rattle.noting.proofs.TimingMarked.{flags-marked}
 use Rattle.noting.proofs.writing.line_noting.Goals as goal
 
-pub returns-then-code-ne0 : goal.returns-then-code-ne0
-returns-then-code-ne0 c =
+pub returns-then-is_err : goal.returns-then-is_err
+returns-then-is_err c =
     let args = c.args in
     let read = c.read_into-done in
-    let other : eqb (number_of read.result.verdict) 0 ≡ false = ne_eqb _ 0 (λ e. c.if-code-ne0.true (c.code.ensures ∙ e)) in
+    let other : eqb (code_said read.result.said) 0 ≡ false = code-ok read.result.said ∙ ap not (sym c.is_err.ensures.value ∙ c.if-is_err.true) in
     record {
       read = read.ensures;
       noted = sym (ap (λ (b : Bool). cond b (noted_all (line_reaches (wide args.whole)) args.touched) args.touched) other);
@@ -28,7 +28,7 @@ unfolding line_reaches noted_all wide register marked set_all
 returns c =
     let args = c.args in
     let read = c.read_into-done in
-    let done : eqb (number_of read.result.verdict) 0 ≡ true = eq-eqb _ 0 (sym c.code.ensures ∙ c.if-code-ne0.false) in
+    let done : eqb (code_said read.result.said) 0 ≡ true = code-ok read.result.said ∙ ap not (sym c.is_err.ensures.value ∙ c.if-is_err.false) in
     let flagged = flags-marked args.touched (is-set args.touched _ c.well_formed.1.1.0) in
     record {
       read = read.ensures;
