@@ -13,9 +13,11 @@ use Rattle.mode_lines.specs.Inputs.InParts.{more, nothing}
 use Rattle.mode_lines.specs.Lines.{has_newline, up_to}
 use Rattle.mode_lines.specs.Parts.{Held, Reports, behind, last_number, take_lines, taken, with_line}
 use Rattle.mode_lines.proofs.InputLines.{all-reported}
-use Rattle.job_modeline.specs.declared.lines.LinesFed.{LinesFed}
-use Rattle.job_modeline.specs.declared.lines.LinesJob.{LinesJob}
-use Rattle.job_modeline.specs.Job.{InSteps, LinesStep, all_lines, closing_part, last_line, start_file, started}
+use Rattle.mode_lines.specs.declared.job.LinesFed.{LinesFed}
+use Rattle.mode_lines.specs.declared.job.LinesJob.{LinesJob}
+use Rattle.mode_lines.specs.Start.{start_file}
+use Rattle.mode_lines.specs.Job.{LinesStep, started}
+use Rattle.job_modeline.specs.Job.{InSteps, all_lines, closing_part, last_line}
 use Rattle.job_modeline.specs.Job.InSteps.{none, then}
 
 -- the steps of a job are the parts of an input, read into the file that it was started with

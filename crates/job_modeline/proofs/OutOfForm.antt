@@ -1,7 +1,7 @@
 -- A name that is empty or has more than 32 bytes has no line, nor has a clock that is empty or has more than 53 bytes: no word has to be cut before it is
 -- asked for. Assumes nothing.
 use Prim.Native.Nat.{ℕ, ◌≤◌}
-use mathlib.Core.Bool.{Bool, true, false, not, ◌&&◌, ◌||◌}
+use mathlib.Core.Bool.{not, ◌&&◌, ◌||◌}
 use mathlib.Core.List.{List, [], ◌∷◌, ◌++◌, append_assoc}
 use mathlib.Core.Path.{◌≡◌, refl, sym, ap, ◌∙◌, subst}
 use native.Mathlib.Omega.{arith}
@@ -11,15 +11,15 @@ use Rattle.bits.proofs.Test.{left, passes, right}
 use Rattle.file.specs.declared.registers.File.{File}
 use Rattle.file.specs.Readers.{ascii}
 use Rattle.modes.specs.declared.mode.Mode.{Mode}
-use Rattle.modes.specs.declared.mode.Parsed.{Parsed}
+use Rattle.std.specs.Prelude.{Result, Ok, Err}
+use Rattle.mode_file.specs.Verdicts.{code_said}
 use Rattle.modes.specs.Form.{Formed, Good, Parts, clock_text, digit, every, flags_text, header, mode_of, name_byte, numbers_text, numeral, spelled}
-use Rattle.modes.specs.Promises.{told_by}
-use Rattle.mode_text.specs.Out.{clock_fits, name_fits}
-use Rattle.mode_lines.specs.ClockLine.{ClockSaid, clock_line}
+use Rattle.modes.specs.Promises.{Told}
+use Rattle.mode_text.specs.Out.{clock_fits, name_fits, write_verdict}
+use Rattle.mode_lines.specs.ClockLine.{ClockSaid, clock_line, khz_said}
 use Rattle.mode_lines.proofs.FirstBytes.{good-short}
-use Rattle.job_modeline.specs.declared.line.LineEnded.{LineEnded}
-use Rattle.job_modeline.specs.OneLine.{LinePut}
-use Rattle.job_modeline.proofs.LinesPut.{Asked, in-form}
+use Rattle.job_modeline.specs.OneLine.{LinePut, line_with}
+use Rattle.job_modeline.proofs.LinesPut.{Asked, end-code, in-form}
 
 -- no name has a quote
 no-quote : (byte : ℕ) → 0x22 ≡ byte → T (name_byte byte) → ⊥
@@ -73,11 +73,12 @@ first-digit (b ∷ w) (d ∷ ds) rest t e =
 
 -- a clock that says some kHz stands in a good line
 said-good : (name mhz : List ℕ) (khz : ℕ) → ClockSaid name mhz khz → 1 ≤ khz → (mode : Mode) × Good (clock_line name mhz) mode
-said-good name mhz khz said some = by said.parsed said.parsed.good said.told said.says
+unfolding khz_said
+said-good name mhz khz said some = by said.parsed said.told said.says
   where
-    by : (p : Parsed) (good : Bool) → told_by good (clock_line name mhz) p → khz ≡ p.mode.khz → (mode : Mode) × Good (clock_line name mhz) mode
-    by p true t e = (p.mode, t.1.good)
-    by p false t e = absurd (omega (arith, some, e ∙ ap (λ (m : Mode). m.khz) t.0))
+    by : (p : Result Mode ℕ) → Told (clock_line name mhz) p → khz ≡ khz_said p → (mode : Mode) × Good (clock_line name mhz) mode
+    by (Ok mode) t e = (mode, t.good)
+    by (Err place) t e = absurd (omega (arith, some, e))
 
 -- so its words are a clock's
 rest-said : (name mhz : List ℕ) (mode : Mode) → T (every name_byte name) → (g : Good (clock_line name mhz) mode)
@@ -93,11 +94,14 @@ rest-said name mhz mode t g =
     ap (drop 1) (sym (after-quote name p.name (0x20 ∷ words) (0x20 ∷ Rest p) t g.formed.named same))
 
 -- the name and the clock that a line was put with
-module _ {f : File} {name mhz out₀ out : List ℕ} {r : LineEnded} (put : LinePut f name mhz out₀ out r) (done : r.code ≡ 0) where
+module _ {f : File} {name mhz out₀ out : List ℕ} {end : ℕ} (put : LinePut f name mhz out₀ out (Ok end)) where
   asked : T (name_fits name && clock_fits put.khz)
+  unfolding code_said
   asked =
       left (name_fits name && clock_fits put.khz) (leb 256 (length out₀))
-      (passes (Asked f name put.khz (length out₀)) (in-form f name put.khz (length out₀) (sym put.code ∙ done)))
+      (passes (Asked f name put.khz (length out₀))
+      (in-form f name put.khz (length out₀)
+      (sym (end-code (line_with f name put.khz) (write_verdict f name put.khz (length out₀))) ∙ sym (ap code_said put.answered))))
 
   named : T (leb 1 (length name) && leb (length name) 32 && every name_byte name)
   unfolding name_fits

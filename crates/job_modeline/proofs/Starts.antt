@@ -5,7 +5,8 @@ use Rattle.bits.specs.Store.{bit, store}
 use Rattle.file.specs.Effects.{apply}
 use Rattle.file.specs.File.{power_on, register}
 use Rattle.file.specs.Names.{CR1B}
-use Rattle.job_modeline.specs.Job.{start_file, started}
+use Rattle.mode_lines.specs.Start.{start_file}
+use Rattle.mode_lines.specs.Job.{started}
 
 pub starts-wide : (wide : Bool) → bit 5 (register (started wide).file CR1B) ≡ cond wide 1 0
 unfolding started start_file apply power_on register store bit

@@ -4,5 +4,6 @@
 mod line;
 mod lines;
 
-pub use line::{LineEnded, line_end, no_line_line};
-pub use lines::{LinesFed, LinesJob, close, feed, start};
+pub use line::{line_end, no_line_line};
+pub use lines::close;
+pub use mode_lines::{LinesFed, LinesJob, feed, start};

@@ -1,6 +1,6 @@
 -- A good line has at most 113 bytes; so a line that has more than 256 is judged by its first 256. Assumes nothing.
 use Prim.Native.Nat.{ℕ, suc, ◌-◌, ◌*◌, ◌^◌, ◌≤◌, ◌<◌}
-use mathlib.Core.Bool.{Bool, true, false, ◌&&◌}
+use mathlib.Core.Bool.{◌&&◌}
 use mathlib.Core.List.{List, [], ◌∷◌, ◌++◌}
 use mathlib.Core.Path.{◌≡◌, sym, ap, subst}
 use native.Mathlib.Omega.{arith}
@@ -12,10 +12,10 @@ use Rattle.bits.proofs.Test.{by-test, left, right}
 use Rattle.file.specs.Readers.{ascii}
 use Rattle.modes.proofs.Tokens.{value-append, value-large}
 use Rattle.modes.specs.declared.mode.Mode.{Mode}
-use Rattle.modes.specs.declared.mode.Parsed.{Parsed}
+use Rattle.std.specs.Prelude.{Result, Ok, Err}
 use Rattle.modes.specs.Form.{Flag, Parts, Formed, Good, every, numeral, value_from, value_of, kilohertz, clock_text, numbers_text, flag_text, flags_text, each_once, header, spelled}
 use Rattle.modes.specs.Place.{Begins, BadAt}
-use Rattle.modes.specs.Promises.{Told, told_by}
+use Rattle.modes.specs.Promises.{Told}
 
 -- each MHz is 1000 kHz
 thousands : (w : ℕ) (ds : List ℕ) → length ds ≤ 3 → 1000 * w ≤ value_from w ds * 10 ^ (3 - length ds)
@@ -108,12 +108,12 @@ module _ (line : List ℕ) (place : ℕ) (h : 256 < length line) (b : BadAt Good
       }
 
 -- so what is told of its first 256 bytes is told of a line, however long it is
-pub told-by-first : (line : List ℕ) (r : Parsed) → Told (take 256 line) r → Told line r
+pub told-by-first : (line : List ℕ) (r : Result Mode ℕ) → Told (take 256 line) r → Told line r
 told-by-first line r t =
     by-test (leb (length line) 256)
     (λ e. subst (λ (s : List ℕ). Told s r) (take_all 256 line (leb-true (length line) 256 e)) t)
-    (λ e. long r.good (leb-false (length line) 256 e) t)
+    (λ e. long r (leb-false (length line) 256 e) t)
   where
-    long : (good : Bool) → 256 < length line → told_by good (take 256 line) r → told_by good line r
-    long true h s = absurd (long-not-good (take 256 line) (omega (arith, length-take-le 256 line (omega (arith, h)))) r.mode s.1.good)
-    long false h s = (s.0, bad-by-first line r.position h s.1)
+    long : (r : Result Mode ℕ) → 256 < length line → Told (take 256 line) r → Told line r
+    long (Ok mode) h s = absurd (long-not-good (take 256 line) (omega (arith, length-take-le 256 line (omega (arith, h)))) mode s.good)
+    long (Err place) h s = bad-by-first line place h s

@@ -1,11 +1,11 @@
 -- A report: from what it is put together, and that it is short. Assumes nothing.
 use Prim.Native.Nat.{ℕ, ◌+◌, ◌^◌, ◌≤◌, ◌<◌}
 use mathlib.Core.Bool.{true, false}
-use mathlib.Core.List.{List, [], ◌∷◌, ◌++◌, append-nil}
-use mathlib.Core.Path.{◌≡◌, refl, sym, ap, subst}
+use mathlib.Core.List.{List, []}
+use mathlib.Core.Path.{◌≡◌, refl, sym, subst}
 use native.Mathlib.Numerals.{add-one}
 use native.Mathlib.Omega.{arith}
-use borrow.Author.Tests.{leb-true, le-leb, eq-eqb, ne_eqb}
+use borrow.Author.Tests.{leb-true, le-leb}
 use lib.Dec.{leb, lit<}
 use lib.ListN.{length, length-append}
 use Rattle.bits.proofs.Test.{by-test}
@@ -24,13 +24,13 @@ use Rattle.text.proofs.Spaced.{numbers-length}
 use Rattle.text.proofs.Spelled.{digits-length}
 use Rattle.text.proofs.Stores.{unplaced, whole}
 use Rattle.timing.specs.Timing.{numbers_of, read_timing, timing_in, timing_of}
-use Rattle.mode_file.specs.declared.into.ReadLine.{ReadLine}
 use Rattle.mode_file.specs.declared.verdict.Verdict.{Verdict}
-use Rattle.mode_file.specs.declared.verdict.Verdict.TheVariants.{Done, Locked, OutOfRange, NotSound, BadText, NotMultiple, OtherTiming, OutOfForm}
-use Rattle.mode_file.specs.Verdicts.{number_of}
-use Rattle.mode_text.specs.Out.{done}
+use Rattle.mode_file.specs.declared.verdict.Verdict.TheVariants.{Locked, OutOfRange, NotSound, BadText, NotMultiple, OtherTiming, OutOfForm}
+use Rattle.mode_file.specs.Verdicts.{number_of, position_of, code_said, position_said}
+use Rattle.mode_file.specs.declared.into.LineSaid.{LineSaid}
+use Rattle.std.specs.Prelude.{Result, Ok, Err, MatchResult}
 use Rattle.mode_lines.specs.Kept.{Kept}
-use Rattle.mode_lines.specs.Report.{Reported, hex_two, mode_text, report_answer, report_line, report_most}
+use Rattle.mode_lines.specs.Report.{Reported, front, hex_two, left_text, mode_text, report_answer, report_line, report_most}
 use Rattle.mode_lines.proofs.Laying.{kept_whole}
 
 -- at most so many digits
@@ -40,11 +40,10 @@ decimal-most j n h = omega (arith, digits-length (decimal_places n n) n, most-pl
 
 code-small : (v : Verdict) → number_of v < 100
 unfolding number_of
-code-small Done = omega arith
 code-small Locked = omega arith
 code-small OutOfRange = omega arith
 code-small NotSound = omega arith
-code-small BadText = omega arith
+code-small (BadText place) = omega arith
 code-small NotMultiple = omega arith
 code-small OtherTiming = omega arith
 code-small OutOfForm = omega arith
@@ -62,30 +61,37 @@ timing-short : (f : File) → length (spaced [] (numbers_of (read_timing f).timi
 unfolding read_timing
 timing-short f = by-test (sound f) (λ e. rw e (sound-short f)) (λ e. rw e none-short)
 
--- a number, a code, a position and a clock of the code's types
-pub report-short : (number : ℕ) (r : ReadLine) → number < 2 ^ 64 → r.position < 2 ^ 64 → r.khz < 2 ^ 32 → length (report_line number r) ≤ report_most
-unfolding report_line report_most mode_text hex_two space newline
-report-short number r hn hp hk =
-    let code = decimal-most 1 (number_of r.verdict) (code-small r.verdict) in
-    let number-most = decimal-most 19 number (omega (arith, hn, lit< {m = 18446744073709551615} {n = 10 ^ 20} tt)) in
-    let position-most = decimal-most 19 r.position (omega (arith, hp, lit< {m = 18446744073709551615} {n = 10 ^ 20} tt)) in
-    let clock-most = decimal-most 9 r.khz (omega (arith, hk)) in
-    by-test (done r.verdict)
-    (λ e. rw e (simp length-append (omega (arith, code, number-most, position-most, clock-most, timing-short r.file))))
-    (λ e. rw e (simp length-append (omega (arith, code, number-most, position-most))))
+-- a number, a code and a position of the code's types
+front-short : (number code position : ℕ) → number < 2 ^ 64 → code < 100 → position < 2 ^ 64 → length (front number code position) ≤ 44
+unfolding front space
+front-short number code position hn hc hp =
+    simp length-append
+    (omega (
+      arith,
+      decimal-most 1 code hc,
+      decimal-most 19 number (omega (arith, hn, lit< {m = 18446744073709551615} {n = 10 ^ 20} tt)),
+      decimal-most 19 position (omega (arith, hp, lit< {m = 18446744073709551615} {n = 10 ^ 20} tt)),
+    ))
 
-module _ (number : ℕ) (r : ReadLine) (code : ℕ) (coded : code ≡ number_of r.verdict) where
-  abbrev Front : List ℕ
-  Front = decimal number ++ (space ++ decimal code) ++ (space ++ decimal r.position)
+-- and a clock
+left-short : (khz : ℕ) (f : File) → khz < 2 ^ 32 → length (mode_text khz f) ≤ 180
+unfolding mode_text hex_two space
+left-short khz f hk = simp length-append (omega (arith, decimal-most 9 khz (omega (arith, hk)), timing-short f))
 
-  -- with a refusal nothing more is said
-  pub refused-report : (code ≡ 0 → ⊥) → Front ++ 0x0A ∷ [] ≡ report_line number r
-  unfolding report_line newline done
-  refused-report n = rw (← coded, ne_eqb code 0 n) (ap (λ (l : List ℕ). l ++ 0x0A ∷ []) (sym (append-nil Front)))
+-- what a refusal and a line that was read have
+abbrev pub Typed : Result LineSaid Verdict → Type 0
+Typed (Ok said) = said.khz < 2 ^ 32
+Typed (Err v) = position_of v < 2 ^ 64
 
-  pub done-report : code ≡ 0 → Front ++ mode_text r.khz r.file ++ 0x0A ∷ [] ≡ report_line number r
-  unfolding report_line newline done
-  done-report e = rw (← coded, eq-eqb code 0 e)
+pub typed : (length-of : ℕ) (r : Result LineSaid Verdict) → length-of < 2 ^ 64 → MatchResult r (λ said. said.khz ≤ 999999) (λ v. position_of v ≤ length-of) → Typed r
+typed n (Ok said) h m = omega (arith, m)
+typed n (Err v) h m = omega (arith, h, m)
+
+pub report-short : (number : ℕ) (said : Result LineSaid Verdict) (f : File) → number < 2 ^ 64 → Typed said
+    → length (report_line number (record { said = said; file = f })) ≤ report_most
+unfolding report_line report_most newline code_said position_said left_text
+report-short number (Ok said) f hn hk = simp length-append (omega (arith, front-short number 0 0 hn (omega arith) (omega arith), left-short said.khz f hk))
+report-short number (Err v) f hn hp = simp length-append (omega (arith, front-short number (number_of v) (position_of v) hn (code-small v) hp))
 
 module _ (before : List ℕ) (at : ℕ) (text : List ℕ) where
   -- no room: nothing is laid

@@ -4,3 +4,5 @@ pub mod Report
 pub mod ClockLine
 pub mod Parts
 pub mod Inputs
+pub mod Start
+pub mod Job

@@ -2,13 +2,17 @@
 #![tactic(auto)]
 
 mod composed;
+mod job;
 mod kept;
 mod parts;
 mod reporting;
 mod split;
+mod starting;
 
 pub use composed::line_of;
+pub use job::{LinesFed, LinesJob, feed, start};
 pub use kept::keep;
 pub use parts::{Progress, report_part};
 pub use reporting::report;
 pub use split::{Taken, take_line};
+pub use starting::start_file;

@@ -17,15 +17,11 @@ pub struct Progress {
 }
 
 // The number behind the lines that have numbers and room for their reports.
+#[tactic(auto, unfolding(crate::specs::Parts::last_number))]
 fn last_number(number: u64, room: usize) -> u64
     ensures { result ≡ last_number number room }
 {
-    let most = (room / 256) as u64;
-    if most < u64::MAX - number {
-        number + most
-    } else {
-        u64::MAX
-    }
+    number.saturating_add((room / 256) as u64)
 }
 
 // What is left of a part: its first line, reported if it is whole.
@@ -63,6 +59,7 @@ fn report_next(
 
 // The lines that end in a part, from a number on, each read into a file and reported, from the start of a buffer on; behind so many bytes that are kept
 // of the first. A buffer has room for a report for each 256 bytes: where there is no more room, or there are no more numbers, the rest of the part is left.
+// What is kept is lent beside its count, since the room may have any size; `LinesJob` has both, with room for 256 bytes.
 pub fn report_part(
     number: u64,
     count: usize,

@@ -1,8 +1,8 @@
 // What is reported of a line.
-ghost use Rattle.std.specs.Prelude.{[], ◌∷◌, ◌++◌, ◌≡◌, ◌+◌, ◌%◌, ◌≤◌, leb};
+ghost use Rattle.std.specs.Prelude.{[], ◌∷◌, ◌++◌, ◌≡◌, ◌+◌, ◌%◌, ◌≤◌};
 ghost use Rattle.text.specs.Text.{capital as capitalOf, decimal, space, spaced};
 ghost use Rattle.mode_lines.specs.Kept.{Kept};
-ghost use Rattle.mode_lines.specs.Report.{Reported, hex_two, mode_text, report_line};
+ghost use Rattle.mode_lines.specs.Report.{Reported, front, hex_two, mode_text, report_line};
 
 use crate::kept::keep;
 use file::{Answer, File, MISC};
@@ -46,21 +46,13 @@ fn put_hex(buffer: &mut [u8], at: usize, n: u16) -> usize
     keep(buffer, at, &text)
 }
 
-fn to_u64(n: u32) -> u64
-    ensures { result ≡ n }
-{
-    n as u64
-}
-
 // Numbers, each behind a space.
 fn put_each(buffer: &mut [u8], at: usize, numbers: &[u32]) -> usize
     ensures { Kept buffer.old at (spaced [] numbers.now) buffer.new result }
 {
     let mut at = keep(buffer, at, b"");
-    let mut i: usize = 0;
-    while i < numbers.len() {
-        at = put_behind(buffer, at, to_u64(numbers[i]));
-        i += 1;
+    for n in numbers {
+        at = put_behind(buffer, at, u64::from(*n));
     }
     at
 }
@@ -71,35 +63,35 @@ fn put_mode(buffer: &mut [u8], at: usize, khz: u32, file: File) -> usize
 {
     let misc = file.registers[MISC];
     let numbers = read_timing(file).timing.numbers();
-    let at = put_behind(buffer, at, to_u64(khz));
+    let at = put_behind(buffer, at, u64::from(khz));
     let at = put_hex(buffer, at, misc);
     put_each(buffer, at, &numbers)
 }
 
-// The line's number, the code, the position, and with code 0 what it left.
+// The line's number, the code and the position.
+fn put_front(buffer: &mut [u8], at: usize, number: u64, code: u8, position: usize) -> usize
+    ensures { Kept buffer.old at (front number code position) buffer.new result }
+{
+    let at = put_number(buffer, at, number);
+    let at = put_behind(buffer, at, u64::from(code));
+    put_behind(buffer, at, position as u64)
+}
+
+// These, and of a line that was read what it left.
 fn put_report(buffer: &mut [u8], at: usize, number: u64, read: ReadLine) -> usize
     ensures { Kept buffer.old at (report_line number read) buffer.new result }
 {
-    let verdict = read.verdict;
-    let code = verdict.code();
-    let at = put_number(buffer, at, number);
-    let at = put_behind(buffer, at, code as u64);
-    let at = put_behind(buffer, at, read.position as u64);
-    if code != 0 {
-        return keep(buffer, at, b"\n");
+    match read.said {
+        Ok(said) => {
+            let at = put_front(buffer, at, number, 0, 0);
+            let at = put_mode(buffer, at, said.khz, read.file);
+            keep(buffer, at, b"\n")
+        }
+        Err(verdict) => {
+            let at = put_front(buffer, at, number, verdict.code(), verdict.position());
+            keep(buffer, at, b"\n")
+        }
     }
-    let at = put_mode(buffer, at, read.khz, read.file);
-    keep(buffer, at, b"\n")
-}
-
-// There is room for the longest report from a place on.
-fn has_room(room: usize, at: usize) -> bool
-    ensures { result ≡ leb (at + 256) room }
-{
-    if room < MOST {
-        return false;
-    }
-    at <= room - MOST
 }
 
 // A line, read into a file, and what is reported of it, from a place of the buffer on; code 11 where fewer than 256 bytes are left there.
@@ -108,7 +100,7 @@ pub fn report(buffer: &mut [u8], at: usize, number: u64, file: File, line: &[u8]
     ensures end_bound { result.end ≤ at + 256 }
 {
     let read = read_into(line, file);
-    if !has_room(buffer.len(), at) {
+    if buffer.len().saturating_sub(at) < MOST {
         return Placed {
             answer: Answer::ShortBuffer,
             end: at,

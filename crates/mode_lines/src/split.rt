@@ -1,11 +1,12 @@
 // Lines cut out of an input that comes in parts.
-ghost use Rattle.std.specs.Prelude.{◌≡◌, ◌≤◌, ◌<◌, length};
+ghost use Rattle.std.specs.Prelude.{◌≡◌, ◌≤◌, ◌<◌, eqb, length};
+ghost use Rattle.std.specs.List.{position};
 ghost use Rattle.io.specs.Counts.{IsPrefixLen};
-ghost use Rattle.mode_lines.specs.Lines.{TookLine, up_to};
+ghost use Rattle.mode_lines.specs.Lines.{TookLine};
 
 use crate::kept::keep;
 
-// How many bytes of a part were taken, how many of the line are kept, and whether it is whole.
+// How many bytes of a part were taken, how many of the line are kept, and whether it is whole. Both numbers count either way, so this is no Option.
 #[derive(Clone, Copy)]
 pub struct Taken {
     pub used: usize,
@@ -13,18 +14,11 @@ pub struct Taken {
     pub ended: bool,
 }
 
-// How many bytes stand before the first newline; all of them where there is none.
-fn line_size(part: &[u8]) -> usize
-    ensures { result ≡ length (up_to part.now) }
+// The place of the first newline.
+fn newline(part: &[u8]) -> Option<usize>
+    ensures { result ≡ position (λ b. eqb b 0x0A) part.now }
 {
-    let mut size: usize = 0;
-    while size < part.len() {
-        if part[size] == b'\n' {
-            return size;
-        }
-        size += 1;
-    }
-    size
+    part.iter().position(|b| *b == b'\n')
 }
 
 // A part's first line, or what it has of it, behind so many bytes of that line that are kept already. A line that has more bytes than there is room for
@@ -34,18 +28,16 @@ pub fn take_line(part: &[u8], kept: &mut [u8], count: usize) -> Taken
     ensures prefix_len { IsPrefixLen result.count kept.new }
     ensures used_in_bounds { (result.used ≤ length part.now) × (0 < length part.now → 0 < result.used) }
 {
-    let size = line_size(part);
-    let count = keep(kept, count, &part[..size]);
-    if size < part.len() {
-        return Taken {
+    match newline(part) {
+        Some(size) => Taken {
             used: size + 1,
-            count,
+            count: keep(kept, count, &part[..size]),
             ended: true,
-        };
-    }
-    Taken {
-        used: size,
-        count,
-        ended: false,
+        },
+        None => Taken {
+            used: part.len(),
+            count: keep(kept, count, part),
+            ended: false,
+        },
     }
 }

@@ -1,34 +1,43 @@
 -- `reporting::report` meets its contract. Assumes nothing.
-use mathlib.Core.Path.{sym, ◌∙◌}
+use Prim.Native.Nat.{◌+◌}
+use mathlib.Core.Path.{◌≡◌}
+use mathlib.Core.Bool.{true}
 use native.Mathlib.Omega.{arith}
-use borrow.Author.Tests.{not-true, not-false}
+use borrow.Author.Tests.{le-leb, lt-leb}
+use lib.Dec.{leb}
+use lib.ListN.{length}
+use Rattle.mode_file.proofs.Laws.{line-bounds}
 use Rattle.mode_lines.specs.Report.{report_line}
-use Rattle.mode_lines.proofs.Reports.{a-report, no-report, report-ends, report-short}
+use Rattle.mode_lines.proofs.Reports.{a-report, no-report, report-ends, report-short, typed}
 use Rattle.mode_lines.proofs.reporting.report.Goals as goal
 
-pub returns-then-not-has_room : goal.returns-then-not-has_room
-returns-then-not-has_room c =
-    let args = c.args in
-    let read = c.read_into-read in record {
-      reported = record {
-        read = read.result;
-        into = read.ensures;
-        lined = no-report args.buffer.now args.at (report_line args.number read.result) (sym c.has_room.ensures ∙ not-true _ c.if-not-has_room.true-raw);
-      };
-      end_bound = omega arith;
-    }
-
-pub returns : goal.returns
-returns c =
+pub returns-then-saturating_sub-lt-MOST-clause-reported : goal.returns-then-saturating_sub-lt-MOST-clause-reported
+returns-then-saturating_sub-lt-MOST-clause-reported c =
     let args = c.args in
     let read = c.read_into-read in
-    let line = report_line args.number read.result in
-    let room = sym c.has_room.ensures ∙ not-false _ c.if-not-has_room.false-raw in
-    let short = report-short args.number read.result (omega arith) (omega (arith, read.type_inv)) (omega (arith, read.type_inv)) in record {
-      reported = record {
-        read = read.result;
-        into = read.ensures;
-        lined = a-report args.buffer.now args.at line room short c.put_report.ensures;
-      };
-      end_bound = report-ends args.buffer.now args.at line room short c.put_report.ensures;
+    record {
+      read = read.result;
+      into = read.ensures;
+      lined = no-report args.buffer.now args.at (report_line args.number read.result)
+          (lt-leb (args.at + 256) (length args.buffer.now) (omega (arith, c.saturating_sub.ensures, c.if-saturating_sub-lt-MOST.true)));
     }
+
+pub returns-clause-reported : goal.returns-clause-reported
+returns-clause-reported c =
+    let args = c.args in
+    let read = c.read_into-read in
+    let room : leb (args.at + 256) (length args.buffer.now) ≡ true = le-leb (args.at + 256) (length args.buffer.now) (omega (arith, c.saturating_sub.ensures, c.if-saturating_sub-lt-MOST.false)) in
+    let short = report-short args.number read.result.said read.result.file (omega arith) (typed (length args.line.now) read.result.said (omega arith) (line-bounds args.line.now args.file read.result read.ensures)) in
+    record {
+      read = read.result;
+      into = read.ensures;
+      lined = a-report args.buffer.now args.at (report_line args.number read.result) room short c.put_report.ensures;
+    }
+
+pub returns-clause-end_bound : goal.returns-clause-end_bound
+returns-clause-end_bound c =
+    let args = c.args in
+    let read = c.read_into-read in
+    let room : leb (args.at + 256) (length args.buffer.now) ≡ true = le-leb (args.at + 256) (length args.buffer.now) (omega (arith, c.saturating_sub.ensures, c.if-saturating_sub-lt-MOST.false)) in
+    let short = report-short args.number read.result.said read.result.file (omega arith) (typed (length args.line.now) read.result.said (omega arith) (line-bounds args.line.now args.file read.result read.ensures)) in
+    report-ends args.buffer.now args.at (report_line args.number read.result) room short c.put_report.ensures

@@ -1,7 +1,7 @@
 -- `start` meets its contract. Assumes nothing.
 use mathlib.Core.Path.{refl}
-use Rattle.job_modeline.specs.Job.{started}
-use Rattle.job_modeline.proofs.lines.start.Goals as goal
+use Rattle.mode_lines.specs.Job.{started}
+use Rattle.mode_lines.proofs.job.start.Goals as goal
 
 pub returns : goal.returns
 unfolding started

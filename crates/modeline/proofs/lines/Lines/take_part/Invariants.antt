@@ -1,6 +1,6 @@
 -- `take_part` is safe and ends: each turn takes a byte at least. Assumes nothing.
 use Rattle.std.proofs.Common.{◌-◌, ◌≤◌, length}
-use Rattle.modeline.proofs.lines.take_part.Given as goal
+use Rattle.modeline.proofs.lines.Lines.take_part.Given as goal
 
 abbrev pub invariant-loop-at : goal.invariant-loop-at
 invariant-loop-at g l = l.at ≤ length l.part
