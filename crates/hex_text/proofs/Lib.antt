@@ -5,3 +5,4 @@ pub mod InParts
 pub mod WordsRead
 pub mod WholeText
 pub mod Examples
+pub mod Standing

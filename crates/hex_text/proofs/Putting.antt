@@ -106,13 +106,3 @@ module _ {before : HexText} {part buffer₀ : List ℕ} {at : ℕ} where
         become = sym (ap (after text) none) ∙ r.become;
         put = record { stored = sym (ap (λ (xs : List ℕ). sets buffer end (told text xs)) none) ∙ r.stored; ended = omega (arith, ends, r.ended) };
       }
-
--- a list that is copied element by element: what is left, stored, gives the whole
-pub copy-next : (buffer part : List ℕ) (at i : ℕ) → i < length part
-    → sets (set buffer (at + i) (get_or part i 0)) (at + (i + 1)) (drop (i + 1) part) ≡ sets buffer (at + i) (drop i part)
-copy-next buffer part at i h =
-    let next : at + (i + 1) ≡ suc (at + i) = omega arith in
-    ap (λ (n : ℕ). sets (set buffer (at + i) (get_or part i 0)) n (drop (i + 1) part)) next ∙ sym (ap (sets buffer (at + i)) (left-from part i h))
-
-pub copy_done : (buffer part : List ℕ) (at i : ℕ) → length part ≤ i → buffer ≡ sets buffer (at + i) (drop i part)
-copy_done buffer part at i h = sym (ap (sets buffer (at + i)) (drop_of_length-le part {i = i} h))

@@ -1,10 +1,8 @@
 -- How the code goes through a text, byte by byte; no part of what a text is. Assumes nothing.
-use Rattle.std.specs.Prelude.{ℕ, ◌+◌, ◌*◌, ◌%◌, min, Bool, true, false, cond, ◌||◌, List, [], ◌∷◌, ◌++◌, eqb}
+use Rattle.std.specs.Prelude.{ℕ, ◌+◌, ◌*◌, ◌%◌, min, Bool, true, false, cond, ◌||◌, List, [], ◌∷◌, ◌++◌, eqb, Option, Some, None}
 use Rattle.hex_text.specs.declared.state.HexText.{HexText}
 use Rattle.hex_text.specs.declared.state.Stand.{Stand}
 use Rattle.hex_text.specs.declared.state.Stand.TheVariants.{Between, Digit, Byte, ByteReturn, Return, Comment, Bad}
-use Rattle.hex_text.specs.declared.state.Given.{Given}
-use Rattle.hex_text.specs.declared.state.Given.TheVariants.{Nothing, One}
 use Rattle.hex_text.specs.Text.{digit_value, digit, blank}
 
 -- the largest number of 64 bits
@@ -62,9 +60,9 @@ given_by Return b = []
 given_by Comment b = []
 given_by Bad b = []
 
-unfoldable pub bytes_of : Given → List ℕ
-bytes_of Nothing = []
-bytes_of (One value) = value ∷ []
+unfoldable pub bytes_of : Option ℕ → List ℕ
+bytes_of None = []
+bytes_of (Some value) = value ∷ []
 
 -- the line is over, and the next has not begun
 unfoldable pub line_over : HexText → HexText

@@ -1,5 +1,6 @@
 -- An input that is a text for people, or the bytes themselves. Assumes nothing.
-use Rattle.std.specs.Prelude.{ℕ, Bool, true, cond, not, ◌&&◌, ◌||◌, List, [], ◌∷◌, eqb, ltb, length, take}
+use Rattle.std.specs.Prelude.{ℕ, Bool, true, cond, not, ◌&&◌, ◌||◌, List, [], eqb, ltb, length, take}
+use Rattle.std.specs.List.{list_all}
 use Rattle.hex_text.specs.declared.source.Source.{Source}
 use Rattle.hex_text.specs.declared.source.TakenIn.{TakenIn}
 use Rattle.hex_text.specs.Text.{between}
@@ -10,9 +11,8 @@ use Rattle.hex_text.specs.Promises.{Put, EndPut, fitting}
 unfoldable pub printable : ℕ → Bool
 printable b = between 0x20 0x7E b || eqb b 0x09 || eqb b 0x0A || eqb b 0x0D
 
-unfoldable pub all_printable : List ℕ → Bool
-all_printable [] = true
-all_printable (b ∷ bytes) = printable b && all_printable bytes
+abbrev pub all_printable : List ℕ → Bool
+all_printable bytes = list_all printable bytes
 
 -- there is a byte, and the first 64 are printable, or all where there are fewer
 unfoldable pub looks_like_text : List ℕ → Bool

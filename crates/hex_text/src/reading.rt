@@ -3,7 +3,7 @@ ghost use Rattle.std.specs.Prelude.{◌≡◌, ◌+◌, ◌≤◌, ◌<◌, leng
 ghost use Rattle.hex_text.specs.Machine.{bytes_of};
 ghost use Rattle.hex_text.specs.Promises.{PartRead, Stored, TextEnded, TextPut, fitting};
 
-use crate::state::{Given, HexText, end_given, ended, gives, stepped};
+use crate::state::{HexText, end_given, ended, gives, stepped};
 
 // The text after a part of it, how many bytes of the part were used, and where its bytes end in the buffer.
 #[derive(Clone, Copy)]
@@ -14,13 +14,13 @@ pub struct TextRead {
 }
 
 // Puts the byte that is given, if there is one, at a place of the buffer, and gives the place after it.
-fn put(one: Given, buffer: &mut [u8], at: usize) -> usize
+fn put(one: Option<u8>, buffer: &mut [u8], at: usize) -> usize
     requires { at < length buffer.old }
     ensures { Stored (bytes_of one) buffer.old buffer.new at result }
 {
     match one {
-        Given::Nothing => at,
-        Given::One(value) => {
+        None => at,
+        Some(value) => {
             buffer[at] = value;
             at + 1
         }
@@ -34,25 +34,23 @@ fn read_part(before: HexText, part: &[u8], buffer: &mut [u8], at: usize) -> Text
 {
     let mut text = before;
     let mut end = at;
-    let mut i: usize = 0;
-    while i < part.len() {
-        let byte = part[i];
-        end = put(gives(text, byte), buffer, end);
-        text = stepped(text, byte);
-        i += 1;
+    for byte in part {
+        end = put(gives(text, *byte), buffer, end);
+        text = stepped(text, *byte);
     }
-    TextRead { text, used: i, end }
+    TextRead {
+        text,
+        used: part.len(),
+        end,
+    }
 }
 
 // Says how many of `count` have room in the buffer from `at` on.
+#[tactic(auto, unfolding(crate::specs::Promises::fitting))]
 pub fn having_room(count: usize, buffer: &[u8], at: usize) -> usize
     ensures { result ≡ fitting count buffer.now at }
 {
-    if at > buffer.len() {
-        return 0;
-    }
-    let room = buffer.len() - at;
-    if count < room { count } else { room }
+    count.min(buffer.len().saturating_sub(at))
 }
 
 // Reads a part of a text, as many of its bytes as the buffer has room for from `at` on, and puts the bytes that they give there.

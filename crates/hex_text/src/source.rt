@@ -1,56 +1,35 @@
 // An input that is a text for people or the bytes themselves, taken into a lent buffer.
-ghost use Rattle.std.specs.Prelude.{◌≡◌, ◌+◌, ◌≤◌, length};
-ghost use Rattle.std.proofs.lemmas.List.Edits.{sets};
+ghost use Rattle.std.specs.Prelude.{◌≡◌};
+ghost use Rattle.std.specs.List.{list_all};
 ghost use Rattle.hex_text.specs.Promises.{BytesPut};
-ghost use Rattle.hex_text.specs.Source.{printable as isPrintable, all_printable, looks_like_text, SourceTaken, SourceEnded};
+ghost use Rattle.hex_text.specs.Source.{printable as isPrintable, looks_like_text, SourceTaken, SourceEnded};
 
 use crate::reading::{end_text, having_room, read_text};
 use crate::state::HexText;
 
 // Tells whether a byte is printable: 20h to 7Eh, tab, CR or LF.
+#[tactic(auto, unfolding(crate::specs::Source::printable, crate::specs::Text::between))]
 fn printable(byte: u8) -> bool
     ensures { result ≡ isPrintable byte }
 {
-    if byte == 0x09 {
-        return true;
-    }
-    if byte == 0x0A {
-        return true;
-    }
-    if byte == 0x0D {
-        return true;
-    }
-    if byte < 0x20 {
-        return false;
-    }
-    byte < 0x7F
+    matches!(byte, 0x20..=0x7E | b'\t' | b'\n' | b'\r')
 }
 
 // Tells whether every byte is printable.
 fn all_printable(bytes: &[u8]) -> bool
-    ensures { result ≡ all_printable bytes.now }
+    ensures { result ≡ list_all isPrintable bytes.now }
 {
-    let mut i: usize = 0;
-    while i < bytes.len() {
-        if !printable(bytes[i]) {
-            return false;
-        }
-        i += 1;
-    }
-    true
+    bytes.iter().all(|b| printable(*b))
 }
 
 // Tells whether bytes look like a text: there is one, and the first 64, or all where there are fewer, are printable.
 pub fn looks_like_text(bytes: &[u8]) -> bool
     ensures { result ≡ looks_like_text bytes.now }
 {
-    if bytes.len() == 0 {
+    if bytes.is_empty() {
         return false;
     }
-    if bytes.len() < 64 {
-        return all_printable(bytes);
-    }
-    all_printable(&bytes[..64])
+    all_printable(&bytes[..bytes.len().min(64)])
 }
 
 // An input: whether it is a text, and how far that is read.
@@ -68,19 +47,8 @@ pub struct TakenIn {
     pub held: usize,
 }
 
-// Copies a part into the buffer from `at` on, where it has room.
-fn copy(part: &[u8], buffer: &mut [u8], at: usize)
-    requires { at + length part.now ≤ length buffer.old }
-    ensures { buffer.new ≡ sets buffer.old at part.now }
-{
-    let mut i: usize = 0;
-    while i < part.len() {
-        buffer[at + i] = part[i];
-        i += 1;
-    }
-}
-
 // Copies bytes into the buffer from `at` on, as many as have room, and says how many these are.
+#[tactic(auto, unfolding(crate::specs::Promises::fitting))]
 fn copy_fitting(bytes: &[u8], buffer: &mut [u8], at: usize) -> usize
     ensures { BytesPut bytes.now buffer.old buffer.new at result }
 {
@@ -88,7 +56,7 @@ fn copy_fitting(bytes: &[u8], buffer: &mut [u8], at: usize) -> usize
     if count == 0 {
         return 0;
     }
-    copy(&bytes[..count], buffer, at);
+    buffer[at..at + count].copy_from_slice(&bytes[..count]);
     count
 }
 

@@ -1,6 +1,6 @@
 // How far a text is read, and what one byte more makes of that.
-ghost use Rattle.std.specs.Prelude.{◌≡◌, cond, [], ◌∷◌};
-ghost use Rattle.hex_text.specs.Text.{digit_value, blank as isBlank};
+ghost use Rattle.std.specs.Prelude.{◌≡◌, cond, eqb, [], ◌∷◌, Some, None};
+ghost use Rattle.hex_text.specs.Text.{digit, digit_value, blank as isBlank};
 ghost use Rattle.hex_text.specs.Machine.{begun, moved_by, standing, new_line, separated_by, stepped_by, line_over};
 ghost use Rattle.hex_text.specs.Machine.{ends_word, bytes_of, given_by, end_given, is_bad, bad_line, bad_column, stepped as steppedText, ended as endedText};
 
@@ -26,13 +26,6 @@ pub struct HexText {
     pub column: u64,
 }
 
-// What one byte of a text gives: no byte, or one.
-#[derive(Clone, Copy)]
-pub enum Given {
-    Nothing,
-    One(u8),
-}
-
 // Begins a text.
 pub fn begin() -> HexText
     ensures { result ≡ begun }
@@ -45,60 +38,39 @@ pub fn begin() -> HexText
 }
 
 // Counts by so many more, up to the largest number of 64 bits.
+#[tactic(auto, unfolding(crate::specs::Machine::moved_by, crate::specs::Machine::held, crate::specs::Machine::largest))]
 fn moved(number: u64, by: u64) -> u64
     ensures { result ≡ moved_by number by }
 {
-    if number > u64::MAX - by {
-        u64::MAX
-    } else {
-        number + by
-    }
+    number.saturating_add(by)
 }
 
-// Gives the value of a hex digit; 16 for another byte.
-fn digit_value(byte: u8) -> u8
-    ensures { result ≡ digit_value byte }
+// Gives the value of a hex digit.
+#[tactic(auto, unfolding(crate::specs::Text::digit, crate::specs::Text::digit_value, crate::specs::Text::between))]
+fn digit(byte: u8) -> Option<u8>
+    ensures { result ≡ cond (digit byte) (Some (digit_value byte)) None }
 {
-    if byte < 0x30 {
-        return 16;
+    match byte {
+        b'0'..=b'9' => Some(byte - b'0'),
+        b'A'..=b'F' => Some(byte - b'A' + 10),
+        b'a'..=b'f' => Some(byte - b'a' + 10),
+        _ => None,
     }
-    if byte < 0x3A {
-        return byte - 0x30;
-    }
-    if byte < 0x41 {
-        return 16;
-    }
-    if byte < 0x47 {
-        return byte - 0x37;
-    }
-    if byte < 0x61 {
-        return 16;
-    }
-    if byte < 0x67 {
-        return byte - 0x57;
-    }
-    16
 }
 
 // Tells whether a byte is a blank.
+#[tactic(auto, unfolding(crate::specs::Text::blank))]
 fn blank(byte: u8) -> bool
     ensures { result ≡ isBlank byte }
 {
-    if byte == 0x20 {
-        return true;
-    }
-    byte == 0x09
+    byte == b' ' || byte == b'\t'
 }
 
 // Makes the text stand elsewhere, at the line and the column of `before`.
 fn standing_at(before: HexText, stand: Stand) -> HexText
     ensures { result ≡ standing before stand }
 {
-    HexText {
-        stand,
-        line: before.line,
-        column: before.column,
-    }
+    HexText { stand, ..before }
 }
 
 // Begins the next line.
@@ -124,13 +96,13 @@ fn separated(before: HexText, width: u64, returned: Stand, byte: u8) -> HexText
             column: moved(before.column, width),
         };
     }
-    if byte == 0x0A {
+    if byte == b'\n' {
         return new_line(before);
     }
-    if byte == 0x23 {
+    if byte == b'#' {
         return standing_at(before, Stand::Comment);
     }
-    if byte == 0x0D {
+    if byte == b'\r' {
         return standing_at(before, returned);
     }
     standing_at(before, Stand::Bad)
@@ -140,42 +112,31 @@ fn separated(before: HexText, width: u64, returned: Stand, byte: u8) -> HexText
 fn after_blank(before: HexText, byte: u8) -> HexText
     ensures { result ≡ stepped_by Stand.Between before byte }
 {
-    let value = digit_value(byte);
-    if value < 16 {
-        return standing_at(before, Stand::Digit(value));
+    match digit(byte) {
+        Some(value) => standing_at(before, Stand::Digit(value)),
+        None => separated(before, 1, Stand::Return, byte),
     }
-    separated(before, 1, Stand::Return, byte)
 }
 
 // Takes a byte after the first digit of a word: the second one, or the word is bad.
 fn after_digit(before: HexText, high: u8, byte: u8) -> HexText
     ensures { result ≡ stepped_by (Stand.Digit high) before byte }
 {
-    let value = digit_value(byte);
-    if value < 16 {
-        return standing_at(before, Stand::Byte(high % 16 * 16 + value));
+    match digit(byte) {
+        Some(value) => standing_at(before, Stand::Byte(high % 16 * 16 + value)),
+        None => standing_at(before, Stand::Bad),
     }
-    standing_at(before, Stand::Bad)
 }
 
-// Takes a byte after a CR: the LF, or the word that the CR stands in is bad.
-fn after_return(before: HexText, byte: u8) -> HexText
-    ensures { result ≡ stepped_by Stand.Return before byte }
+// Takes the LF that ends the line, or another byte, with which the text stands at `other`: after a CR the word is bad then, in a comment it goes on.
+fn line_ended(before: HexText, other: Stand, byte: u8) -> HexText
+    ensures { result ≡ cond (eqb byte 0x0A) (new_line before) (standing before other) }
 {
-    if byte == 0x0A {
-        return new_line(before);
+    if byte == b'\n' {
+        new_line(before)
+    } else {
+        standing_at(before, other)
     }
-    standing_at(before, Stand::Bad)
-}
-
-// Takes a byte of a comment, or the LF after it.
-fn after_hash(before: HexText, byte: u8) -> HexText
-    ensures { result ≡ stepped_by Stand.Comment before byte }
-{
-    if byte == 0x0A {
-        return new_line(before);
-    }
-    standing_at(before, Stand::Comment)
 }
 
 // Takes one byte of a text.
@@ -187,50 +148,37 @@ pub fn stepped(before: HexText, byte: u8) -> HexText
         Stand::Between => after_blank(before, byte),
         Stand::Digit(high) => after_digit(before, high, byte),
         Stand::Byte(value) => separated(before, 3, Stand::ByteReturn(value), byte),
-        Stand::ByteReturn(_) => after_return(before, byte),
-        Stand::Return => after_return(before, byte),
-        Stand::Comment => after_hash(before, byte),
+        Stand::ByteReturn(_) => line_ended(before, Stand::Bad, byte),
+        Stand::Return => line_ended(before, Stand::Bad, byte),
+        Stand::Comment => line_ended(before, Stand::Comment, byte),
         Stand::Bad => standing_at(before, Stand::Bad),
     }
 }
 
 // Tells whether a byte ends a word of two digits.
+#[tactic(auto, unfolding(crate::specs::Machine::ends_word))]
 fn ends_word(byte: u8) -> bool
     ensures { result ≡ ends_word byte }
 {
-    if blank(byte) {
-        return true;
-    }
-    if byte == 0x0A {
-        return true;
-    }
-    byte == 0x23
+    blank(byte) || byte == b'\n' || byte == b'#'
 }
 
-// Gives `value` where `ended`, else nothing.
-fn given_where(ended: bool, value: u8) -> Given
+// Gives `value` where `ended`.
+#[tactic(auto, unfolding(crate::specs::Machine::bytes_of))]
+fn given_where(ended: bool, value: u8) -> Option<u8>
     ensures { bytes_of result ≡ cond ended (value ∷ []) [] }
 {
-    if ended {
-        Given::One(value)
-    } else {
-        Given::Nothing
-    }
+    if ended { Some(value) } else { None }
 }
 
 // Gives the byte of the word that one byte of a text ends.
-pub fn gives(before: HexText, byte: u8) -> Given
+pub fn gives(before: HexText, byte: u8) -> Option<u8>
     ensures { bytes_of result ≡ given_by before.stand byte }
 {
-    let stand = before.stand;
-    match stand {
-        Stand::Between => Given::Nothing,
-        Stand::Digit(_) => Given::Nothing,
+    match before.stand {
         Stand::Byte(value) => given_where(ends_word(byte), value),
-        Stand::ByteReturn(value) => given_where(byte == 0x0A, value),
-        Stand::Return => Given::Nothing,
-        Stand::Comment => Given::Nothing,
-        Stand::Bad => Given::Nothing,
+        Stand::ByteReturn(value) => given_where(byte == b'\n', value),
+        _ => None,
     }
 }
 
@@ -262,36 +210,23 @@ pub fn ended(before: HexText) -> HexText
 }
 
 // Gives the byte of the word that the end of a text ends.
-pub fn end_given(before: HexText) -> Given
+pub fn end_given(before: HexText) -> Option<u8>
     ensures { bytes_of result ≡ end_given before.stand }
 {
-    let stand = before.stand;
-    match stand {
-        Stand::Between => Given::Nothing,
-        Stand::Digit(_) => Given::Nothing,
-        Stand::Byte(value) => Given::One(value),
-        Stand::ByteReturn(value) => Given::One(value),
-        Stand::Return => Given::Nothing,
-        Stand::Comment => Given::Nothing,
-        Stand::Bad => Given::Nothing,
+    match before.stand {
+        Stand::Byte(value) => Some(value),
+        Stand::ByteReturn(value) => Some(value),
+        _ => None,
     }
 }
 
 impl HexText {
     // Tells whether a bad word was read.
+    #[tactic(auto, unfolding(crate::specs::Machine::is_bad))]
     pub fn is_bad(self) -> bool
         ensures { result ≡ is_bad self.stand }
     {
-        let stand = self.stand;
-        match stand {
-            Stand::Between => false,
-            Stand::Digit(_) => false,
-            Stand::Byte(_) => false,
-            Stand::ByteReturn(_) => false,
-            Stand::Return => false,
-            Stand::Comment => false,
-            Stand::Bad => true,
-        }
+        matches!(self.stand, Stand::Bad)
     }
 
     // Gives the line of the bad word; 0 where there is none.

@@ -1,13 +1,13 @@
--- `put` meets its contract: nothing, or one byte. Assumes nothing.
+-- `put` meets its contract. Assumes nothing.
 use mathlib.Core.Path.{refl}
 use native.Mathlib.Omega.{arith}
 use Rattle.hex_text.specs.Machine.{bytes_of}
 use Rattle.hex_text.proofs.reading.put.Goals as goal
 
-pub returns-in-Nothing : goal.returns-in-Nothing
+pub returns-in-None : goal.returns-in-None
 unfolding bytes_of
-returns-in-Nothing c = rw c.in-Nothing.is (record { stored = refl; ended = omega arith })
+returns-in-None c = rw c.in-None.is (record { stored = refl; ended = omega arith })
 
-pub returns-in-One : goal.returns-in-One
+pub returns-in-Some : goal.returns-in-Some
 unfolding bytes_of
-returns-in-One c = rw c.in-One.is (record { stored = refl; ended = refl })
+returns-in-Some c = rw c.in-Some.is (record { stored = refl; ended = refl })

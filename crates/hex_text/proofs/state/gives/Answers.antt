@@ -1,15 +1,8 @@
--- `gives` meets its contract, arm by arm. Assumes nothing.
+-- `gives` meets its contract. Assumes nothing.
 use mathlib.Core.Path.{sym}
 use Rattle.hex_text.specs.Machine.{bytes_of, given_by}
+use Rattle.hex_text.proofs.Standing.{gives-none}
 use Rattle.hex_text.proofs.state.gives.Goals as goal
-
-pub returns-in-Between : goal.returns-in-Between
-unfolding given_by bytes_of
-returns-in-Between c = rw c.in-Between.is
-
-pub returns-in-Digit : goal.returns-in-Digit
-unfolding given_by bytes_of
-returns-in-Digit c = rw c.in-Digit.is
 
 pub returns-in-Byte : goal.returns-in-Byte
 unfolding given_by
@@ -19,14 +12,6 @@ pub returns-in-ByteReturn : goal.returns-in-ByteReturn
 unfolding given_by
 returns-in-ByteReturn c = rw c.in-ByteReturn.is c.given_where-in-ByteReturn.ensures
 
-pub returns-in-Return : goal.returns-in-Return
-unfolding given_by bytes_of
-returns-in-Return c = rw c.in-Return.is
-
-pub returns-in-Comment : goal.returns-in-Comment
-unfolding given_by bytes_of
-returns-in-Comment c = rw c.in-Comment.is
-
-pub returns-in-Bad : goal.returns-in-Bad
-unfolding given_by bytes_of
-returns-in-Bad c = rw c.in-Bad.is
+pub returns-in_default : goal.returns-in_default
+unfolding bytes_of
+returns-in_default c = gives-none c.args.before.stand c.in_default.not-Byte c.in_default.not-ByteReturn c.args.byte

@@ -26,19 +26,19 @@ pub returns-in-ByteReturn : goal.returns-in-ByteReturn
 unfolding stepped stepped_by
 returns-in-ByteReturn c =
     let args = c.args in
-    c.after_return.ensures ∙ ap (λ (at : Stand). stepped_by at args.before args.byte) (sym c.in-ByteReturn.is)
+    c.line_ended.ensures ∙ ap (λ (at : Stand). stepped_by at args.before args.byte) (sym c.in-ByteReturn.is)
 
 pub returns-in-Return : goal.returns-in-Return
 unfolding stepped stepped_by
 returns-in-Return c =
     let args = c.args in
-    c.after_return-in-Return.ensures ∙ ap (λ (at : Stand). stepped_by at args.before args.byte) (sym c.in-Return.is)
+    c.line_ended-in-Return.ensures ∙ ap (λ (at : Stand). stepped_by at args.before args.byte) (sym c.in-Return.is)
 
 pub returns-in-Comment : goal.returns-in-Comment
 unfolding stepped stepped_by
 returns-in-Comment c =
     let args = c.args in
-    c.after_hash.ensures ∙ ap (λ (at : Stand). stepped_by at args.before args.byte) (sym c.in-Comment.is)
+    c.line_ended-in-Comment.ensures ∙ ap (λ (at : Stand). stepped_by at args.before args.byte) (sym c.in-Comment.is)
 
 pub returns-in-Bad : goal.returns-in-Bad
 unfolding stepped stepped_by
