@@ -3,10 +3,9 @@
 // power-on) and a digit for the hundreds. The number that it prints hangs on all that it did.
 #![tactic(auto)]
 
-ghost use Rattle.std.specs.Prelude.{◌≤◌, IfOk, length};
-
 use engines::{Engine, run_by};
 use file::{Chip, File};
+use program_input::read_full;
 use std::io;
 use std::io::Read;
 use std::rt::Env;
@@ -17,31 +16,13 @@ fn mix(sum: u64, more: u64) -> u64 {
     (sum % 0x1_0000_0000) * 31 + more % 0x1_0000_0000
 }
 
-fn to_u64(x: u8) -> u64 {
-    x as u64
-}
-
-// How far a run has come: the file, the sum of a reply byte of each buffer, and whether there is more to read.
+// How far a run has come: the file, the sum of a reply byte of each buffer, and whether there is more to read. File and sum count either way, so this is no
+// Option.
 #[derive(Clone, Copy)]
 struct Course {
     file: File,
     sum: u64,
     more: bool,
-}
-
-// Reads until the buffer is full or the input ends, and gives how many bytes it put at the start of the buffer.
-fn read_full<I: Read>(from: &mut I, buffer: &mut [u8]) -> io::Result<usize>
-    ensures { IfOk result (λ n. n ≤ length buffer.new) }
-{
-    let mut at = 0;
-    while at < buffer.len() {
-        let count = from.read(&mut buffer[at..])?;
-        if count == 0 {
-            break;
-        }
-        at += count;
-    }
-    Ok(at)
 }
 
 fn run_some<I: Read>(
@@ -58,12 +39,12 @@ fn run_some<I: Read>(
     let file = ran.file;
     Ok(Course {
         file,
-        sum: mix(before.sum, to_u64(replies[at])),
+        sum: mix(before.sum, u64::from(replies[at])),
         more: size == 8192,
     })
 }
 
-// A proved loop has to end, so this one counts its turns down, from a number that no run uses up.
+// A proved loop has to end, so this one has as many turns as no run uses up.
 fn run_input(rt: &impl Input, engine: Engine) -> io::Result<Course> {
     let mut from = rt.reader();
     let mut trace = [0u8; 8192];
@@ -73,57 +54,44 @@ fn run_input(rt: &impl Input, engine: Engine) -> io::Result<Course> {
         sum: 0,
         more: true,
     };
-    let mut turns = u64::MAX;
-    while turns > 0 && course.more {
-        let next = run_some(&mut from, engine, course, &mut trace, &mut replies)?;
-        course = next;
-        turns -= 1;
+    for _ in 0..u64::MAX {
+        course = run_some(&mut from, engine, course, &mut trace, &mut replies)?;
+        if !course.more {
+            break;
+        }
     }
     Ok(course)
 }
 
-fn counted(n: usize) -> u64 {
-    n as u64
-}
-
-fn placed(n: u32) -> u64 {
-    n as u64
-}
-
 // The timing read, a plan made, or the file restored.
 fn look(what: u8, file: File, buffer: &mut [u8; 8192]) -> u64 {
-    if what == b'p' {
-        return counted(plan::plan(file, buffer).count);
+    match what {
+        b'p' => plan::plan(file, buffer).map_or(0, |count| count as u64),
+        b's' => {
+            let restored = restoring::restore(File::power_on(Chip::Gd5464), file, buffer);
+            restored.count.map_or(0, |count| count as u64)
+        }
+        _ => u64::from(read_timing(file).timing.screen_start),
     }
-    if what == b's' {
-        return counted(restoring::restore(File::power_on(Chip::Gd5464), file, buffer).count);
-    }
-    placed(read_timing(file).timing.screen_start)
 }
 
 fn look_many(what: u8, file: File, times: u64) -> u64 {
     let mut buffer = [0u8; 8192];
     let mut sum = 0;
-    let mut left = times;
-    while left > 0 {
+    for _ in 0..times {
         sum = mix(sum, look(what, file, &mut buffer));
-        left -= 1;
     }
     let at = (sum % 8192) as usize;
-    mix(sum, to_u64(buffer[at]))
+    mix(sum, u64::from(buffer[at]))
 }
 
 fn write_many(file: File, timing: Timing, times: u64) -> u64 {
     let mut current = file;
     let mut sum = 0;
-    let mut left = times;
-    while left > 0 {
+    for _ in 0..times {
         let written = write_timing(current, timing);
-        let answer = written.answer;
-        let after = written.file;
-        current = after;
-        sum = mix(sum, to_u64(answer.code()));
-        left -= 1;
+        current = written.file;
+        sum = mix(sum, u64::from(written.answer.code()));
     }
     sum
 }
@@ -136,17 +104,17 @@ fn letter(rt: &impl Env, place: usize) -> u8 {
 }
 
 fn engine_for(what: u8) -> Engine {
-    if what == b'f' {
-        return Engine::Plain;
+    match what {
+        b'f' => Engine::Plain,
+        _ => Engine::Quick,
     }
-    Engine::Quick
 }
 
 fn main(rt: HostRuntime) -> io::Result<()> {
     let what = letter(&rt, 1);
     let course = run_input(&rt, engine_for(what))?;
     let file = course.file;
-    let times = to_u64(letter(&rt, 2)) % 16 * 100;
+    let times = u64::from(letter(&rt, 2)) % 16 * 100;
     let done = if what == b'w' {
         write_many(file, read_timing(file).timing, times)
     } else {

@@ -1,8 +1,0 @@
--- `run_input` is safe and ends: its turns count down. Nothing has to hold from turn to turn. Assumes nothing.
-use Rattle.measured.proofs.run_input.Given as goal
-
-abbrev pub invariant-loop-turns : goal.invariant-loop-turns
-invariant-loop-turns g l = Unit {0}
-
-abbrev pub decreases-loop-turns : goal.decreases-loop-turns
-decreases-loop-turns g l = l.turns
