@@ -11,7 +11,7 @@ use Rattle.bits.proofs.Test.{by-test, chosen}
 use Rattle.file.specs.declared.registers.File.{File}
 use Rattle.file.specs.Answers.{code_of, one_of}
 use Rattle.file.specs.Sound.{sound}
-use Rattle.clock.specs.declared.rate.DotClock.TheVariants.{Rate, None}
+use Rattle.std.specs.Prelude.{Some, None}
 use Rattle.clock.specs.declared.reader.ClockRead.{ClockRead}
 use Rattle.clock.specs.Clock.{denominator, denominator_byte, divisor, dot_clock, numerator_byte, product, read_clock, terms_of}
 use Rattle.clock.specs.Lowest.{lowest, no_terms}
@@ -45,14 +45,14 @@ module _ (f : File) (r : ClockRead) (met : r ≡ read_clock f) where
 
   -- of a sound file whose selected denominator is not 0: 0, the quotient rounded once, and the same in lowest terms
   pub clock-rate : sound f ≡ true → 0 < denominator (denominator_byte f) → (code_of r.answer ≡ 0)
-      × ((r.clock ≡ Rate (round binary64 false (product (numerator_byte f)) (divisor (denominator_byte f))))
+      × ((r.clock ≡ Some (round binary64 false (product (numerator_byte f)) (divisor (denominator_byte f))))
       × (r.terms ≡ lowest (product (numerator_byte f)) (divisor (denominator_byte f))))
   unfolding read_clock dot_clock code_of
   clock-rate s some =
       let there : eqb (denominator (denominator_byte f)) 0 ≡ false = ne_eqb (denominator (denominator_byte f)) 0 (λ e. omega (arith, some, e)) in (
         ap (λ (x : ClockRead). code_of x.answer) met ∙ rw s refl,
         (
-          ap (λ (x : ClockRead). x.clock) met ∙ rw (s, there) (ap Rate (rounded-once (denominator_byte f) (numerator_byte f) some)),
+          ap (λ (x : ClockRead). x.clock) met ∙ rw (s, there) (ap Some (rounded-once (denominator_byte f) (numerator_byte f) some)),
           ap (λ (x : ClockRead). x.terms) met ∙ rw s (terms-are (denominator_byte f) (numerator_byte f) some),
         ),
       )

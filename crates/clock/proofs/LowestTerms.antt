@@ -8,8 +8,14 @@ use lib.Dec.{eqb, lit<}
 use lib.Ieee.Nearest.{div_same}
 use lib.Ieee.Positive.{first_pos}
 use Rattle.bits.proofs.Test.{by-test}
-use Rattle.clock.specs.Lowest.{common_divisor, lowest}
+use Rattle.clock.specs.declared.terms.Terms.{Terms}
+use Rattle.clock.specs.Lowest.{common_divisor, lowest, no_terms}
 use Rattle.clock.proofs.CommonDivisors.{common-positive, common-divides, common-most}
+
+-- both 0
+pub default-terms : (t : Terms) → (t.p ≡ 0) × (t.q ≡ 0) → t ≡ no_terms
+unfolding no_terms
+default-terms t e = ap₂ (λ (x y : ℕ). record { p = x; q = y }) e.0 e.1
 
 -- no number but 1 divides both
 abbrev pub Apart : ℕ → ℕ → Type 0

@@ -5,8 +5,8 @@ use mathlib.Core.Path.{◌≡◌, refl, sym, ap, ◌∙◌, subst}
 use mathlib.Core.Bool.{true, false, true≢false}
 use native.Mathlib.Nat.{mul-one, mul_comm, mul_assoc, mul-pos, mod-lt, div-le_self, div-mul_cancel, dvd_of_mod-eq-zero}
 use native.Mathlib.Omega.{arith}
-use borrow.Author.Tests.{ne_eqb}
-use lib.Dec.{T, lit<}
+use borrow.Author.Tests.{eqb-false, eqb-true, ne_eqb}
+use lib.Dec.{T, eqb, lit<}
 use lib.Ieee.{Float, nan, inf, fin, Format, binary64, up, down, round, div, le, of_int}
 use lib.Ieee.Back.{round_whole}
 use lib.Ieee.Exact.{HasValue}
@@ -109,6 +109,15 @@ module _ (d n : ℕ) (some : 0 < denominator d) where
   rate-of-terms =
       rounded-once ∙ round_same binary64 false (product n) (divisor d) (terms_of d n).p (terms_of d n).q (divisor-positive d some) terms-positive
       (sym terms-same)
+
+-- the divisor is 0 where the denominator is, and `lowest` has no terms there
+pub terms-lowest : (d n : ℕ) → lowest (product n) (divisor d) ≡ terms_of d n
+unfolding terms_of divisor lowest
+terms-lowest d n =
+    by-test (eqb (denominator d) 0)
+    (λ t. let none : denominator d ≡ 0 = eqb-true (denominator d) 0 t in
+    by-test (post_scaled d) (λ e. rw (e, none) refl) (λ e. rw (e, none) refl))
+    (λ t. sym (terms-are d n (omega (arith, eqb-false (denominator d) 0 t))))
 
 -- and in their order: a rate that is no larger in whole numbers is no larger as an f64
 pub rates-ordered : (d n d' n' : ℕ) → 0 < denominator d → 0 < denominator d' → (terms_of d n).p * (terms_of d' n').q ≤ (terms_of d' n').p * (terms_of d n).q

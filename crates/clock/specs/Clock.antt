@@ -1,6 +1,7 @@
 -- 02, 12/13: the dot clock of a file. Source document 000 has the denominator and the post-scalar in SR0B-0E and the numerator in SR1B-1E.
 -- Assumes nothing.
-use Rattle.std.specs.Prelude.{ℕ, ◌+◌, ◌*◌, Bool, cond, eqb, Float, pos}
+use Rattle.std.specs.Prelude.{ℕ, ◌+◌, ◌*◌, Bool, cond, eqb, Float, pos, Some, None}
+use Rattle.std.specs.declared.option.Option.{Option}
 use Rattle.std.specs.Float.{binary64}
 use Rattle.std.specs.Float.Ieee.{div, of_int}
 use Rattle.bits.specs.Store.{bit, bits}
@@ -9,8 +10,6 @@ use Rattle.file.specs.declared.registers.File.{File}
 use Rattle.file.specs.File.{register}
 use Rattle.file.specs.Names.{MISC}
 use Rattle.file.specs.Sound.{sound}
-use Rattle.clock.specs.declared.rate.DotClock.{DotClock}
-use Rattle.clock.specs.declared.rate.DotClock.TheVariants.{Rate, None}
 use Rattle.clock.specs.declared.reader.ClockRead.{ClockRead}
 use Rattle.clock.specs.declared.terms.Terms.{Terms}
 use Rattle.clock.specs.Lowest.{lowest, no_terms}
@@ -43,8 +42,8 @@ unfoldable pub rate : ℕ → ℕ → Float
 rate d n = div binary64 (of_int binary64 (pos (product n))) (of_int binary64 (pos (divisor d)))
 
 -- 'The answer is either a rate or that there is none, which is so exactly when the denominator is 0.'
-unfoldable pub dot_clock : ℕ → ℕ → DotClock
-dot_clock d n = cond (eqb (denominator d) 0) None (Rate (rate d n))
+unfoldable pub dot_clock : ℕ → ℕ → Option Float
+dot_clock d n = cond (eqb (denominator d) 0) None (Some (rate d n))
 
 -- 'Beside it give the two whole numbers in lowest terms.' Both are 0 where there is no rate
 unfoldable pub terms_of : ℕ → ℕ → Terms

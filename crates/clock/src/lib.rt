@@ -5,6 +5,5 @@ mod rate;
 mod reader;
 mod terms;
 
-pub use rate::DotClock;
 pub use reader::{ClockRead, clock, terms_of};
 pub use terms::Terms;

@@ -2,7 +2,7 @@
 ghost use Rattle.std.specs.Prelude.{◌≡◌};
 ghost use Rattle.clock.specs.Clock.{read_clock, terms_of};
 
-use crate::rate::{DotClock, denominator, divisor, dot_clock, product};
+use crate::rate::{divisor, dot_clock, product};
 use crate::terms::{Terms, lowest_terms};
 use file::{Answer, File, MISC, is_sound};
 
@@ -11,11 +11,12 @@ const SR0B: usize = 15;
 
 const SR1B: usize = 21;
 
-// What the selected clock's registers say: the rate, and beside it the two whole numbers. Of a file that isn't sound there is none.
+// What the selected clock's registers say: the rate, and beside it the two whole numbers.
+// No `Result`: of a file that isn't sound `clock-unsound` promises 12 with no rate and both numbers 0.
 #[derive(Clone, Copy)]
 pub struct ClockRead {
     pub answer: Answer,
-    pub clock: DotClock,
+    pub clock: Option<f64>,
     pub terms: Terms,
 }
 
@@ -23,9 +24,6 @@ pub struct ClockRead {
 pub fn terms_of(d: u16, n: u16) -> Terms
     ensures { result ≡ terms_of d n }
 {
-    if denominator(d) == 0 {
-        return Terms { p: 0, q: 0 };
-    }
     lowest_terms(product(n), divisor(d))
 }
 
@@ -36,15 +34,13 @@ pub fn clock(file: File) -> ClockRead
     if !is_sound(file) {
         return ClockRead {
             answer: Answer::NotSound,
-            clock: DotClock::None,
-            terms: Terms { p: 0, q: 0 },
+            clock: None,
+            terms: Terms::default(),
         };
     }
-    let selected = (file.registers[MISC] / 4 % 4) as usize;
-    let below = SR0B + selected;
-    let above = SR1B + selected;
-    let d = file.registers[below];
-    let n = file.registers[above];
+    let selected = usize::from(file.registers[MISC] / 4 % 4);
+    let d = file.registers[SR0B + selected];
+    let n = file.registers[SR1B + selected];
     ClockRead {
         answer: Answer::Done(0),
         clock: dot_clock(d, n),

@@ -1,4 +1,5 @@
 -- The largest and the smallest rate: one of the sets has it, and no set has a better one. Assumes nothing.
+use Rattle.std.specs.Prelude.{Option, Some, None, Ok, Err}
 use Prim.Native.Nat.{ℕ, ◌+◌, ◌*◌, ◌<◌}
 use mathlib.Core.Bool.{Bool, true, false, cond, not, ◌||◌}
 use mathlib.Core.List.Memᴰ
@@ -7,27 +8,25 @@ use mathlib.Core.Logic.{◌⊎◌, inl, inr, ⊎_elim}
 use mathlib.Core.Path.{◌≡◌, refl, sym, ◌∙◌, subst}
 use native.Mathlib.Nat.{le_refl}
 use native.Mathlib.Omega.{arith}
-use borrow.Author.Tests.{ltb-true, ltb-false, le-ltb, eqb-false, ne_eqb}
+use borrow.Author.Tests.{ltb-true, ltb-false, le-ltb, eqb-false}
 use lib.Dec.{eqb}
 use lib.Ieee.Positive.{through}
 use lib.ListN.{length}
+use Rattle.std.proofs.lemmas.Option.{same_Some}
 use Rattle.bits.specs.Store.{bit}
 use Rattle.bits.proofs.Test.{by-test}
 use Rattle.clock.specs.declared.terms.Terms.{Terms}
 use Rattle.clock.specs.Clock.{denominator}
-use Rattle.clock.specs.Lowest.{no_terms}
 use Rattle.clock.proofs.RateRounds.{terms-positive}
-use Rattle.clock_text.specs.declared.sets.SetClock.{SetClock}
-use Rattle.clock_text.specs.declared.sets.SetClock.TheVariants.{Rate, None, Refused}
 use Rattle.clock_text.specs.declared.tally.Tally.{Tally}
-use Rattle.clock_text.specs.Sets.{below, better, counting, no_tally, set_clock, set_clocks, tallied}
+use Rattle.clock_text.specs.Sets.{SetClock, below, better, counting, no_tally, set_clock, set_clocks, tallied}
 
 -- the rates of sets
 unfoldable pub rates_of : List SetClock → List Terms
 rates_of [] = []
-rates_of (Rate x ∷ cs) = x ∷ rates_of cs
-rates_of (None ∷ cs) = rates_of cs
-rates_of (Refused ∷ cs) = rates_of cs
+rates_of (Ok (Some x) ∷ cs) = x ∷ rates_of cs
+rates_of (Ok None ∷ cs) = rates_of cs
+rates_of (Err answer ∷ cs) = rates_of cs
 
 -- each has a denominator
 abbrev pub Proper : List Terms → Type 0
@@ -59,89 +58,101 @@ smaller-tells =
       onward = λ x y z some e f. larger-tells.onward z y x some f e;
     }
 
-module _ (test : Terms → Terms → Bool) (tells : Tells test) where
-  -- one rate behind the best so far
-  module _ (old new : Terms) (some : 0 < new.q) where
-    chosen-positive : 0 < (better (test old new) old new).q
-    unfolding better
-    chosen-positive =
-        by-test (eqb old.q 0) (λ e. rw e some)
-        (λ e. by-test (test old new) (λ t. rw (e, t) some) (λ t. rw (e, t) (omega (arith, eqb-false old.q 0 e))))
-
-    -- it is no better
-    chosen-new : test (better (test old new) old new) new ≡ false
-    unfolding better
-    chosen-new =
-        by-test (eqb old.q 0) (λ e. rw e (tells.itself new))
-        (λ e. by-test (test old new) (λ t. rw (e, t) (tells.itself new)) (λ t. rw (e, t) t))
-
-    -- nor is what was no better before
-    chosen-old : (x : Terms) → 0 < old.q → test old x ≡ false → test (better (test old new) old new) x ≡ false
-    unfolding better
-    chosen-old x there f =
-        let none : eqb old.q 0 ≡ false = ne_eqb old.q 0 (λ e. omega (arith, there, e)) in
-        by-test (test old new) (λ t. rw (none, t) (tells.onward new old x there (tells.one_way old new t) f)) (λ t. rw (none, t) f)
-
-  -- the best of a list, behind one
-  unfoldable best_of : Terms → List Terms → Terms
+module _ (test : Terms → Terms → Bool) where
+  -- the best of a list, behind one that there may be, and behind one
+  unfoldable best_of : Option Terms → List Terms → Option Terms
   best_of old [] = old
-  best_of old (x ∷ xs) = best_of (better (test old x) old x) xs
+  best_of old (x ∷ xs) = best_of (Some (better test old x)) xs
 
-  best-above : (old : Terms) (xs : List Terms) → Proper xs → (x : Terms) → ((0 < old.q) × (test old x ≡ false)) ⊎ Memᴰ x xs
-      → test (best_of old xs) x ≡ false
-  unfolding best_of
-  best-above old [] proper x (inl h) = h.1
-  best-above old [] proper x (inr m) = absurd (Memᴰ.not-nil m)
-  best-above old (y ∷ ys) proper x (inl h) =
-      best-above (better (test old y) old y) ys (λ z m. proper z (Memᴰ.tail m)) x
-      (inl (chosen-positive old y (proper y (Memᴰ.head refl)), chosen-old old y (proper y (Memᴰ.head refl)) x h.0 h.1))
-  best-above old (y ∷ ys) proper x (inr m) =
-      best-above (better (test old y) old y) ys (λ z k. proper z (Memᴰ.tail k)) x
-      (⊎_elim
-      (λ e. inl (chosen-positive old y (proper y (Memᴰ.head refl)), subst (λ (z : Terms). test (better (test old y) old y) z ≡ false) (sym e) (chosen-new old y (proper y (Memᴰ.head refl)))))
-      (λ k. inr k)
-      (Memᴰ.cases_cons m))
+  unfoldable best_behind : Terms → List Terms → Terms
+  best_behind old [] = old
+  best_behind old (x ∷ xs) = best_behind (better test (Some old) x) xs
 
-  best-among : (old : Terms) (xs : List Terms) → (best_of old xs ≡ old) ⊎ Memᴰ (best_of old xs) xs
+  best_some : (old : Terms) (xs : List Terms) → best_of (Some old) xs ≡ Some (best_behind old xs)
+  unfolding best_of best_behind
+  best_some old [] = refl
+  best_some old (x ∷ xs) = best_some (better test (Some old) x) xs
+
+  best_first : (x : Terms) (xs : List Terms) → best_of None (x ∷ xs) ≡ Some (best_behind x xs)
   unfolding best_of better
+  best_first x xs = best_some x xs
+
+  best-among : (old : Terms) (xs : List Terms) → (best_behind old xs ≡ old) ⊎ Memᴰ (best_behind old xs) xs
+  unfolding best_behind better
   best-among old [] = inl refl
   best-among old (x ∷ xs) =
-      by-test (eqb old.q 0 || test old x)
+      by-test (test old x)
       (λ e. rw e (inr (⊎_elim (λ same. Memᴰ.head same) (λ m. Memᴰ.tail m) (best-among x xs))))
       (λ e. rw e (⊎_elim (λ same. inl same) (λ m. inr (Memᴰ.tail m)) (best-among old xs)))
 
   -- of no rates there is none
-  best_none : (xs : List Terms) → length xs ≡ 0 → best_of no_terms xs ≡ no_terms
+  best_none : (xs : List Terms) → length xs ≡ 0 → best_of None xs ≡ None
   unfolding best_of
   best_none [] e = refl
   best_none (x ∷ xs) e = absurd (omega (arith, e))
 
-  -- behind none it is one of them
-  best-there : (xs : List Terms) → 0 < length xs → Memᴰ (best_of no_terms xs) xs
-  unfolding best_of better no_terms
+  -- of others it is one of them
+  best-there : (xs : List Terms) → 0 < length xs → (best : Terms) × (best_of None xs ≡ Some best) × Memᴰ best xs
   best-there [] some = absurd (omega (arith, some))
-  best-there (x ∷ xs) some = ⊎_elim (λ same. Memᴰ.head same) (λ m. Memᴰ.tail m) (best-among x xs)
+  best-there (x ∷ xs) some =
+      (best_behind x xs, best_first x xs, ⊎_elim (λ same. Memᴰ.head same) (λ m. Memᴰ.tail m) (best-among x xs))
+
+module _ (test : Terms → Terms → Bool) (tells : Tells test) where
+  -- one rate behind the best so far
+  module _ (old new : Terms) where
+    chosen-positive : 0 < old.q → 0 < new.q → 0 < (better test (Some old) new).q
+    unfolding better
+    chosen-positive there some = by-test (test old new) (λ t. rw t some) (λ t. rw t there)
+
+    -- it is no better
+    chosen-new : test (better test (Some old) new) new ≡ false
+    unfolding better
+    chosen-new = by-test (test old new) (λ t. rw t (tells.itself new)) (λ t. rw t t)
+
+    -- nor is what was no better before
+    chosen-old : (x : Terms) → 0 < old.q → test old x ≡ false → test (better test (Some old) new) x ≡ false
+    unfolding better
+    chosen-old x there f =
+        by-test (test old new) (λ t. rw t (tells.onward new old x there (tells.one_way old new t) f)) (λ t. rw t f)
+
+  best-above : (old : Terms) (xs : List Terms) → 0 < old.q → Proper xs → (x : Terms) → (test old x ≡ false) ⊎ Memᴰ x xs
+      → test (best_behind test old xs) x ≡ false
+  unfolding best_behind
+  best-above old [] there proper x (inl h) = h
+  best-above old [] there proper x (inr m) = absurd (Memᴰ.not-nil m)
+  best-above old (y ∷ ys) there proper x h =
+      best-above (better test (Some old) y) ys (chosen-positive old y there (proper y (Memᴰ.head refl))) (λ z m. proper z (Memᴰ.tail m)) x
+      (⊎_elim (λ f. inl (chosen-old old y x there f)) (λ m. ⊎_elim (λ e. inl (subst (λ (z : Terms). test (better test (Some old) y) z ≡ false) (sym e) (chosen-new old y))) (λ k. inr k) (Memᴰ.cases_cons m)) h)
+
+  -- no rate of a list is better than the best
+  best-of-all : (xs : List Terms) → Proper xs → (best x : Terms) → best_of test None xs ≡ Some best → Memᴰ x xs → test best x ≡ false
+  best-of-all [] proper best x e m = absurd (Memᴰ.not-nil m)
+  best-of-all (y ∷ ys) proper best x e m =
+      let same : best_behind test y ys ≡ best = same_Some _ _ (sym (best_first test y ys) ∙ e) in
+      rw (← same)
+      (best-above y ys (proper y (Memᴰ.head refl)) (λ z k. proper z (Memᴰ.tail k)) x
+      (⊎_elim (λ h. inl (subst (λ (z : Terms). test y z ≡ false) (sym h) (tells.itself y))) (λ k. inr k) (Memᴰ.cases_cons m)))
 
 -- what is counted is the best by each test
-largest-best : (t : Tally) (cs : List SetClock) → (tallied t cs).largest ≡ best_of below larger-tells t.largest (rates_of cs)
+largest-best : (t : Tally) (cs : List SetClock) → (tallied t cs).largest ≡ best_of below t.largest (rates_of cs)
 unfolding tallied counting rates_of best_of
 largest-best t [] = refl
-largest-best t (Rate x ∷ cs) = largest-best (counting t (Rate x)) cs
-largest-best t (None ∷ cs) = largest-best (counting t None) cs
-largest-best t (Refused ∷ cs) = largest-best (counting t Refused) cs
+largest-best t (Ok (Some x) ∷ cs) = largest-best (counting t (Ok (Some x))) cs
+largest-best t (Ok None ∷ cs) = largest-best (counting t (Ok None)) cs
+largest-best t (Err answer ∷ cs) = largest-best (counting t (Err answer)) cs
 
-smallest-best : (t : Tally) (cs : List SetClock) → (tallied t cs).smallest ≡ best_of (λ (x y : Terms). below y x) smaller-tells t.smallest (rates_of cs)
+smallest-best : (t : Tally) (cs : List SetClock) → (tallied t cs).smallest ≡ best_of (λ (x y : Terms). below y x) t.smallest (rates_of cs)
 unfolding tallied counting rates_of best_of
 smallest-best t [] = refl
-smallest-best t (Rate x ∷ cs) = smallest-best (counting t (Rate x)) cs
-smallest-best t (None ∷ cs) = smallest-best (counting t None) cs
-smallest-best t (Refused ∷ cs) = smallest-best (counting t Refused) cs
+smallest-best t (Ok (Some x) ∷ cs) = smallest-best (counting t (Ok (Some x))) cs
+smallest-best t (Ok None ∷ cs) = smallest-best (counting t (Ok None)) cs
+smallest-best t (Err answer ∷ cs) = smallest-best (counting t (Err answer)) cs
 
 -- a set's rate has a denominator
 Good : SetClock → Type 0
-Good (Rate x) = 0 < x.q
-Good None = Unit
-Good Refused = Unit
+Good (Ok (Some x)) = 0 < x.q
+Good (Ok None) = Unit
+Good (Err answer) = Unit
 
 set-good : (d n z : ℕ) → Good (set_clock d n z)
 unfolding set_clock Good
@@ -152,10 +163,10 @@ set-good d n z =
 
 proper-next : (c : SetClock) (cs : List SetClock) → Good c → Proper (rates_of cs) → Proper (rates_of (c ∷ cs))
 unfolding rates_of Good
-proper-next (Rate y) cs good proper x m =
+proper-next (Ok (Some y)) cs good proper x m =
     ⊎_elim (λ e. subst (λ (z : Terms). 0 < z.q) (sym e) good) (λ k. proper x k) (Memᴰ.cases_cons m)
-proper-next None cs good proper x m = proper x m
-proper-next Refused cs good proper x m = proper x m
+proper-next (Ok None) cs good proper x m = proper x m
+proper-next (Err answer) cs good proper x m = proper x m
 
 pub rates-proper : (input : List ℕ) → Proper (rates_of (set_clocks input))
 unfolding set_clocks rates_of
@@ -172,49 +183,56 @@ module _ (input : List ℕ) where
   abbrev All : Tally
   All = tallied no_tally (set_clocks input)
 
-  -- no set has a larger rate than the largest, nor a smaller one than the smallest
-  pub none-larger : (x : Terms) → Memᴰ x Rates → below All.largest x ≡ false
-  none-larger x m = rw (largest-best no_tally (set_clocks input)) (best-above below larger-tells no_tally.largest Rates (rates-proper input) x (inr m))
+  abbrev Smaller : Terms → Terms → Bool
+  Smaller = λ (x y : Terms). below y x
 
-  pub none-smaller : (x : Terms) → Memᴰ x Rates → below x All.smallest ≡ false
-  none-smaller x m =
-      rw (smallest-best no_tally (set_clocks input))
-      (best-above (λ (a b : Terms). below b a) smaller-tells no_tally.smallest Rates (rates-proper input) x (inr m))
+  largest-is : All.largest ≡ best_of below None Rates
+  unfolding no_tally
+  largest-is = largest-best no_tally (set_clocks input)
+
+  smallest-is : All.smallest ≡ best_of Smaller None Rates
+  unfolding no_tally
+  smallest-is = smallest-best no_tally (set_clocks input)
+
+  -- no set has a larger rate than the largest, nor a smaller one than the smallest
+  pub none-larger : (best x : Terms) → All.largest ≡ Some best → Memᴰ x Rates → below best x ≡ false
+  none-larger best x e m = best-of-all below larger-tells Rates (rates-proper input) best x (sym largest-is ∙ e) m
+
+  pub none-smaller : (best x : Terms) → All.smallest ≡ Some best → Memᴰ x Rates → below x best ≡ false
+  none-smaller best x e m = best-of-all Smaller smaller-tells Rates (rates-proper input) best x (sym smallest-is ∙ e) m
 
   -- and where there is a rate both are rates of sets
-  pub largest-there : 0 < length Rates → Memᴰ All.largest Rates
-  unfolding no_tally
-  largest-there some = rw (largest-best no_tally (set_clocks input)) (best-there below larger-tells Rates some)
+  pub largest-there : 0 < length Rates → (best : Terms) × (All.largest ≡ Some best) × Memᴰ best Rates
+  largest-there some = let there = best-there below Rates some in (there.0, largest-is ∙ there.1, there.2)
 
-  pub smallest-there : 0 < length Rates → Memᴰ All.smallest Rates
-  unfolding no_tally
-  smallest-there some = rw (smallest-best no_tally (set_clocks input)) (best-there (λ (a b : Terms). below b a) smaller-tells Rates some)
+  pub smallest-there : 0 < length Rates → (best : Terms) × (All.smallest ≡ Some best) × Memᴰ best Rates
+  smallest-there some = let there = best-there Smaller Rates some in (there.0, smallest-is ∙ there.1, there.2)
 
   -- '"none" if no set has a rate', and only then: a rate's denominator is above 0
-  pub no-rate-none : length Rates ≡ 0 → (All.largest ≡ no_terms) × (All.smallest ≡ no_terms)
-  unfolding no_tally
-  no-rate-none none = (
-    rw (largest-best no_tally (set_clocks input)) (best_none below larger-tells Rates none),
-    rw (smallest-best no_tally (set_clocks input)) (best_none (λ (a b : Terms). below b a) smaller-tells Rates none),
-  )
+  pub no-rate-none : length Rates ≡ 0 → (All.largest ≡ None) × (All.smallest ≡ None)
+  no-rate-none none = (largest-is ∙ best_none below Rates none, smallest-is ∙ best_none Smaller Rates none)
 
-  pub rate-some : 0 < length Rates → (0 < All.largest.q) × (0 < All.smallest.q)
-  rate-some some = (rates-proper input All.largest (largest-there some), rates-proper input All.smallest (smallest-there some))
+  pub rate-some : 0 < length Rates
+      → ((best : Terms) × (All.largest ≡ Some best) × (0 < best.q)) × ((best : Terms) × (All.smallest ≡ Some best) × (0 < best.q))
+  rate-some some =
+      let largest = largest-there some in
+      let smallest = smallest-there some in
+      ((largest.0, largest.1, rates-proper input largest.0 largest.2), (smallest.0, smallest.1, rates-proper input smallest.0 smallest.2))
 
 -- every set is counted once
 pub counts_all : (t : Tally) (cs : List SetClock) → (tallied t cs).rates + (tallied t cs).nones + (tallied t cs).refused ≡ t.rates + t.nones + t.refused + length cs
 unfolding tallied counting
 counts_all t [] = omega arith
-counts_all t (Rate x ∷ cs) = counts_all (counting t (Rate x)) cs ∙ omega arith
-counts_all t (None ∷ cs) = counts_all (counting t None) cs ∙ omega arith
-counts_all t (Refused ∷ cs) = counts_all (counting t Refused) cs ∙ omega arith
+counts_all t (Ok (Some x) ∷ cs) = counts_all (counting t (Ok (Some x))) cs ∙ omega arith
+counts_all t (Ok None ∷ cs) = counts_all (counting t (Ok None)) cs ∙ omega arith
+counts_all t (Err answer ∷ cs) = counts_all (counting t (Err answer)) cs ∙ omega arith
 
 pub rates-counted : (t : Tally) (cs : List SetClock) → (tallied t cs).rates ≡ t.rates + length (rates_of cs)
 unfolding tallied counting rates_of
 rates-counted t [] = omega arith
-rates-counted t (Rate x ∷ cs) = rates-counted (counting t (Rate x)) cs ∙ omega arith
-rates-counted t (None ∷ cs) = rates-counted (counting t None) cs
-rates-counted t (Refused ∷ cs) = rates-counted (counting t Refused) cs
+rates-counted t (Ok (Some x) ∷ cs) = rates-counted (counting t (Ok (Some x))) cs ∙ omega arith
+rates-counted t (Ok None ∷ cs) = rates-counted (counting t (Ok None)) cs
+rates-counted t (Err answer ∷ cs) = rates-counted (counting t (Err answer)) cs
 
 -- how many sets there are of a kind
 unfoldable pub how_many : (SetClock → Bool) → List SetClock → ℕ
@@ -222,14 +240,14 @@ how_many kind [] = 0
 how_many kind (c ∷ cs) = cond (kind c) 1 0 + how_many kind cs
 
 unfoldable pub is_none : SetClock → Bool
-is_none (Rate x) = false
-is_none None = true
-is_none Refused = false
+is_none (Ok (Some x)) = false
+is_none (Ok None) = true
+is_none (Err answer) = false
 
 unfoldable pub is_refused : SetClock → Bool
-is_refused (Rate x) = false
-is_refused None = false
-is_refused Refused = true
+is_refused (Ok (Some x)) = false
+is_refused (Ok None) = false
+is_refused (Err answer) = true
 
 -- a count that each set of a kind adds 1 to
 kind-counted : (count : Tally → ℕ) (kind : SetClock → Bool) → ((t : Tally) (c : SetClock) → count (counting t c) ≡ count t + cond (kind c) 1 0)
@@ -240,15 +258,15 @@ kind-counted count kind each t (c ∷ cs) = kind-counted count kind each (counti
 
 none-adds : (t : Tally) (c : SetClock) → (counting t c).nones ≡ t.nones + cond (is_none c) 1 0
 unfolding counting is_none
-none-adds t (Rate x) = omega arith
-none-adds t None = refl
-none-adds t Refused = omega arith
+none-adds t (Ok (Some x)) = omega arith
+none-adds t (Ok None) = refl
+none-adds t (Err answer) = omega arith
 
 refused-adds : (t : Tally) (c : SetClock) → (counting t c).refused ≡ t.refused + cond (is_refused c) 1 0
 unfolding counting is_refused
-refused-adds t (Rate x) = omega arith
-refused-adds t None = omega arith
-refused-adds t Refused = refl
+refused-adds t (Ok (Some x)) = omega arith
+refused-adds t (Ok None) = omega arith
+refused-adds t (Err answer) = refl
 
 -- and so are nones and refused sets
 pub nones-counted : (t : Tally) (cs : List SetClock) → (tallied t cs).nones ≡ t.nones + how_many is_none cs

@@ -4,10 +4,9 @@ use mathlib.Core.List.{List, [], ◌∷◌, ◌++◌, append_assoc}
 use mathlib.Core.Path.{◌≡◌, refl, sym, ap, ◌∙◌}
 use native.Mathlib.Omega.{arith}
 use lib.ListN.{length}
-use Rattle.clock_text.specs.declared.sets.SetClock.{SetClock}
 use Rattle.clock_text.specs.declared.tally.Tally.{Tally}
 use Rattle.clock_text.specs.Report.{clock_line, clock_lines}
-use Rattle.clock_text.specs.Sets.{counting, set_clock, set_clocks, tallied}
+use Rattle.clock_text.specs.Sets.{SetClock, counting, set_clock, set_clocks, tallied}
 
 pub sets-in-parts : (a b : List ℕ) → length a % 3 ≡ 0 → set_clocks (a ++ b) ≡ set_clocks a ++ set_clocks b
 unfolding set_clocks

@@ -1,4 +1,5 @@
 -- How long the lines are at most: a set's line 15 bytes, the summary 131. Assumes nothing.
+use Rattle.std.specs.Prelude.{Option, Some, None, Ok, Err}
 use Prim.Native.Nat.{ℕ, suc, ◌+◌, ◌*◌, ◌^◌, ◌≤◌, ◌<◌}
 use mathlib.Core.Bool.{not, ◌||◌}
 use mathlib.Core.List.{List, [], ◌∷◌, ◌++◌}
@@ -9,6 +10,7 @@ use lib.Dec.{eqb, lit<}
 use lib.ListN.{length, length-append}
 use Rattle.bits.specs.Store.{bit}
 use Rattle.bits.proofs.Test.{by-test}
+use Rattle.file.specs.declared.answer.Answer.TheVariants.{Malformed}
 use Rattle.file.specs.Answers.{code_of}
 use Rattle.file.specs.Readers.{ascii}
 use Rattle.text.specs.Text.{decimal, decimal_places, newline, space}
@@ -18,12 +20,10 @@ use Rattle.clock.specs.declared.terms.Terms.{Terms}
 use Rattle.clock.specs.Clock.{denominator, divisor, product, terms_of}
 use Rattle.clock.specs.Lowest.{common_divisor, lowest, no_terms}
 use Rattle.clock.proofs.RateRounds.{divisor-most, product-most}
-use Rattle.clock_text.specs.declared.sets.SetClock.{SetClock}
-use Rattle.clock_text.specs.declared.sets.SetClock.TheVariants.{Rate, None, Refused}
 use Rattle.clock_text.specs.declared.tally.Tally.{Tally}
 use Rattle.clock_text.specs.Parts.{summary_most}
 use Rattle.clock_text.specs.Report.{clock_line, clock_lines, clock_text, counts_line, rate_text, summary, terms_text}
-use Rattle.clock_text.specs.Sets.{set_clock, set_clocks, set_count}
+use Rattle.clock_text.specs.Sets.{SetClock, set_clock, set_clocks, set_count}
 
 -- a number below 10^j has at most j digits
 pub decimal-most : (j n : ℕ) → n < 10 ^ suc j → length (decimal n) ≤ suc j
@@ -60,22 +60,22 @@ terms-under d n =
     (λ t. rw t (le_trans (lowest-under (product n) (divisor d)) (divisor-most d)))
 
 -- ten digits, a slash, three digits and a newline
-rate-most : (d n : ℕ) → length (clock_line (Rate (terms_of d n))) ≤ 15
-unfolding clock_text
+rate-most : (d n : ℕ) → length (clock_line (Ok (Some (terms_of d n)))) ≤ 15
+unfolding clock_text rate_text
 rate-most d n =
     omega (
       arith,
-      line-length (Rate (terms_of d n)),
+      line-length (Ok (Some (terms_of d n))),
       terms-length (terms_of d n),
       decimal-most 9 (terms_of d n).p (omega (arith, terms-over d n)),
       decimal-most 2 (terms_of d n).q (omega (arith, terms-under d n)),
     )
 
-none-most : length (clock_line None) ≤ 15
-unfolding clock_line clock_text ascii newline
+none-most : length (clock_line (Ok None)) ≤ 15
+unfolding clock_line clock_text rate_text ascii newline
 none-most = omega arith
 
-refused-most : length (clock_line Refused) ≤ 15
+refused-most : length (clock_line (Err Malformed)) ≤ 15
 unfolding clock_line clock_text code_of decimal decimal_places newline
 refused-most = omega arith
 
@@ -92,30 +92,32 @@ lines-most (d ∷ []) = rw length-append (omega (arith, refused-most))
 lines-most (d ∷ n ∷ []) = rw length-append (omega (arith, refused-most))
 lines-most (d ∷ n ∷ z ∷ rest) = rw length-append (omega (arith, line-most d n z, lines-most rest))
 
+-- a rate's numbers, as their type has them
+unfoldable pub SizedRate : Option Terms → Type 0
+SizedRate None = Unit {0}
+SizedRate (Some t) = (t.p < 2 ^ 32) × (t.q < 2 ^ 32)
+
 -- two numbers of ten digits and a slash, or none
-rate-text-most : (t : Terms) → t.p < 2 ^ 32 → t.q < 2 ^ 32 → length (rate_text t) ≤ 21
-unfolding rate_text ascii
-rate-text-most t h k =
-    by-test (eqb t.q 0) (λ e. rw e (omega arith))
-    (λ e. rw e (omega (arith, terms-length t, decimal-most 9 t.p (omega (arith, h)), decimal-most 9 t.q (omega (arith, k)))))
+rate-text-most : (rate : Option Terms) → SizedRate rate → length (rate_text rate) ≤ 21
+unfolding rate_text ascii SizedRate
+rate-text-most None s = omega arith
+rate-text-most (Some t) s = omega (arith, terms-length t, decimal-most 9 t.p (omega (arith, s.0)), decimal-most 9 t.q (omega (arith, s.1)))
 
 -- a tally's numbers, as its type has them
 pub record Sized (t : Tally) : Type 0 where
   pub rates : t.rates < 2 ^ 64
   pub nones : t.nones < 2 ^ 64
   pub refused : t.refused < 2 ^ 64
-  pub largest-p : t.largest.p < 2 ^ 32
-  pub largest-q : t.largest.q < 2 ^ 32
-  pub smallest-p : t.smallest.p < 2 ^ 32
-  pub smallest-q : t.smallest.q < 2 ^ 32
+  pub largest : SizedRate t.largest
+  pub smallest : SizedRate t.smallest
 
 pub counts-length : (t : Tally) → length (counts_line t) ≡ 7 + length (decimal t.rates) + 1 + length (decimal t.nones) + 1 + length (decimal t.refused) + 1
 unfolding counts_line ascii space newline
 counts-length t = simp length-append (omega arith)
 
-pub rate-line-length : (word : List ℕ) (t : Terms) → length (word ++ rate_text t ++ newline) ≡ length word + length (rate_text t) + 1
+pub rate-line-length : (word : List ℕ) (rate : Option Terms) → length (word ++ rate_text rate ++ newline) ≡ length word + length (rate_text rate) + 1
 unfolding newline
-rate-line-length word t = simp length-append (omega arith)
+rate-line-length word rate = simp length-append (omega arith)
 
 pub summary-length : (t : Tally) → length (summary t)
     ≡ length (counts_line t) + length (ascii "largest " ++ rate_text t.largest ++ newline) + length (ascii "smallest " ++ rate_text t.smallest ++ newline)
@@ -134,6 +136,6 @@ summary-most t s =
       decimal-most 19 t.rates (omega (arith, s.rates, lit< {m = 18446744073709551615} {n = 10 ^ 20} tt)),
       decimal-most 19 t.nones (omega (arith, s.nones, lit< {m = 18446744073709551615} {n = 10 ^ 20} tt)),
       decimal-most 19 t.refused (omega (arith, s.refused, lit< {m = 18446744073709551615} {n = 10 ^ 20} tt)),
-      rate-text-most t.largest s.largest-p s.largest-q,
-      rate-text-most t.smallest s.smallest-p s.smallest-q,
+      rate-text-most t.largest s.largest,
+      rate-text-most t.smallest s.smallest,
     )

@@ -1,6 +1,6 @@
-pub mod TextsPut
 pub mod SetsInTurn
 pub mod Lengths
+pub mod Typed
 pub mod SetsPut
 pub mod PartsReported
 pub mod BestOfAll

@@ -1,22 +1,25 @@
 -- A part of the input, the summary and the whole, over a buffer. Assumes nothing.
+use Rattle.std.specs.Prelude.{Result, Ok, Err}
 use Prim.Native.Nat.{ℕ, ◌+◌, ◌*◌, ◌≤◌}
 use mathlib.Core.Bool.{true, false, ◌&&◌}
 use mathlib.Core.List.{List}
-use mathlib.Core.Path.{◌≡◌, refl, sym, ap, ◌∙◌}
+use mathlib.Core.Path.{◌≡◌, refl, sym, ap, ap₂, ◌∙◌}
+use native.Mathlib.Nat.{zero-add}
 use native.Mathlib.Omega.{arith}
 use borrow.Author.Tests.{le-leb, leb-true}
 use lib.Dec.{T, leb, leb→le}
 use lib.ListN.{length, length-append}
 use lib.Seq.{length-sets, sets-eq}
 use Rattle.bits.proofs.Test.{left, right, passes}
+use Rattle.file.specs.declared.answer.Answer.{Answer}
 use Rattle.file.specs.declared.answer.Answer.TheVariants.{Done, OutOfRange, ShortBuffer}
 use Rattle.file.specs.Answers.{code_of, refused}
 use Rattle.text.specs.declared.placed.Placed.{Placed}
-use Rattle.text.specs.Lent.{Lined, Wrote, behind_by, placed_by}
+use Rattle.text.specs.Lent.{Lined, Wrote, placed_by}
 use Rattle.text.proofs.Stores.{then-text, unplaced, whole, wrote}
 use Rattle.clock_text.specs.declared.parts.SetsPart.{SetsPart}
 use Rattle.clock_text.specs.declared.tally.Tally.{Tally}
-use Rattle.clock_text.specs.Parts.{Countable, LinesPut, PartReported, counts_fit, part_answer, report_answer, sets_fit, summary_answer, summary_most}
+use Rattle.clock_text.specs.Parts.{Countable, LinesPut, PartReported, counts_fit, part_answer, part_left, report_answer, sets_fit, summary_answer, summary_most}
 use Rattle.clock_text.specs.Report.{clock_lines, report, summary}
 use Rattle.clock_text.specs.Sets.{no_tally, set_clocks, set_count, tallied}
 use Rattle.clock_text.proofs.Lengths.{Sized, lines-most, summary-most}
@@ -41,26 +44,32 @@ countable t count e =
 
 module _ (before : Tally) (part lines₀ : List ℕ) where
   -- refused: nothing is counted, and the buffer stays
-  pub part-short : sets_fit (set_count part) 0 (length lines₀) ≡ false
-      → PartReported before part lines₀ lines₀ (record { answer = ShortBuffer; tally = before; end = 0 })
-  unfolding part_answer behind_by placed_by refused code_of
-  part-short e = record { answered = rw e refl; tally = refl; ended = refl; lined = refl }
+  refusal : (answer : Answer) → part_answer before part lines₀ ≡ answer → refused answer ≡ true → PartReported before part lines₀ lines₀ (Err answer)
+  unfolding placed_by
+  refusal answer e r = record { answered = rw (e, r) refl; lined = rw (e, r) refl }
+
+  pub part-short : sets_fit (set_count part) 0 (length lines₀) ≡ false → PartReported before part lines₀ lines₀ (Err ShortBuffer)
+  unfolding part_answer refused code_of
+  part-short e = refusal ShortBuffer (rw e refl) refl
 
   pub part-full : sets_fit (set_count part) 0 (length lines₀) ≡ true → counts_fit before (set_count part) ≡ false
-      → PartReported before part lines₀ lines₀ (record { answer = OutOfRange; tally = before; end = 0 })
-  unfolding part_answer behind_by placed_by refused code_of
-  part-full e n = record { answered = rw (e, n) refl; tally = refl; ended = refl; lined = refl }
+      → PartReported before part lines₀ lines₀ (Err OutOfRange)
+  unfolding part_answer refused code_of
+  part-full e n = refusal OutOfRange (rw (e, n) refl) refl
+
+  -- what is left of a part that is not
+  left_is : (lines : List ℕ) (r : SetsPart) → LinesPut before part lines₀ lines r → r ≡ part_left before part
+  unfolding part_left
+  left_is lines r p = ap₂ (λ (t : Tally) (n : ℕ). record { tally = t; end = n }) p.tally (p.wrote.place ∙ zero-add _)
 
   pub part-done : sets_fit (set_count part) 0 (length lines₀) ≡ true → counts_fit before (set_count part) ≡ true → (lines : List ℕ) (r : SetsPart)
-      → LinesPut before part lines₀ lines r → PartReported before part lines₀ lines r
-  unfolding part_answer behind_by placed_by refused code_of
+      → LinesPut before part lines₀ lines r → PartReported before part lines₀ lines (Ok r)
+  unfolding part_answer placed_by refused code_of
   part-done e n lines r p =
       let room = sets-room (set_count part) 0 (length lines₀) e in
       record {
-        answered = p.answered ∙ rw (e, n) refl;
-        tally = rw p.answered p.tally;
-        ended = rw p.answered p.wrote.place;
-        lined = rw p.answered (p.wrote.bytes ∙ sets-eq (clock_lines (set_clocks part)) lines₀ 0 (omega (arith, room, lines-most part)));
+        answered = rw (e, n) (ap Ok (left_is lines r p));
+        lined = rw (e, n) (p.wrote.bytes ∙ sets-eq (clock_lines (set_clocks part)) lines₀ 0 (omega (arith, room, lines-most part)));
       }
 
 -- the summary
@@ -92,32 +101,46 @@ module _ (input lines₀ : List ℕ) where
     answers =
         rw (le-leb (15 * set_count input + 0) (length lines₀) (omega (arith, wide)), le-leb (0 + set_count input) 18446744073709551615 (omega (arith, few)))
 
-    module _ (p : SetsPart) (lines₁ : List ℕ) (parted : PartReported no_tally input lines₀ lines₁ p) (sized : Sized p.tally) where
-      done : p.answer ≡ Done 0
-      done = parted.answered ∙ answers
-
-      counted : p.tally ≡ tallied no_tally (set_clocks input)
+    module _ (r : Result SetsPart Answer) (lines₁ : List ℕ) (parted : PartReported no_tally input lines₀ lines₁ r) where
+      told : r ≡ Ok (part_left no_tally input)
       unfolding refused code_of
-      counted = rw done at parted.tally
+      told = parted.answered ∙ rw answers refl
 
-      lines-wrote : Wrote lines₀ 0 (clock_lines (set_clocks input)) lines₁ p.end
-      unfolding placed_by behind_by refused code_of
+      -- so it is not refused
+      pub never-refused : (answer : Answer) → r ≡ Err answer → ⊥
+      never-refused answer e =
+          let never : ◌≡◌ {A = Result SetsPart Answer} (Ok (part_left no_tally input)) (Err answer) = sym told ∙ e in cc
+
+      lines-wrote : Wrote lines₀ 0 (clock_lines (set_clocks input)) lines₁ (part_left no_tally input).end
+      unfolding placed_by refused code_of part_left
       lines-wrote =
           record {
-            bytes = rw done at parted.lined ∙ sym (sets-eq (clock_lines (set_clocks input)) lines₀ 0 (omega (arith, wide, lines-most input)));
-            place = rw done at parted.ended;
+            bytes =
+                parted.lined
+                ∙ rw answers (sym (sets-eq (clock_lines (set_clocks input)) lines₀ 0 (omega (arith, wide, lines-most input))));
+            place = omega arith;
           }
 
       -- and then the summary
-      pub report-done : (lines₂ : List ℕ) (r : Placed) → Lined (summary_answer lines₁ p.end) p.end (summary p.tally) lines₁ lines₂ r
-          → Lined (report_answer input lines₀) 0 (report input) lines₀ lines₂ r
-      unfolding report_answer report summary_answer
-      report-done lines₂ r last =
-          let long : length lines₁ ≡ length lines₀ = ap length lines-wrote.bytes ∙ length-sets lines₀ 0 (clock_lines (set_clocks input)) in
-          let left_over : p.end + summary_most ≤ length lines₁ = omega (arith, wide, lines-most input, long, lines-wrote.place) in
-          let yes : summary_answer lines₁ p.end ≡ Done 0 = rw (le-leb (p.end + summary_most) (length lines₁) left_over) refl in
-          let short = summary-most p.tally sized in
-          let same = ap (λ (t : Tally). length (summary t)) counted in
-          let both = rw counted at (then-text lines-wrote (wrote lines₁ p.end (summary p.tally) yes (omega (arith, left_over, short)) last)) in
-          let all = whole lines₀ 0 (report input) {answer = report_answer input lines₀} (rw room refl) (simp length-append (omega (arith, wide, lines-most input, short, same))) both in
-          record { answered = last.answered ∙ yes ∙ all.answered; ended = all.ended; bytes = all.bytes }
+      module _ (p : SetsPart) (so : r ≡ Ok p) (short : length (summary p.tally) ≤ summary_most) (lines₂ : List ℕ) (last : Placed)
+          (lined : Lined (summary_answer lines₁ p.end) p.end (summary p.tally) lines₁ lines₂ last) where
+        parts : p ≡ part_left no_tally input
+        parts = let same : ◌≡◌ {A = Result SetsPart Answer} (Ok p) (Ok (part_left no_tally input)) = sym so ∙ told in cc
+
+        counted : p.tally ≡ tallied no_tally (set_clocks input)
+        unfolding part_left
+        counted = ap (λ (x : SetsPart). x.tally) parts
+
+        ends : Wrote lines₀ 0 (clock_lines (set_clocks input)) lines₁ p.end
+        ends = rw parts lines-wrote
+
+        pub report-done : Lined (report_answer input lines₀) 0 (report input) lines₀ lines₂ last
+        unfolding report_answer report summary_answer
+        report-done =
+            let long : length lines₁ ≡ length lines₀ = ap length ends.bytes ∙ length-sets lines₀ 0 (clock_lines (set_clocks input)) in
+            let left_over : p.end + summary_most ≤ length lines₁ = omega (arith, wide, lines-most input, long, ends.place) in
+            let yes : summary_answer lines₁ p.end ≡ Done 0 = rw (le-leb (p.end + summary_most) (length lines₁) left_over) refl in
+            let same = ap (λ (t : Tally). length (summary t)) counted in
+            let both = rw counted at (then-text ends (wrote lines₁ p.end (summary p.tally) yes (omega (arith, left_over, short)) lined)) in
+            let all = whole lines₀ 0 (report input) {answer = report_answer input lines₀} (rw room refl) (simp length-append (omega (arith, wide, lines-most input, short, same))) both in
+            record { answered = lined.answered ∙ yes ∙ all.answered; ended = all.ended; bytes = all.bytes }

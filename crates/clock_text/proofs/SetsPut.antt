@@ -1,84 +1,88 @@
 -- The sets counted and their lines stored, set by set. Assumes nothing.
-use Prim.Native.Nat.{ℕ, suc, ◌+◌, ◌-◌, ◌*◌, ◌≤◌, ◌<◌}
-use mathlib.Core.List.{List, [], ◌∷◌}
+use Rattle.std.specs.Prelude.{Some, None, Ok, Err}
+use Prim.Native.Nat.{ℕ, ◌+◌, ◌*◌, ◌≤◌, ◌<◌, min}
+use mathlib.Core.List.{List, ◌∷◌, ◌++◌}
 use mathlib.Core.Path.{◌≡◌, refl, sym, ap, ◌∙◌}
 use native.Mathlib.Omega.{arith}
-use lib.ListN.{length, drop, drop_of_length-le, length-append}
+use Rattle.std.proofs.lemmas.List.{nil_from_length}
+use lib.ListN.{length, length-append}
 use lib.Seq.{sets, length-sets}
-use Rattle.file.specs.declared.answer.Answer.TheVariants.{Done}
 use Rattle.text.specs.Lent.{Wrote}
 use Rattle.text.proofs.Stores.{rest-stored}
-use Rattle.clock_text.specs.declared.sets.SetClock.{SetClock}
-use Rattle.clock_text.specs.declared.sets.SetClock.TheVariants.{Rate, None, Refused}
 use Rattle.clock_text.specs.declared.tally.Tally.{Tally}
 use Rattle.clock_text.specs.Parts.{Countable, LinesPut}
 use Rattle.clock_text.specs.Report.{clock_line, clock_lines}
-use Rattle.clock_text.specs.Sets.{counting, set_clocks, set_count, tallied}
+use Rattle.clock_text.specs.Sets.{SetClock, counting, set_clocks, set_count, set_of, tallied}
 use Rattle.clock_text.proofs.Lengths.{lines-most}
+use Rattle.clock_text.proofs.SetsInTurn.{chunk_count, chunk_set}
 
 -- one set more, and one less to come
-countable-next : (t : Tally) (c : SetClock) (k : ℕ) → Countable t (suc k) → Countable (counting t c) k
+countable-next : (t : Tally) (c : SetClock) (k : ℕ) → Countable t (k + 1) → Countable (counting t c) k
 unfolding counting
-countable-next t (Rate new) k h = record { rates = omega (arith, h.rates); nones = omega (arith, h.nones); refused = omega (arith, h.refused) }
-countable-next t None k h = record { rates = omega (arith, h.rates); nones = omega (arith, h.nones); refused = omega (arith, h.refused) }
-countable-next t Refused k h = record { rates = omega (arith, h.rates); nones = omega (arith, h.nones); refused = omega (arith, h.refused) }
+countable-next t (Ok (Some new)) k h = record { rates = omega (arith, h.rates); nones = omega (arith, h.nones); refused = omega (arith, h.refused) }
+countable-next t (Ok None) k h = record { rates = omega (arith, h.rates); nones = omega (arith, h.nones); refused = omega (arith, h.refused) }
+countable-next t (Err answer) k h = record { rates = omega (arith, h.rates); nones = omega (arith, h.nones); refused = omega (arith, h.refused) }
 
-pub countable-one : (t : Tally) (k : ℕ) → 0 < k → Countable t k → Countable t 1
-countable-one t k some h = record { rates = omega (arith, h.rates); nones = omega (arith, h.nones); refused = omega (arith, h.refused) }
-
--- behind so many sets: what is left, counted and stored, gives the whole
-pub record Putting (before : Tally) (input lines₀ lines : List ℕ) (tally : Tally) (end i : ℕ) : Type 0 where
-  pub counted : tallied tally (set_clocks (drop (3 * i) input)) ≡ tallied before (set_clocks input)
-  pub stored : sets lines end (clock_lines (set_clocks (drop (3 * i) input))) ≡ sets lines₀ 0 (clock_lines (set_clocks input))
-  pub place : end + length (clock_lines (set_clocks (drop (3 * i) input))) ≡ length (clock_lines (set_clocks input))
+-- behind some sets: what is left, counted and stored, gives the whole
+pub record Putting (before : Tally) (input lines₀ lines : List ℕ) (tally : Tally) (end : ℕ) (left : List ℕ) : Type 0 where
+  pub counted : tallied tally (set_clocks left) ≡ tallied before (set_clocks input)
+  pub stored : sets lines end (clock_lines (set_clocks left)) ≡ sets lines₀ 0 (clock_lines (set_clocks input))
+  pub place : end + length (clock_lines (set_clocks left)) ≡ length (clock_lines (set_clocks input))
   pub long : length lines ≡ length lines₀
-  pub few : i ≤ set_count input
-  pub room : Countable tally (set_count input - i)
+  pub room : Countable tally (set_count left)
 
-module _ (before : Tally) (input lines₀ : List ℕ) (wide : 15 * set_count input ≤ length lines₀) where
-  pub putting-none : Countable before (set_count input) → Putting before input lines₀ lines₀ before 0 0
-  putting-none room =
-      record { counted = refl; stored = refl; place = omega arith; long = refl; few = omega arith; room = rw (less (set_count input)) room }
-    where
-      less : (n : ℕ) → n - 0 ≡ n
-      less n = omega arith
+module _ (before : Tally) (input lines₀ : List ℕ) where
+  pub putting-none : Countable before (set_count input) → Putting before input lines₀ lines₀ before 0 input
+  putting-none room = record { counted = refl; stored = refl; place = omega arith; long = refl; room = room }
 
-  module _ (lines : List ℕ) (tally : Tally) (end i : ℕ) (held : Putting before input lines₀ lines tally end i) (c : SetClock)
-      (next : c ∷ set_clocks (drop (3 * i + 3) input) ≡ set_clocks (drop (3 * i) input)) where
-    line-next : length (clock_line c) + length (clock_lines (set_clocks (drop (3 * i + 3) input))) ≡ length (clock_lines (set_clocks (drop (3 * i) input)))
-    unfolding clock_lines
-    line-next = sym (length-append (clock_line c) (clock_lines (set_clocks (drop (3 * i + 3) input)))) ∙ ap (λ (cs : List SetClock). length (clock_lines cs)) next
+  module _ (lines : List ℕ) (tally : Tally) (end : ℕ) (left : List ℕ) (held : Putting before input lines₀ lines tally end left) where
+    -- the next set
+    module _ (set rest : List ℕ) (e : left ≡ set ++ rest) (few : length set ≡ min 3 (length left)) (some : 0 < length left) where
+      short : length set ≡ min 3 (length set + length rest)
+      short = few ∙ ap (min 3) (ap length e ∙ length-append set rest)
 
-    -- the next line has room
-    pub line-fits : end + length (clock_line c) ≤ length lines
-    line-fits = omega (arith, line-next, held.place, held.long, lines-most input, wide)
+      there : 0 < length set
+      there = omega (arith, few, some)
 
-    pub putting-next : (lines' : List ℕ) (end' : ℕ) → i < set_count input → Wrote lines end (clock_line c) lines' end'
-        → Putting before input lines₀ lines' (counting tally c) end' (i + 1)
-    unfolding clock_lines tallied
-    putting-next lines' end' more wrote =
-        let on : 3 * (i + 1) ≡ 3 * i + 3 = omega arith in
-        let less : set_count input - i ≡ suc (set_count input - (i + 1)) = omega (arith, more) in
+      next : set_clocks left ≡ set_of set ∷ set_clocks rest
+      next = ap set_clocks e ∙ chunk_set set rest short there
+
+      count : set_count left ≡ set_count rest + 1
+      count = ap set_count e ∙ chunk_count set rest short there
+
+      line-next : length (clock_lines (set_clocks left)) ≡ length (clock_line (set_of set)) + length (clock_lines (set_clocks rest))
+      unfolding clock_lines
+      line-next = ap (λ (cs : List SetClock). length (clock_lines cs)) next ∙ length-append (clock_line (set_of set)) (clock_lines (set_clocks rest))
+
+      -- has numbers, and its line has room
+      pub counts-one : Countable tally 1
+      counts-one =
+          record { rates = omega (arith, held.room.rates, count); nones = omega (arith, held.room.nones, count); refused = omega (arith, held.room.refused, count) }
+
+      pub line-fits : 15 * set_count input ≤ length lines₀ → end + length (clock_line (set_of set)) ≤ length lines
+      line-fits wide = omega (arith, line-next, held.place, held.long, lines-most input, wide)
+
+      pub putting-next : (lines' : List ℕ) (end' : ℕ) → Wrote lines end (clock_line (set_of set)) lines' end'
+          → Putting before input lines₀ lines' (counting tally (set_of set)) end' rest
+      unfolding clock_lines tallied
+      putting-next lines' end' wrote =
+          record {
+            counted = ap (tallied tally) (sym next) ∙ held.counted;
+            stored =
+                rest-stored (clock_lines (set_clocks rest)) wrote
+                ∙ ap (λ (cs : List SetClock). sets lines end (clock_lines cs)) (sym next)
+                ∙ held.stored;
+            place = omega (arith, wrote.place, line-next, held.place);
+            long = ap length wrote.bytes ∙ length-sets lines end (clock_line (set_of set)) ∙ held.long;
+            room = countable-next tally (set_of set) (set_count rest) (rw count at held.room);
+          }
+
+    -- none is left
+    pub putting-all : length left ≡ 0 → LinesPut before input lines₀ lines (record { tally = tally; end = end })
+    unfolding set_clocks clock_lines tallied
+    putting-all none =
+        let gone = nil_from_length left none in
         record {
-          counted = rw on (ap (tallied tally) next ∙ held.counted);
-          stored =
-              rw on (rest-stored (clock_lines (set_clocks (drop (3 * i + 3) input))) wrote
-              ∙ ap (λ (cs : List SetClock). sets lines end (clock_lines cs)) next
-              ∙ held.stored);
-          place = rw on (omega (arith, wrote.place, line-next, held.place));
-          long = ap length wrote.bytes ∙ length-sets lines end (clock_line c) ∙ held.long;
-          few = omega (arith, more);
-          room = countable-next tally c (set_count input - (i + 1)) (rw less at held.room);
+          tally = rw gone at held.counted;
+          wrote = record { bytes = rw gone at held.stored; place = omega (arith, rw gone at held.place) };
         }
-
-  -- none is left
-  pub putting-all : (lines : List ℕ) (tally : Tally) (end i : ℕ) → Putting before input lines₀ lines tally end i → set_count input ≤ i
-      → LinesPut before input lines₀ lines (record { answer = Done 0; tally = tally; end = end })
-  unfolding set_clocks clock_lines tallied set_count
-  putting-all lines tally end i held all =
-      let none : drop (3 * i) input ≡ [] = drop_of_length-le input {i = 3 * i} (omega (arith, all)) in
-      record {
-        answered = refl;
-        tally = rw none at held.counted;
-        wrote = record { bytes = rw none at held.stored; place = omega (arith, rw none at held.place) };
-      }

@@ -1,10 +1,10 @@
 -- 02, 12/13: the report over lent bytes, of a part of the input and of the whole.
 -- Assumes nothing.
-use Rattle.std.specs.Prelude.{ℕ, ◌+◌, ◌*◌, ◌≤◌, Bool, cond, ◌&&◌, List, ◌≡◌, leb, length}
+use Rattle.std.specs.Prelude.{ℕ, ◌+◌, ◌*◌, ◌≤◌, Bool, cond, ◌&&◌, List, ◌≡◌, Result, Ok, Err, leb, length}
 use Rattle.file.specs.declared.answer.Answer.{Answer}
 use Rattle.file.specs.declared.answer.Answer.TheVariants.{Done, OutOfRange, ShortBuffer}
 use Rattle.file.specs.Answers.{refused}
-use Rattle.text.specs.Lent.{Wrote, behind_by, placed_by}
+use Rattle.text.specs.Lent.{Wrote, placed_by}
 use Rattle.clock_text.specs.declared.parts.SetsPart.{SetsPart}
 use Rattle.clock_text.specs.declared.tally.Tally.{Tally}
 use Rattle.clock_text.specs.Report.{clock_lines}
@@ -32,16 +32,17 @@ part_answer before part lines =
 
 -- a part of the input that is not refused: what comes back, and what the buffer holds, its lines stored byte by byte
 pub record LinesPut (before : Tally) (part lines₀ lines : List ℕ) (r : SetsPart) : Type 0 where
-  pub answered : r.answer ≡ Done 0
   pub tally : r.tally ≡ tallied before (set_clocks part)
   pub wrote : Wrote lines₀ 0 (clock_lines (set_clocks part)) lines r.end
 
+-- what a part of the input leaves
+unfoldable pub part_left : Tally → List ℕ → SetsPart
+part_left before part = record { tally = tallied before (set_clocks part); end = length (clock_lines (set_clocks part)) }
+
 -- a part of the input behind what was counted: what comes back, and what the buffer holds
-pub record PartReported (before : Tally) (part lines₀ lines : List ℕ) (r : SetsPart) : Type 0 where
-  pub answered : r.answer ≡ part_answer before part lines₀
-  pub tally : r.tally ≡ cond (refused r.answer) before (tallied before (set_clocks part))
-  pub ended : r.end ≡ behind_by r.answer 0 (clock_lines (set_clocks part))
-  pub lined : lines ≡ placed_by r.answer lines₀ 0 (clock_lines (set_clocks part))
+pub record PartReported (before : Tally) (part lines₀ lines : List ℕ) (r : Result SetsPart Answer) : Type 0 where
+  pub answered : r ≡ cond (refused (part_answer before part lines₀)) (Err (part_answer before part lines₀)) (Ok (part_left before part))
+  pub lined : lines ≡ placed_by (part_answer before part lines₀) lines₀ 0 (clock_lines (set_clocks part))
 
 -- the most bytes that the summary has: three numbers of 20 digits, two rates of twice ten, and the words (DECISIONS, point 116)
 unfoldable pub summary_most : ℕ

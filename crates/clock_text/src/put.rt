@@ -1,71 +1,53 @@
 // Texts stored into a lent buffer that has room for them.
 ghost use Rattle.std.specs.Prelude.{◌++◌, ◌+◌, ◌≤◌, length};
 ghost use Rattle.text.specs.Lent.{Wrote};
-ghost use Rattle.text.specs.Text.{decimal, newline};
+ghost use Rattle.text.specs.Text.{newline};
 ghost use Rattle.clock_text.specs.Report.{clock_line, clock_text, counts_line, rate_text, summary, terms_text};
 
-use crate::sets::SetClock;
-use crate::tally::{Tally, whole};
+use crate::tally::Tally;
 use clock::Terms;
-
-// A text from a place on; the place behind it.
-fn put(text: &[u8], buffer: &mut [u8], at: usize) -> usize
-    requires { at + length text.now ≤ length buffer.old }
-    ensures { Wrote buffer.old at text.now buffer.new result }
-{
-    let end = at + text.len();
-    buffer[at..end].copy_from_slice(text);
-    end
-}
-
-// A number in decimal.
-fn put_number(n: u64, buffer: &mut [u8], at: usize) -> usize
-    requires { at + length (decimal n) ≤ length buffer.old }
-    ensures { Wrote buffer.old at (decimal n) buffer.new result }
-{
-    let mut digits = [0u8; 20];
-    let count = io::decimal(n, &mut digits);
-    put(&digits[..count], buffer, at)
-}
+use file::Answer;
+use text::{put, put_behind, put_number};
 
 // p/q.
 fn put_terms(terms: Terms, buffer: &mut [u8], at: usize) -> usize
     requires { at + length (terms_text terms) ≤ length buffer.old }
     ensures { Wrote buffer.old at (terms_text terms) buffer.new result }
 {
-    let at = put_number(whole(terms.p), buffer, at);
+    let at = put_number(u64::from(terms.p), buffer, at);
     let at = put(b"/", buffer, at);
-    put_number(whole(terms.q), buffer, at)
+    put_number(u64::from(terms.q), buffer, at)
 }
 
-// What a set says, without its newline.
-fn put_clock(clock: SetClock, buffer: &mut [u8], at: usize) -> usize
+// A rate, or that there is none.
+fn put_rate(rate: Option<Terms>, buffer: &mut [u8], at: usize) -> usize
+    requires { at + length (rate_text rate) ≤ length buffer.old }
+    ensures { Wrote buffer.old at (rate_text rate) buffer.new result }
+{
+    match rate {
+        Some(terms) => put_terms(terms, buffer, at),
+        None => put(b"none", buffer, at),
+    }
+}
+
+// What a set says, without its newline: the code where it is refused.
+fn put_clock(clock: Result<Option<Terms>, Answer>, buffer: &mut [u8], at: usize) -> usize
     requires { at + length (clock_text clock) ≤ length buffer.old }
     ensures { Wrote buffer.old at (clock_text clock) buffer.new result }
 {
     match clock {
-        SetClock::Rate(terms) => put_terms(terms, buffer, at),
-        SetClock::None => put(b"none", buffer, at),
-        SetClock::Refused => put(b"2", buffer, at),
+        Ok(rate) => put_rate(rate, buffer, at),
+        Err(answer) => put_number(u64::from(answer.code()), buffer, at),
     }
 }
 
 // The line of a set.
-pub fn put_line(clock: SetClock, buffer: &mut [u8], at: usize) -> usize
+pub fn put_line(clock: Result<Option<Terms>, Answer>, buffer: &mut [u8], at: usize) -> usize
     requires { at + length (clock_line clock) ≤ length buffer.old }
     ensures { Wrote buffer.old at (clock_line clock) buffer.new result }
 {
     let at = put_clock(clock, buffer, at);
     put(b"\n", buffer, at)
-}
-
-// A word and a number behind it.
-fn put_behind(word: &[u8], n: u64, buffer: &mut [u8], at: usize) -> usize
-    requires { at + length (word.now ++ decimal n) ≤ length buffer.old }
-    ensures { Wrote buffer.old at (word.now ++ decimal n) buffer.new result }
-{
-    let at = put(word, buffer, at);
-    put_number(n, buffer, at)
 }
 
 // The counts of rates, nones and refused sets.
@@ -79,24 +61,13 @@ fn put_counts(tally: Tally, buffer: &mut [u8], at: usize) -> usize
     put(b"\n", buffer, at)
 }
 
-// A rate, or that there is none.
-fn put_rate(terms: Terms, buffer: &mut [u8], at: usize) -> usize
-    requires { at + length (rate_text terms) ≤ length buffer.old }
-    ensures { Wrote buffer.old at (rate_text terms) buffer.new result }
-{
-    if terms.q == 0 {
-        return put(b"none", buffer, at);
-    }
-    put_terms(terms, buffer, at)
-}
-
 // A word and a rate behind it.
-fn put_rate_line(word: &[u8], terms: Terms, buffer: &mut [u8], at: usize) -> usize
-    requires { at + length (word.now ++ rate_text terms ++ newline) ≤ length buffer.old }
-    ensures { Wrote buffer.old at (word.now ++ rate_text terms ++ newline) buffer.new result }
+fn put_rate_line(word: &[u8], rate: Option<Terms>, buffer: &mut [u8], at: usize) -> usize
+    requires { at + length (word.now ++ rate_text rate ++ newline) ≤ length buffer.old }
+    ensures { Wrote buffer.old at (word.now ++ rate_text rate ++ newline) buffer.new result }
 {
     let at = put(word, buffer, at);
-    let at = put_rate(terms, buffer, at);
+    let at = put_rate(rate, buffer, at);
     put(b"\n", buffer, at)
 }
 

@@ -1,80 +1,81 @@
 // What is counted of register sets.
 ghost use Rattle.std.specs.Prelude.{◌≡◌};
 ghost use Rattle.clock_text.specs.Parts.{Countable};
-ghost use Rattle.clock_text.specs.Sets.{below, better as betterOf, counting as counting_of, no_tally};
+ghost use Rattle.clock_text.specs.Sets.{below, counting, larger, no_tally, smaller};
 
-use crate::sets::SetClock;
 use clock::Terms;
+use file::Answer;
 
-// How many sets have a rate, have none and are refused, and the largest and the smallest rate; both 0/0 where there is none.
+// How many sets have a rate, have none and are refused, and the largest and the smallest rate, if there is one.
 #[derive(Clone, Copy)]
 pub struct Tally {
     pub rates: u64,
     pub nones: u64,
     pub refused: u64,
-    pub largest: Terms,
-    pub smallest: Terms,
-}
-
-pub fn whole(n: u32) -> u64
-    ensures { result ≡ n }
-{
-    n as u64
+    pub largest: Option<Terms>,
+    pub smallest: Option<Terms>,
 }
 
 // A rate is below another, by whole numbers.
+#[tactic(auto, unfolding(crate::specs::Sets::below))]
 fn is_below(a: Terms, b: Terms) -> bool
     ensures { result ≡ below a b }
 {
-    whole(a.p) * whole(b.q) < whole(b.p) * whole(a.q)
+    u64::from(a.p) * u64::from(b.q) < u64::from(b.p) * u64::from(a.q)
 }
 
-// The new rate where it is to be taken, or where there is none so far.
-fn better(taken: bool, old: Terms, new: Terms) -> Terms
-    ensures { result ≡ betterOf taken old new }
+// The new rate, if the largest so far is below it or there is none.
+#[tactic(auto, unfolding(crate::specs::Sets::better))]
+fn larger(largest: Option<Terms>, new: Terms) -> Terms
+    ensures { result ≡ larger largest new }
 {
-    if old.q == 0 {
-        return new;
+    match largest {
+        Some(old) if !is_below(old, new) => old,
+        _ => new,
     }
-    if taken { new } else { old }
+}
+
+// The new rate, if it is below the smallest so far or there is none.
+#[tactic(auto, unfolding(crate::specs::Sets::better))]
+fn smaller(smallest: Option<Terms>, new: Terms) -> Terms
+    ensures { result ≡ smaller smallest new }
+{
+    match smallest {
+        Some(old) if !is_below(new, old) => old,
+        _ => new,
+    }
 }
 
 impl Tally {
     // Nothing is counted yet.
+    #[tactic(auto, unfolding(crate::specs::Sets::no_tally))]
     pub fn none() -> Tally
         ensures { result ≡ no_tally }
     {
-        let none = Terms { p: 0, q: 0 };
         Tally {
             rates: 0,
             nones: 0,
             refused: 0,
-            largest: none,
-            smallest: none,
+            largest: None,
+            smallest: None,
         }
     }
-}
 
-// One set more; each count has room for it.
-pub fn counting(before: Tally, clock: SetClock) -> Tally
-    requires { Countable before 1 }
-    ensures { result ≡ counting_of before clock }
-{
-    let mut after = before;
-    match clock {
-        SetClock::Rate(terms) => {
-            let largest = before.largest;
-            let smallest = before.smallest;
-            after.rates = before.rates + 1;
-            after.largest = better(is_below(largest, terms), largest, terms);
-            after.smallest = better(is_below(terms, smallest), smallest, terms);
+    // One set more; each count has room for it.
+    #[tactic(auto, unfolding(crate::specs::Sets::counting))]
+    pub(crate) fn counting(mut self, clock: Result<Option<Terms>, Answer>) -> Tally
+        requires { Countable self 1 }
+        ensures { result ≡ counting self clock }
+    {
+        match clock {
+            Ok(Some(terms)) => {
+                self.rates += 1;
+                self.largest = Some(larger(self.largest, terms));
+                self.smallest = Some(smaller(self.smallest, terms));
+            }
+            Ok(None) => self.nones += 1,
+            Err(_) => self.refused += 1,
         }
-        SetClock::None => {
-            after.nones = before.nones + 1;
-        }
-        SetClock::Refused => {
-            after.refused = before.refused + 1;
-        }
+        self
     }
-    after
 }

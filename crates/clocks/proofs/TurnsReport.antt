@@ -1,5 +1,6 @@
 -- A turn, and a course of turns: what they handed to be written, and then the summary, is what 02, 12/13 prints of the input that they read.
 -- Assumes nothing.
+use Rattle.std.specs.Prelude.{Result, Ok}
 use Prim.Native.Nat.{ℕ, ◌+◌, ◌*◌, ◌%◌, ◌^◌, ◌≤◌}
 use mathlib.Core.Bool.{Bool, true, false, true≢false}
 use mathlib.Core.List.{List, ◌++◌}
@@ -12,13 +13,14 @@ use lib.Dec.{eqb}
 use lib.ListN.{length, take, drop, length-append}
 use lib.Seq.{take_at}
 use Rattle.io.specs.Counts.{IsPrefixLen}
+use Rattle.file.specs.declared.answer.Answer.{Answer}
 use Rattle.file.specs.declared.answer.Answer.TheVariants.{Done}
 use Rattle.file.specs.Answers.{code_of, refused}
 use Rattle.text.specs.declared.placed.Placed.{Placed}
 use Rattle.text.specs.Lent.{Lined, behind_by, placed_by}
 use Rattle.clock_text.specs.declared.parts.SetsPart.{SetsPart}
 use Rattle.clock_text.specs.declared.tally.Tally.{Tally}
-use Rattle.clock_text.specs.Parts.{Countable, PartReported, counts_fit, part_answer, sets_fit, summary_answer, summary_most}
+use Rattle.clock_text.specs.Parts.{Countable, PartReported, counts_fit, part_answer, part_left, sets_fit, summary_answer, summary_most}
 use Rattle.clock_text.specs.Report.{clock_lines, report, summary}
 use Rattle.clock_text.specs.Sets.{no_tally, set_clocks, set_count, tallied}
 use Rattle.clock_text.proofs.InParts.{lines-in-parts, sets-in-parts, tally-in-parts}
@@ -31,35 +33,48 @@ use Rattle.clocks.specs.Turns.Turns.{none, then, uncounted, unread, unwritten}
 use Rattle.clocks.proofs.Bounds.{part-within}
 
 -- a part that was reported is a turn
-module _ (before : Course) (part lines₀ lines : List ℕ) (p : SetsPart) (more : Bool) (within : length part ≤ 6144) (room : Countable before.tally 2048)
-    (wide : 30720 ≤ length lines₀) (parted : PartReported before.tally part lines₀ lines p) (full : more ≡ eqb (length part) 6144) where
+module _ (before : Course) (part lines₀ lines : List ℕ) (r : Result SetsPart Answer) (within : length part ≤ 6144) (room : Countable before.tally 2048)
+    (wide : 30720 ≤ length lines₀) (parted : PartReported before.tally part lines₀ lines r) where
   few : set_count part ≤ 2048
   few = part-within part within
 
-  done : p.answer ≡ Done 0
+  answers : part_answer before.tally part lines₀ ≡ Done 0
   unfolding part_answer sets_fit counts_fit
-  done =
-      parted.answered
-      ∙ rw (
+  answers =
+      rw (
         le-leb (15 * set_count part + 0) (length lines₀) (omega (arith, few, wide)),
         le-leb (before.tally.rates + set_count part) 18446744073709551615 (omega (arith, few, room.rates)),
         le-leb (before.tally.nones + set_count part) 18446744073709551615 (omega (arith, few, room.nones)),
         le-leb (before.tally.refused + set_count part) 18446744073709551615 (omega (arith, few, room.refused)),
       ) refl
 
-  ended : p.end ≡ 0 + length (clock_lines (set_clocks part))
-  unfolding behind_by refused code_of
-  ended = rw done at parted.ended
+  told : r ≡ Ok (part_left before.tally part)
+  unfolding refused code_of
+  told = parted.answered ∙ rw answers refl
 
-  pub turn-done : Turned before part lines₀ lines
-      (record { end = p.end; course = record { tally = p.tally; more = more; failed = false; read = before.read; handed = before.handed } })
-  unfolding course_after turn_lines placed_by refused code_of
-  turn-done =
-      record {
-        end = ended ∙ zero-add _;
-        course = rw (rw done at parted.tally, full) refl;
-        printed = rw done at parted.lined ∙ ap (λ (k : ℕ). clock_lines (set_clocks part) ++ drop k lines₀) (sym ended);
-      }
+  -- so it is not refused
+  pub part-told : ((p : SetsPart) → r ≡ Ok p → ⊥) → ⊥
+  part-told never = never (part_left before.tally part) told
+
+  module _ (p : SetsPart) (so : r ≡ Ok p) where
+    parts : p ≡ part_left before.tally part
+    parts = let same : ◌≡◌ {A = Result SetsPart Answer} (Ok p) (Ok (part_left before.tally part)) = sym so ∙ told in cc
+
+    ended : p.end ≡ length (clock_lines (set_clocks part))
+    unfolding part_left
+    ended = ap (λ (x : SetsPart). x.end) parts
+
+    pub turn-done : (more : Bool) → more ≡ eqb (length part) 6144
+        → Turned before part lines₀ lines (record { end = p.end; course = record { tally = p.tally; more = more; failed = false; read = before.read; handed = before.handed } })
+    unfolding course_after turn_lines placed_by refused code_of part_left
+    turn-done more full =
+        record {
+          end = ended;
+          course = rw (parts, full) refl;
+          printed =
+              parted.lined
+              ∙ rw answers (ap (λ (k : ℕ). clock_lines (set_clocks part) ++ drop k lines₀) (zero-add _ ∙ sym ended));
+        }
 
 -- what a turn's buffer holds up to where its lines end is its lines
 pub made : {before : Course} {part lines₀ lines : List ℕ} {r : Turn} → Turned before part lines₀ lines r → take r.end lines ≡ turn_lines part

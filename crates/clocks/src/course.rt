@@ -14,7 +14,7 @@ use std::io::Read;
 const TURNS: u64 = u64::MAX / 2048;
 
 // How far a run has come: what was counted, whether there is more to read, whether something failed, what was read and what was handed to
-// be written.
+// be written. No `Result`: of a course that failed too `turns-counted` promises what was read and handed on.
 #[derive(Clone, Copy)]
 pub struct Course {
     pub tally: Tally,
@@ -48,10 +48,11 @@ fn begin() -> Course
 fn failed(before: Course) -> Course
     ensures { result ≡ failed_after before }
 {
-    let mut course = before;
-    course.more = false;
-    course.failed = true;
-    course
+    Course {
+        more: false,
+        failed: true,
+        ..before
+    }
 }
 
 // Where no turn is left and there is more to read, there are more sets than numbers.
@@ -85,23 +86,21 @@ fn count_some(before: Course, input: &[u8], lines: &mut [u8; 30720]) -> Turn
     requires countable { Countable before.tally 2048 }
     ensures { Turned before input.now lines.old lines.new result }
 {
-    let part = report_part(before.tally, input, lines);
-    let tally = part.tally;
-    let read = before.read;
-    let handed = before.handed;
+    let Ok(part) = report_part(before.tally, input, lines) else {
+        unreachable!()
+    };
     Turn {
         end: part.end,
         course: Course {
-            tally,
+            tally: part.tally,
             more: input.len() == 6144,
             failed: false,
-            read,
-            handed,
+            ..before
         },
     }
 }
 
-// The whole of the input. A proved loop has to end, so this one counts its turns down.
+// The whole of the input. A proved loop has to end, so this one has as many turns as there are numbers.
 fn count_input(rt: &(impl Input + Print), err: &impl Print) -> Course
     ensures { Came result }
 {
@@ -109,23 +108,20 @@ fn count_input(rt: &(impl Input + Print), err: &impl Print) -> Course
     let mut input = [0u8; 6144];
     let mut lines = [0u8; 30720];
     let mut course = begin();
-    let mut turns = TURNS;
-    while turns > 0 && course.more {
-        let read = read_some(&mut from, err, course.read, &mut input);
-        course.read = read;
-        if read.has_failed() {
+    for _ in 0..TURNS {
+        if !course.more {
+            break;
+        }
+        course.read = read_some(&mut from, err, course.read, &mut input);
+        if course.read.has_failed() {
             return failed(course);
         }
-        let size = read.count;
-        let turn = count_some(course, &input[..size], &mut lines);
-        let end = turn.end;
+        let turn = count_some(course, &input[..course.read.count], &mut lines);
         course = turn.course;
-        let handed = write_out(rt, err, b"clocks", course.handed, &lines[..end]);
-        course.handed = handed;
-        if handed.has_failed() {
+        course.handed = write_out(rt, err, b"clocks", course.handed, &lines[..turn.end]);
+        if course.handed.has_failed() {
             return failed(course);
         }
-        turns -= 1;
     }
     over(err, course)
 }

@@ -1,7 +1,7 @@
 // The job of the command `clocks`: register sets that are fed in parts, a line for each, and the summary when it is closed.
 #![tactic(auto)]
 
-ghost use Rattle.std.specs.Prelude.{◌≡◌, min};
+ghost use Rattle.std.specs.Prelude.{◌≡◌};
 ghost use Rattle.io.specs.Counts.{IsPrefixLen};
 ghost use Rattle.text.specs.Lent.{Lined};
 ghost use Rattle.feeding.specs.Feeding.{units_in};
@@ -23,29 +23,26 @@ pub struct ClocksFed {
     pub end: usize,
 }
 
-fn least(a: usize, b: usize) -> usize
-    ensures { result ≡ min a b }
-{
-    if a < b { a } else { b }
-}
-
 // Counts the sets of `part`: the whole ones, and in the `last` part of an input a fragment too.
+#[tactic(auto, unfolding(feeding::specs::Feeding::units_in))]
 fn sets_in(part: &[u8], last: bool) -> usize
     ensures { result ≡ units_in 3 last part.now }
 {
     if last {
-        return (part.len() + 2) / 3;
+        part.len().div_ceil(3)
+    } else {
+        part.len() / 3
     }
-    part.len() / 3
 }
 
 // Tells how many bytes of `part` the sets have whose lines fit into `room` bytes.
+#[tactic(auto, unfolding(crate::specs::Clocks::set_bytes, crate::specs::Clocks::sets_roomed, feeding::specs::Feeding::bytes_of))]
 fn set_bytes(part: &[u8], last: bool, room: usize) -> usize
     ensures value { result ≡ set_bytes last part.now room }
     ensures prefix_len { IsPrefixLen result part.now }
 {
-    let sets = least(sets_in(part, last), room / LINE_MOST);
-    least(3 * sets, part.len())
+    let sets = sets_in(part, last).min(room / LINE_MOST);
+    part.len().min(3 * sets)
 }
 
 // Counts the sets of `part` and puts a line for each into `out`, from its start on: as many sets as `part` has whole, with `last` a fragment too, as many as
@@ -54,14 +51,17 @@ pub fn feed(before: Tally, part: &[u8], last: bool, out: &mut [u8]) -> ClocksFed
     ensures { ClocksStep before part.now last out.old out.new result }
 {
     let size = set_bytes(part, last, out.len());
-    let told = report_part(before, &part[..size], out);
-    let answer = told.answer;
-    let tally = told.tally;
-    let used = if answer.code() == 0 { size } else { 0 };
-    ClocksFed {
-        tally,
-        used,
-        end: told.end,
+    match report_part(before, &part[..size], out) {
+        Ok(told) => ClocksFed {
+            tally: told.tally,
+            used: size,
+            end: told.end,
+        },
+        Err(_) => ClocksFed {
+            tally: before,
+            used: 0,
+            end: 0,
+        },
     }
 }
 

@@ -14,6 +14,6 @@ pub returns-then-d-eq1 : goal.returns-then-d-eq1
 unfolding divisor post_scaled bit
 returns-then-d-eq1 c = simp (div-one, eq-eqb _ _ c.if-d-eq1.true, c.denominator.ensures)
 
-pub returns : goal.returns
+pub returns-else-d-eq1 : goal.returns-else-d-eq1
 unfolding divisor post_scaled bit
-returns c = simp (div-one, ne_eqb _ _ c.if-d-eq1.false, c.denominator-2.ensures)
+returns-else-d-eq1 c = simp (div-one, ne_eqb _ _ c.if-d-eq1.false, c.denominator-else-d-eq1.ensures)

@@ -11,4 +11,4 @@ returns-then-denominator-eq0 c = rw (eq-eqb _ _ (sym c.denominator.ensures ∙ c
 pub returns : goal.returns
 unfolding dot_clock rate
 returns c =
-    rw (ne_eqb _ _ (λ e. c.if-denominator-eq0.false (c.denominator.ensures ∙ e)), c.product.ensures, c.divisor.ensures)
+    rw (ne_eqb _ _ (λ e. c.if-denominator-eq0.false (c.denominator.ensures ∙ e)), c.from.ensures, c.from-2.ensures, c.product.ensures, c.divisor.ensures)

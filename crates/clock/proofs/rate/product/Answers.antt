@@ -6,4 +6,4 @@ use Rattle.clock.proofs.rate.product.Goals as goal
 
 pub returns : goal.returns
 unfolding product numerator bits
-returns c = simp div-one
+returns c = simp (div-one, c.from.ensures)

@@ -1,16 +1,9 @@
-use native.Mathlib.Nat.{mod-lt}
 use native.Mathlib.Omega.{arith}
 use Rattle.clock.proofs.CommonDivisors.{alike-first, alike_next, alike-last}
 use Rattle.clock.proofs.terms.common_divisor.Goals as goal
 
 pub loop-smaller-init : goal.loop-smaller-init
 loop-smaller-init c = alike-first _ _ c.requires
-
-pub nonzero_rem-rest : goal.nonzero_rem-rest
-nonzero_rem-rest c = omega (arith, c.loop-smaller-test.true)
-
-pub loop-smaller-smaller : goal.loop-smaller-smaller
-loop-smaller-smaller c = mod-lt c.loop-smaller.larger (omega (arith, c.loop-smaller-test.true))
 
 pub loop-smaller-preserved : goal.loop-smaller-preserved
 loop-smaller-preserved c = alike_next _ _ _ _ (omega (arith, c.loop-smaller-test.true)) c.loop-smaller.invariant

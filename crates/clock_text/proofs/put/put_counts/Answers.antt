@@ -7,21 +7,12 @@ use Rattle.clock_text.specs.Report.{counts_line}
 use Rattle.clock_text.proofs.Lengths.{counts-length}
 use Rattle.clock_text.proofs.put.put_counts.Goals as goal
 
-pub put_behind-at-requires : goal.put_behind-at-requires
-put_behind-at-requires c = omega (arith, counts-length c.args.tally)
-
-pub put_behind-at-requires-2 : goal.put_behind-at-requires-2
-put_behind-at-requires-2 c = omega (arith, counts-length c.args.tally, c.put_behind-at.ensures.place)
-
-pub put_behind-at-requires-3 : goal.put_behind-at-requires-3
-put_behind-at-requires-3 c =
-    omega (arith, counts-length c.args.tally, c.put_behind-at.ensures.place, c.put_behind-at-2.ensures.place)
-
-pub put-requires : goal.put-requires
-put-requires c =
-    omega (arith, counts-length c.args.tally, c.put_behind-at.ensures.place, c.put_behind-at-2.ensures.place, c.put_behind-at-3.ensures.place)
-
 pub returns : goal.returns
 unfolding counts_line ascii space newline
 returns c =
-    then-text (then-text (then-text c.put_behind-at.ensures c.put_behind-at-2.ensures) c.put_behind-at-3.ensures) c.put.ensures
+    let long = counts-length c.args.tally in
+    let rates = c.put_behind-at.ensures.stored (omega (arith, long)) in
+    let nones = c.put_behind-at-2.ensures.stored (omega (arith, long, rates.place)) in
+    let refused = c.put_behind-at-3.ensures.stored (omega (arith, long, rates.place, nones.place)) in
+    let end = c.put.ensures.stored (omega (arith, long, rates.place, nones.place, refused.place)) in
+    then-text (then-text (then-text rates nones) refused) end

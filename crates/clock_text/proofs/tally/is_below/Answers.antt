@@ -2,7 +2,6 @@
 use Prim.Native.Nat.{ℕ, ◌*◌, ◌^◌, ◌≤◌, ◌<◌}
 use native.Mathlib.Nat.{mul-le-mul}
 use native.Mathlib.Omega.{arith}
-use Rattle.clock_text.specs.Sets.{below}
 use Rattle.clock_text.proofs.tally.is_below.Goals as goal
 
 fits : (a b : ℕ) → a < 2 ^ 32 → b < 2 ^ 32 → a * b < 2 ^ 64
@@ -13,11 +12,7 @@ fits a b h k =
     omega (arith, most)
 
 pub overflow_mul-result : goal.overflow_mul-result
-overflow_mul-result c = record { fits = fits _ _ (omega (arith, c.whole.ensures)) (omega (arith, c.whole-2.ensures)) }
+overflow_mul-result c = record { fits = fits _ _ (omega (arith, c.from.ensures)) (omega (arith, c.from-2.ensures)) }
 
 pub overflow_mul-result-2 : goal.overflow_mul-result-2
-overflow_mul-result-2 c = record { fits = fits _ _ (omega (arith, c.whole-3.ensures)) (omega (arith, c.whole-4.ensures)) }
-
-pub returns : goal.returns
-unfolding below
-returns c = rw (c.whole.ensures, c.whole-2.ensures, c.whole-3.ensures, c.whole-4.ensures)
+overflow_mul-result-2 c = record { fits = fits _ _ (omega (arith, c.from-3.ensures)) (omega (arith, c.from-4.ensures)) }

@@ -1,9 +1,7 @@
--- `count_input` is safe and ends: the measure is the number of turns that are left. Turns lead to its course. Assumes nothing.
+-- Turns lead to the course that `count_input` gives. Assumes nothing.
+use Prim.Native.Nat.{◌-◌}
 use Rattle.clocks.proofs.Coming.{Coming}
 use Rattle.clocks.proofs.course.count_input.Given as goal
 
-abbrev pub invariant-loop-turns : goal.invariant-loop-turns
-invariant-loop-turns g l = Coming l.turns l.course
-
-abbrev pub decreases-loop-turns : goal.decreases-loop-turns
-decreases-loop-turns g l = l.turns
+abbrev pub invariant-loop : goal.invariant-loop
+invariant-loop g l = Coming (9007199254740991 - l.counter) l.course

@@ -1,8 +1,0 @@
--- `print_clocks` is safe and ends: the measure is the number of turns that are left. Assumes nothing.
-use Rattle.clock_runs.proofs.print_clocks.Given as goal
-
-abbrev pub invariant-loop-turns : goal.invariant-loop-turns
-invariant-loop-turns g l = Unit {0}
-
-abbrev pub decreases-loop-turns : goal.decreases-loop-turns
-decreases-loop-turns g l = l.turns
