@@ -1,4 +1,6 @@
 -- A line of numbers of 32 bits is short: ten digits for each, a space before it, and a minus at most where there is a mark for one. Assumes nothing.
+use Rattle.std.specs.Int.{from_bool}
+use Rattle.job_geometry.specs.GeometryText.{as_number}
 use Prim.Native.Nat.{ℕ, ◌+◌, ◌*◌, ◌≤◌, ◌<◌}
 use mathlib.Core.Bool.{Bool, true, false}
 use mathlib.Core.List.{List, [], ◌∷◌}
@@ -9,6 +11,12 @@ use Rattle.file.specs.Readers.{ascii}
 use Rattle.text.specs.Text.{capture_line, cursor_line, decimal_places, numbers_line, spaced, window_2_line}
 use Rattle.text.proofs.Places.{most-places}
 use Rattle.text.proofs.Spaced.{minus-length, numbers-length, plain-length}
+
+-- a mark as the library makes a number of it
+pub as-one : (mark : Bool) → from_bool mark ≡ as_number mark
+unfolding as_number
+as-one true = refl
+as-one false = refl
 
 -- numbers of 32 bits
 pub data Small : List ℕ → Type 0 where

@@ -1,24 +1,10 @@
 // The lines of the cursor, of window 2 and of the capture window, each from a place of a lent buffer on; code 11 where a line has no room.
-ghost use Rattle.std.specs.Prelude.{◌≡◌, ◌≤◌, ◌<◌, length};
+ghost use Rattle.std.specs.Prelude.{◌≡◌, ◌≤◌, length};
 ghost use Rattle.text.specs.Lent.{Lined, room_answer};
-ghost use Rattle.job_geometry.specs.GeometryText.{as_number, below_zero, capture_text, cursor_text, window_text};
+ghost use Rattle.job_geometry.specs.GeometryText.{below_zero, capture_text, cursor_text, window_text};
 
 use geometry::{Capture, Cursor, Window, magnitude};
 use text::{Placed, capture_line, cursor_line, window2_line};
-
-// Gives `mark` as 0 or 1.
-fn as_number(mark: bool) -> u32
-    ensures { (result ≡ as_number mark) × (result ≤ 1) }
-{
-    if mark { 1 } else { 0 }
-}
-
-// Widens `n` to 32 bits.
-fn widened(n: u16) -> u32
-    ensures { (result ≡ n) × (result < 65536) }
-{
-    n as u32
-}
 
 // Asks whether `n` has a minus before it.
 fn is_below_zero(n: i16) -> bool
@@ -35,11 +21,11 @@ pub fn put_cursor(cursor: Cursor, lines: &mut [u8], at: usize) -> Placed
     let left = cursor.left.0;
     let top = cursor.top.0;
     let numbers = [
-        as_number(cursor.enabled),
+        u32::from(cursor.enabled),
         magnitude(left),
         magnitude(top),
-        widened(cursor.width.0),
-        widened(cursor.height.0),
+        u32::from(cursor.width.0),
+        u32::from(cursor.height.0),
         cursor.address,
     ];
     cursor_line(lines, at, is_below_zero(left), is_below_zero(top), numbers)
@@ -51,16 +37,16 @@ pub fn put_window(window: Window, lines: &mut [u8], at: usize) -> Placed
     ensures window_len_bound { length (window_text window) ≤ 118 }
 {
     let numbers = [
-        as_number(window.enabled),
-        as_number(window.video),
-        widened(window.left.0),
-        widened(window.top.0),
-        widened(window.right.0),
-        widened(window.bottom.0),
-        as_number(window.empty),
-        as_number(window.fault),
-        widened(window.start.0),
-        widened(window.stop.0),
+        u32::from(window.enabled),
+        u32::from(window.video),
+        u32::from(window.left.0),
+        u32::from(window.top.0),
+        u32::from(window.right.0),
+        u32::from(window.bottom.0),
+        u32::from(window.empty),
+        u32::from(window.fault),
+        u32::from(window.start.0),
+        u32::from(window.stop.0),
     ];
     window2_line(lines, at, numbers)
 }
@@ -71,10 +57,10 @@ pub fn put_capture(capture: Capture, lines: &mut [u8], at: usize) -> Placed
     ensures capture_len_bound { length (capture_text capture) ≤ 52 }
 {
     let numbers = [
-        widened(capture.xstart.0),
-        widened(capture.xstop.0),
-        widened(capture.ystart.0),
-        widened(capture.ystop.0),
+        u32::from(capture.xstart.0),
+        u32::from(capture.xstop.0),
+        u32::from(capture.ystart.0),
+        u32::from(capture.ystop.0),
     ];
     capture_line(lines, at, numbers)
 }

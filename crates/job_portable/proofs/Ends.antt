@@ -1,37 +1,39 @@
 -- The line and the bytes that are put out, from what the callees left. Assumes nothing.
+use Rattle.std.specs.Prelude.{Option, Some, None, Result, Ok, Err}
 use Prim.Native.Nat.{ℕ}
 use mathlib.Core.Bool.{Bool, true, false, cond}
 use mathlib.Core.List.{List, ◌++◌}
 use mathlib.Core.Path.{◌≡◌, refl, sym, ap, ◌∙◌}
 use native.Mathlib.Nat.{zero-add}
-use native.Mathlib.Omega.{arith}
-use borrow.Author.Tests.{eq-eqb, ne_eqb}
-use lib.Dec.{eqb}
 use lib.ListN.{length, drop}
 use Rattle.bits.proofs.Test.{by-test}
+use Rattle.file.specs.declared.answer.Answer.{Answer}
+use Rattle.file.specs.declared.answer.Answer.TheVariants.{Done, ShortBuffer}
 use Rattle.file.specs.Answers.{code_of, refused}
-use Rattle.portable.specs.declared.Read.{Read}
-use Rattle.portable.specs.Timing.{read_timing, timing_answer}
-use Rattle.portable_text.specs.declared.writing.Tried.{Tried}
+use Rattle.portable.specs.declared.Timing.{Timing}
+use Rattle.portable.specs.Timing.{bytes_after, read_timing, timing_answer}
+use Rattle.portable_text.specs.declared.writing.NotWritten.{NotWritten}
+use Rattle.portable_text.specs.declared.writing.NotWritten.TheVariants.{NoList, Refused}
 use Rattle.portable_text.specs.Line.{line_of}
-use Rattle.portable_text.specs.Numbers.{ListWritten, listed_in}
+use Rattle.portable_text.specs.Numbers.{ListWritten, bytes_listed, list_result, listed_in}
 use Rattle.text.specs.declared.placed.Placed.{Placed}
 use Rattle.text.specs.Lent.{Lined, behind_by, fits, placed_by, room_answer}
-use Rattle.job_portable.specs.Ended.{LineEnded, NumbersEnded, bytes_with, with_answer}
+use Rattle.job_portable.specs.Ended.{LineEnded, NumbersEnded, numbers_result, numbers_stored, with_answer}
 
 -- a text that was asked for from the buffer's start on
 module _ (text out₀ out : List ℕ) (placed : Placed) (lined : Lined (room_answer out₀ 0 text) 0 text out₀ out placed) where
-  -- its code tells whether it had room
-  room-code : (b : Bool) → fits out₀ 0 text ≡ b → code_of placed.answer ≡ cond b 0 11
-  unfolding room_answer code_of
-  room-code true e = ap code_of (rw e at lined.answered)
-  room-code false e = ap code_of (rw e at lined.answered)
+  -- its answer tells whether it had room
+  room-told : (b : Bool) → fits out₀ 0 text ≡ b → placed.answer ≡ cond b (Done 0) ShortBuffer
+  unfolding room_answer
+  room-told b e = lined.answered ∙ ap (λ (c : Bool). cond c (Done 0) ShortBuffer) e
 
-  had-room : code_of placed.answer ≡ 0 → fits out₀ 0 text ≡ true
-  had-room e = by-test (fits out₀ 0 text) (λ t. t) (λ t. absurd (omega (arith, e, room-code false t)))
+  had-room : (x : ℕ) → placed.answer ≡ Done x → fits out₀ 0 text ≡ true
+  had-room x e =
+      by-test (fits out₀ 0 text) (λ t. t)
+      (λ t. let never : ◌≡◌ {A = Answer} ShortBuffer (Done x) = sym (room-told false t) ∙ e in absurd (cc))
 
-  no_room : (code_of placed.answer ≡ 0 → ⊥) → fits out₀ 0 text ≡ false
-  no_room e = by-test (fits out₀ 0 text) (λ t. absurd (e (room-code true t))) (λ t. t)
+  no_room : ((x : ℕ) → placed.answer ≡ Done x → ⊥) → fits out₀ 0 text ≡ false
+  no_room e = by-test (fits out₀ 0 text) (λ t. absurd (e 0 (room-told true t))) (λ t. t)
 
   -- where it ends, and what the buffer holds
   ends : (b : Bool) → fits out₀ 0 text ≡ b → placed.end ≡ cond b (length text) 0
@@ -45,75 +47,83 @@ module _ (text out₀ out : List ℕ) (placed : Placed) (lined : Lined (room_ans
   stores false e = rw e at lined.bytes
 
 -- the line of some bytes
-module _ (bytes out₀ out : List ℕ) (placed : Placed) (lined : Lined (room_answer out₀ 0 (line_of bytes)) 0 (line_of bytes) out₀ out placed)
-    (short : ℕ) (said : short ≡ code_of placed.answer) where
-  pub line-short : (short ≡ 0 → ⊥) → LineEnded bytes out₀ out (record { code = short; end = placed.end })
-  unfolding code_of
+module _ (bytes out₀ out : List ℕ) (placed : Placed) (lined : Lined (room_answer out₀ 0 (line_of bytes)) 0 (line_of bytes) out₀ out placed) where
+  pub line-short : ((x : ℕ) → placed.answer ≡ Done x → ⊥) → LineEnded bytes out₀ out (record { answer = placed.answer; end = placed.end })
   line-short some =
-      let none = no_room (line_of bytes) out₀ out placed lined (λ e. some (said ∙ e)) in
+      let none = no_room (line_of bytes) out₀ out placed lined some in
       record {
-        code = rw none (said ∙ room-code (line_of bytes) out₀ out placed lined false none);
+        answered = rw none (room-told (line_of bytes) out₀ out placed lined false none);
         ended = rw none (ends (line_of bytes) out₀ out placed lined false none);
         stored = rw none (stores (line_of bytes) out₀ out placed lined false none);
       }
 
-  pub line-put : short ≡ 0 → (read : Read) → read ≡ read_timing bytes → (code : ℕ) → code ≡ code_of read.answer
-      → LineEnded bytes out₀ out (record { code = code; end = placed.end })
-  line-put none read e code so =
-      let room = had-room (line_of bytes) out₀ out placed lined (sym said ∙ none) in
+  pub line-put : (x : ℕ) → placed.answer ≡ Done x → (answer : Answer) → answer ≡ (read_timing bytes).answer
+      → LineEnded bytes out₀ out (record { answer = answer; end = placed.end })
+  line-put x done answer e =
+      let room = had-room (line_of bytes) out₀ out placed lined x done in
       record {
-        code = rw room (so ∙ ap (λ (r : Read). code_of r.answer) e);
+        answered = rw room e;
         ended = rw room (ends (line_of bytes) out₀ out placed lined true room);
         stored = rw room (stores (line_of bytes) out₀ out placed lined true room);
       }
 
--- the bytes with the numbers of a list
-module _ (bytes list after : List ℕ) (tried : Tried) (written : ListWritten bytes list after tried)
-    (code : ℕ) (said : code ≡ code_of tried.answer) where
-  answers : code ≡ code_of (timing_answer bytes (listed_in list).timing)
-  answers = said ∙ ap code_of written.written.answered
+-- the bytes with the numbers of a list: what the writer refuses puts nothing
+refused-by : (bytes out₀ : List ℕ) (o : Option Timing) (why : NotWritten) → list_result bytes o ≡ Err why
+    → (Err why ≡ numbers_result bytes o out₀) × (out₀ ≡ numbers_stored bytes o out₀)
+unfolding list_result numbers_result numbers_stored with_answer
+refused-by bytes out₀ None why e =
+    let same : NoList ≡ why = let h : ◌≡◌ {A = Result (Unit {0}) NotWritten} (Err NoList) (Err why) = e in cc in (ap Err (sym same), refl)
+refused-by bytes out₀ (Some t) why e =
+    by-test (refused (timing_answer bytes t))
+    (λ h. let told : ◌≡◌ {A = Result (Unit {0}) NotWritten} (Err (Refused (timing_answer bytes t))) (Err why) = rw h at e in
+    let same : Refused (timing_answer bytes t) ≡ why = cc in
+    (rw (h, h) (ap Err (sym same)), rw (h, h) refl))
+    (λ h. let never : ◌≡◌ {A = Result (Unit {0}) NotWritten} (Ok tt) (Err why) = rw h at e in absurd (cc))
 
-  pub list-refused : (out₀ : List ℕ) → (code ≡ 0 → ⊥)
-      → NumbersEnded bytes list out₀ out₀ (record { listed = tried.listed; code = code; end = 0 })
-  unfolding with_answer
-  list-refused out₀ some =
-      record {
-        listed = written.listed;
-        code = rw (ne_eqb (code_of (timing_answer bytes (listed_in list).timing)) 0 (λ e. some (answers ∙ e))) answers;
-        ended = rw (ne_eqb code 0 some) refl;
-        stored = rw (ne_eqb code 0 some) refl;
-      }
+-- and what it doesn't is a list
+taken-by : (bytes : List ℕ) (o : Option Timing) → list_result bytes o ≡ Ok tt → (t : Timing) × (o ≡ Some t) × (refused (timing_answer bytes t) ≡ false)
+unfolding list_result
+taken-by bytes None e = let never : ◌≡◌ {A = Result (Unit {0}) NotWritten} (Err NoList) (Ok tt) = e in absurd (cc)
+taken-by bytes (Some t) e =
+    by-test (refused (timing_answer bytes t))
+    (λ h. let never : ◌≡◌ {A = Result (Unit {0}) NotWritten} (Err (Refused (timing_answer bytes t))) (Ok tt) = rw h at e in absurd (cc))
+    (λ h. (t, refl, h))
 
-  module _ (none : code ≡ 0) (out₀ out : List ℕ) (placed : Placed) (lined : Lined (room_answer out₀ 0 after) 0 after out₀ out placed)
-      (short : ℕ) (so : short ≡ code_of placed.answer) where
+module _ (bytes list after : List ℕ) (tried : Result (Unit {0}) NotWritten) (written : ListWritten bytes list after tried) where
+  pub list-refused : (out₀ : List ℕ) (why : NotWritten) → tried ≡ Err why → NumbersEnded bytes list out₀ out₀ (Err why)
+  list-refused out₀ why e =
+      let both = refused-by bytes out₀ (listed_in list) why (sym written.answered ∙ e) in
+      record { answered = both.0; stored = both.1 }
+
+  module _ (taken : tried ≡ Ok tt) (out₀ out : List ℕ) (placed : Placed) (lined : Lined (room_answer out₀ 0 after) 0 after out₀ out placed) where
+    found : (t : Timing) × (listed_in list ≡ Some t) × (refused (timing_answer bytes t) ≡ false)
+    found = taken-by bytes (listed_in list) (sym written.answered ∙ taken)
+
     abbrev With : List ℕ
-    With = bytes_with bytes list
+    With = bytes_after bytes found.0
 
     lined-with : Lined (room_answer out₀ 0 With) 0 With out₀ out placed
-    unfolding bytes_with
-    lined-with = rw written.written.bytes at lined
+    unfolding bytes_listed
+    lined-with = rw (written.bytes ∙ ap (bytes_listed bytes) found.1) at lined
 
-    asked : eqb (code_of (timing_answer bytes (listed_in list).timing)) 0 ≡ true
-    asked = eq-eqb (code_of (timing_answer bytes (listed_in list).timing)) 0 (sym answers ∙ none)
+    answer-by : (b : Bool) → fits out₀ 0 With ≡ b → with_answer bytes found.0 out₀ ≡ cond b (Done 0) ShortBuffer
+    unfolding with_answer room_answer
+    answer-by b e = rw (found.2, e) refl
 
-    put-by : (b : Bool) → fits out₀ 0 With ≡ b → NumbersEnded bytes list out₀ out (record { listed = tried.listed; code = short; end = placed.end })
-    unfolding with_answer room_answer code_of
-    put-by true t =
-        let code : short ≡ 0 = so ∙ room-code With out₀ out placed lined-with true t in
+    pub list_put : (x : ℕ) → placed.answer ≡ Done x → NumbersEnded bytes list out₀ out (Ok placed.end)
+    unfolding numbers_result numbers_stored refused code_of
+    list_put x done =
+        let room = had-room With out₀ out placed lined-with x done in
         record {
-          listed = written.listed;
-          code = rw (asked, t) code;
-          ended = rw code (ends With out₀ out placed lined-with true t);
-          stored = rw code (stores With out₀ out placed lined-with true t);
-        }
-    put-by false t =
-        let code : short ≡ 11 = so ∙ room-code With out₀ out placed lined-with false t in
-        record {
-          listed = written.listed;
-          code = rw (asked, t) code;
-          ended = rw code (ends With out₀ out placed lined-with false t);
-          stored = rw code (stores With out₀ out placed lined-with false t);
+          answered = rw (found.1, answer-by true room) (ap Ok (ends With out₀ out placed lined-with true room));
+          stored = rw (found.1, answer-by true room) (stores With out₀ out placed lined-with true room);
         }
 
-    pub list_put : NumbersEnded bytes list out₀ out (record { listed = tried.listed; code = short; end = placed.end })
-    list_put = put-by (fits out₀ 0 With) refl
+    pub list-short : ((x : ℕ) → placed.answer ≡ Done x → ⊥) → NumbersEnded bytes list out₀ out (Err (Refused placed.answer))
+    unfolding numbers_result numbers_stored refused code_of
+    list-short some =
+        let none = no_room With out₀ out placed lined-with some in
+        record {
+          answered = rw (found.1, answer-by false none) (ap (λ (a : Answer). Err (Refused a)) (room-told With out₀ out placed lined-with false none));
+          stored = rw (found.1, answer-by false none) (stores With out₀ out placed lined-with false none);
+        }

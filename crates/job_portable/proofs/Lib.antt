@@ -1,4 +1,3 @@
-pub mod Typed
 pub mod FirstBytes
 pub mod Ends
 pub mod Unlisted

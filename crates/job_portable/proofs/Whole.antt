@@ -1,4 +1,5 @@
 -- However an input is cut into parts, what the job puts out at the end is what is said of the whole input. Assumes nothing.
+use Rattle.std.specs.Prelude.{Option, Some, None, Result}
 use Prim.Native.Nat.{ℕ, ◌<◌}
 use mathlib.Core.Bool.{false}
 use mathlib.Core.List.{List}
@@ -12,21 +13,21 @@ use Rattle.bits.proofs.Test.{by-test}
 use Rattle.feeding.specs.Feeding.{Additive, WholeInput}
 use Rattle.feeding.proofs.AsTheWhole.{input-after}
 use Rattle.file.specs.declared.answer.Answer.TheVariants.{NotSound}
-use Rattle.file.specs.Answers.{code_of}
+use Rattle.file.specs.Answers.{code_of, refused}
+use Rattle.text.specs.Fixed.{behind}
 use Rattle.timing.specs.Layout.{answer_by}
 use Rattle.portable.specs.declared.Timing.{Timing}
 use Rattle.portable.specs.Timing.{read_timing, readable, timing_answer}
 use Rattle.portable_text.specs.Line.{line_of}
 use Rattle.portable_text.specs.Numbers.{listed_in}
-use Rattle.job_portable.specs.declared.ending.ListEnded.{ListEnded}
+use Rattle.portable_text.specs.declared.writing.NotWritten.{NotWritten}
 use Rattle.job_portable.specs.declared.ending.PortableEnded.{PortableEnded}
-use Rattle.job_portable.specs.declared.keeping.PortableJob.{PortableJob}
-use Rattle.job_portable.specs.Ended.{LineEnded, NumbersEnded, with_answer}
-use Rattle.job_portable.specs.Kept.{AnyBytes, begun, held, job_after, nothing_told}
+use Rattle.job_portable.specs.Ended.{LineEnded, NumbersEnded, numbers_result, numbers_stored, with_answer}
+use Rattle.job_portable.specs.Kept.{AnyBytes, PortableJob, begun, held, job_after, nothing_told}
 use Rattle.job_portable.proofs.FirstBytes.{after-parts, first-bytes}
 
 pub portable-additive : Additive AnyBytes job_after nothing_told
-unfolding job_after nothing_told
+unfolding behind nothing_told
 portable-additive =
     record {
       whole-none = tt;
@@ -63,16 +64,27 @@ module _ (input : List ℕ) (long : 29 < length input) where
   unfolding timing_answer answer_by
   whole-answer t = rw whole-other refl
 
-  long-written : (list out₀ out : List ℕ) (r : ListEnded) → NumbersEnded (take 29 input) list out₀ out r → NumbersEnded input list out₀ out r
-  unfolding with_answer code_of
+  long-with : (t : Timing) (out₀ : List ℕ) → with_answer (take 29 input) t out₀ ≡ NotSound
+  unfolding with_answer refused code_of
+  long-with t out₀ = rw (long-answer t) refl
+
+  whole-with : (t : Timing) (out₀ : List ℕ) → with_answer input t out₀ ≡ NotSound
+  unfolding with_answer refused code_of
+  whole-with t out₀ = rw (whole-answer t) refl
+
+  long-result : (o : Option Timing) (out₀ : List ℕ) → numbers_result (take 29 input) o out₀ ≡ numbers_result input o out₀
+  unfolding numbers_result refused code_of
+  long-result None out₀ = refl
+  long-result (Some t) out₀ = rw (long-with t out₀, whole-with t out₀) refl
+
+  long-stored : (o : Option Timing) (out₀ : List ℕ) → numbers_stored (take 29 input) o out₀ ≡ numbers_stored input o out₀
+  unfolding numbers_stored refused code_of
+  long-stored None out₀ = refl
+  long-stored (Some t) out₀ = rw (long-with t out₀, whole-with t out₀) refl
+
+  long-written : (list out₀ out : List ℕ) (r : Result ℕ NotWritten) → NumbersEnded (take 29 input) list out₀ out r → NumbersEnded input list out₀ out r
   long-written list out₀ out r e =
-      let code : r.code ≡ 12 = rw (long-answer (listed_in list).timing) at e.code in
-      record {
-        listed = e.listed;
-        code = rw (whole-answer (listed_in list).timing) code;
-        ended = rw code (rw code at e.ended);
-        stored = rw code (rw code at e.stored);
-      }
+      record { answered = e.answered ∙ long-result (listed_in list) out₀; stored = e.stored ∙ long-stored (listed_in list) out₀ }
 
 -- so the line of the first 29 bytes is that of the whole
 pub first_read : (input : List ℕ) → read_timing (take 29 input) ≡ read_timing input
@@ -84,7 +96,7 @@ pub first-line : (input : List ℕ) → line_of (take 29 input) ≡ line_of inpu
 unfolding line_of
 first-line input = rw (first_read input) refl
 
-first-written : (input list out₀ out : List ℕ) (r : ListEnded) → NumbersEnded (take 29 input) list out₀ out r → NumbersEnded input list out₀ out r
+first-written : (input list out₀ out : List ℕ) (r : Result ℕ NotWritten) → NumbersEnded (take 29 input) list out₀ out r → NumbersEnded input list out₀ out r
 first-written input list out₀ out r e =
     by-test (leb (length input) 29)
     (λ t. subst (λ (s : List ℕ). NumbersEnded s list out₀ out r) (take_all 29 input (leb-true (length input) 29 t)) e)
@@ -96,11 +108,11 @@ module _ {input text : List ℕ} {job : PortableJob} (fed : WholeInput AnyBytes 
   portable-read out₀ out r e =
       let first : LineEnded (take 29 input) out₀ out r = subst (λ (s : List ℕ). LineEnded s out₀ out r) (portable-kept fed) e in
       record {
-        code = rw (first-line input, first_read input) at first.code;
+        answered = rw (first-line input, first_read input) at first.answered;
         ended = rw (first-line input) at first.ended;
         stored = rw (first-line input) at first.stored;
       }
 
-  pub portable-written : (list out₀ out : List ℕ) (r : ListEnded) → NumbersEnded (held job) list out₀ out r → NumbersEnded input list out₀ out r
+  pub portable-written : (list out₀ out : List ℕ) (r : Result ℕ NotWritten) → NumbersEnded (held job) list out₀ out r → NumbersEnded input list out₀ out r
   portable-written list out₀ out r e =
       first-written input list out₀ out r (subst (λ (s : List ℕ). NumbersEnded s list out₀ out r) (portable-kept fed) e)

@@ -1,6 +1,6 @@
 -- What the command `portable` tells on standard error, as bytes.
 -- Assumes nothing.
-use Rattle.std.specs.Prelude.{ℕ, Bool, cond, List, ◌++◌, eqb}
+use Rattle.std.specs.Prelude.{ℕ, cond, List, ◌++◌, Option, Some, None, eqb}
 use Rattle.file.specs.Readers.{ascii}
 use Rattle.text.specs.declared.placed.Placed.{Placed}
 use Rattle.text.specs.Lent.{Lined, room_answer}
@@ -26,6 +26,6 @@ unfoldable pub refusal_line : ℕ → List ℕ
 refusal_line code = ascii "sedgecoil: nothing is written, code " ++ refusal_text code ++ newline
 
 -- and what is no list
-unfoldable pub not_written_line : Bool → ℕ → List ℕ
-not_written_line listed code =
-    cond listed (refusal_line code) (ascii "sedgecoil: --write takes fourteen decimal numbers with one space between" ++ newline)
+unfoldable pub not_written_line : Option ℕ → List ℕ
+not_written_line (Some code) = refusal_line code
+not_written_line None = ascii "sedgecoil: --write takes fourteen decimal numbers with one space between" ++ newline

@@ -6,6 +6,6 @@ mod ending;
 mod keeping;
 mod telling;
 
-pub use ending::{ListEnded, PortableEnded, read_end, write_end};
+pub use ending::{PortableEnded, read_end, write_end};
 pub use keeping::{PortableJob, feed, start};
 pub use telling::{not_read_line, not_written_line};

@@ -4,13 +4,15 @@ ghost use Rattle.job_portable.specs.Telling.{Told, not_read_line, not_written_li
 use text::{Placed, plain_text};
 
 // Puts the line that tells `code` of a reader into `buffer`, from `at` on: 12, or else 11.
+#[tactic(auto, unfolding(crate::specs::Telling::not_read_line, file::specs::Readers::ascii, text::specs::Text::newline))]
 pub fn not_read_line(buffer: &mut [u8], at: usize, code: u8) -> Placed
     ensures { Told (not_read_line code) at buffer.old buffer.new result }
 {
     if code == 12 {
-        return plain_text(buffer, at, b"sedgecoil: code 12: there aren't 28 bytes\n");
+        plain_text(buffer, at, b"sedgecoil: code 12: there aren't 28 bytes\n")
+    } else {
+        plain_text(buffer, at, b"sedgecoil: code 11: the line has no room\n")
     }
-    plain_text(buffer, at, b"sedgecoil: code 11: the line has no room\n")
 }
 
 // Puts the line that tells `code` of a writer into `buffer`, from `at` on: 8, 10, 12, or else 11.
@@ -45,16 +47,17 @@ fn refusal_line(buffer: &mut [u8], at: usize, code: u8) -> Placed
     )
 }
 
-// Puts the line that tells why nothing was written into `buffer`, from `at` on: that the text was no list where it isn't `listed`, and else `code`.
-pub fn not_written_line(buffer: &mut [u8], at: usize, listed: bool, code: u8) -> Placed
-    ensures { Told (not_written_line listed code) at buffer.old buffer.new result }
+// Puts the line that tells why nothing was written into `buffer`, from `at` on: the `code` of a list that there was, or else that the text was no list.
+#[tactic(auto, unfolding(crate::specs::Telling::not_written_line, file::specs::Readers::ascii, text::specs::Text::newline))]
+pub fn not_written_line(buffer: &mut [u8], at: usize, code: Option<u8>) -> Placed
+    ensures { Told (not_written_line code) at buffer.old buffer.new result }
 {
-    if listed {
-        return refusal_line(buffer, at, code);
+    match code {
+        Some(code) => refusal_line(buffer, at, code),
+        None => plain_text(
+            buffer,
+            at,
+            b"sedgecoil: --write takes fourteen decimal numbers with one space between\n",
+        ),
     }
-    plain_text(
-        buffer,
-        at,
-        b"sedgecoil: --write takes fourteen decimal numbers with one space between\n",
-    )
 }

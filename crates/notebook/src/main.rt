@@ -2,14 +2,14 @@
 // list of fourteen numbers it writes the bytes with these in them, or tells the code.
 #![tactic(auto)]
 
-ghost use Rattle.std.specs.Prelude.{◌++◌, ◌≡◌, ◌≤◌, IfOk, length, drop};
+ghost use Rattle.std.specs.Prelude.{◌++◌, ◌≡◌, ◌≤◌, length, drop};
 ghost use Rattle.io.specs.Counts.{IsPrefixLen};
 ghost use Rattle.portable_text.specs.Line.{line_most, line_of};
 
-use portable_text::{LINE_MOST, timing_line, write_list};
-use std::env::FillError;
+use file::Answer;
+use portable_text::{LINE_MOST, NotWritten, timing_line, write_list};
+use program_input::{count_args, read_arg, read_full};
 use std::io;
-use std::io::Read;
 use std::rt::Env;
 
 // What goes wrong, as a line: a program has no exit status.
@@ -27,18 +27,15 @@ fn tell_failure(err: &impl Print, what: &[u8], why: io::Error) {
 }
 
 // A refusal in words, with its code.
-fn tell_refusal(err: &impl Print, code: u8) {
+fn tell_refusal(err: &impl Print, answer: Answer) {
     let _ = err.write_all(b"portable: nothing is written, code ");
-    let _ = err.print(code);
-    if code == 8 {
-        let _ = err.write_all(b": CR11[7] locks the bytes");
-    }
-    if code == 10 {
-        let _ = err.write_all(b": a number is out of its range");
-    }
-    if code == 12 {
-        let _ = err.write_all(b": there aren't 28 bytes");
-    }
+    let _ = err.print(answer.code());
+    let _ = match answer {
+        Answer::Locked => err.write_all(b": CR11[7] locks the bytes"),
+        Answer::OutOfRange => err.write_all(b": a number is out of its range"),
+        Answer::NotSound => err.write_all(b": there aren't 28 bytes"),
+        _ => Ok(()),
+    };
     let _ = err.write_all(b"\n");
 }
 
@@ -46,40 +43,6 @@ fn write_out(rt: &impl Print, err: &impl Print, bytes: &[u8]) {
     if let Err(why) = rt.write_all(bytes) {
         tell_failure(err, b"portable: standard output", why);
     }
-}
-
-// Puts the word of this number at the start of a buffer and gives its length; one that is missing, or longer than the buffer, counts as an empty one.
-fn read_arg(rt: &impl Env, number: usize, buffer: &mut [u8]) -> usize
-    ensures { IsPrefixLen result buffer.new }
-{
-    match rt.arg(number, buffer) {
-        Ok(size) => size,
-        Err(_) => 0,
-    }
-}
-
-// Whether there is a word behind the program's name.
-fn has_word(rt: &impl Env) -> bool {
-    let mut word = [0u8; 8];
-    match rt.arg(1, &mut word) {
-        Err(FillError::NotPresent) => false,
-        _ => true,
-    }
-}
-
-// Reads until the buffer is full or the input ends, and gives how many bytes it put at the start of the buffer.
-fn read_full<I: Read>(from: &mut I, buffer: &mut [u8]) -> io::Result<usize>
-    ensures { IfOk result (λ n. IsPrefixLen n buffer.new) }
-{
-    let mut at = 0;
-    while at < buffer.len() {
-        let count = from.read(&mut buffer[at..])?;
-        if count == 0 {
-            break;
-        }
-        at += count;
-    }
-    Ok(at)
 }
 
 // The line of some bytes, from the start of a buffer on, and where it ends.
@@ -102,18 +65,11 @@ fn print_line(rt: &impl Print, err: &impl Print, bytes: &[u8]) {
 fn write_numbers(rt: &(impl Env + Print), err: &impl Print, bytes: &mut [u8]) {
     let mut text = [0u8; 256];
     let size = read_arg(rt, 1, &mut text);
-    let tried = write_list(bytes, &text[..size]);
-    if !tried.listed {
-        tell(err, b"no fourteen decimal numbers with one space between");
-        return;
+    match write_list(bytes, &text[..size]) {
+        Ok(()) => write_out(rt, err, bytes),
+        Err(NotWritten::NoList) => tell(err, b"no fourteen decimal numbers with one space between"),
+        Err(NotWritten::Refused(answer)) => tell_refusal(err, answer),
     }
-    let answer = tried.answer;
-    let code = answer.code();
-    if code != 0 {
-        tell_refusal(err, code);
-        return;
-    }
-    write_out(rt, err, bytes);
 }
 
 // One byte more than 28 is enough to tell another length.
@@ -127,11 +83,11 @@ fn run(rt: &(impl Env + Input + Print), err: &impl Print) {
             return;
         }
     };
-    if !has_word(rt) {
+    if count_args(rt) > 1 {
+        write_numbers(rt, err, &mut bytes[..count]);
+    } else {
         print_line(rt, err, &bytes[..count]);
-        return;
     }
-    write_numbers(rt, err, &mut bytes[..count]);
 }
 
 fn main(rt: HostRuntime) {

@@ -1,5 +1,7 @@
 -- A number of a list that is above 65,535 is held as that, and is refused as it would be itself: the writer answers by the numbers that the list says.
 -- Assumes nothing.
+use Rattle.std.specs.Prelude.{Some, None}
+use Rattle.std.proofs.lemmas.Option.{cond_some}
 use Prim.Native.Nat.{ℕ, zero, suc, ◌+◌, ◌^◌, ◌≤◌, ◌<◌, min}
 use mathlib.Core.Bool.{Bool, true, false, cond, ◌&&◌}
 use mathlib.Core.List.{List, [], ◌∷◌, map}
@@ -18,9 +20,10 @@ use Rattle.modes.specs.Form.{every, value_of}
 use Rattle.file.specs.declared.answer.Answer.TheVariants.{Done, Locked, OutOfRange, NotSound}
 use Rattle.timing.specs.Layout.{answer_by}
 use Rattle.timing.proofs.Layouts.{accepted-by}
+use Rattle.portable.specs.declared.Timing.{Timing}
 use Rattle.portable.specs.Table.{table, layout}
 use Rattle.portable.specs.Timing.{locked, numbers_of, readable, timing_answer, timing_of}
-use Rattle.portable_text.specs.Numbers.{held_of, is_list, listed_by, listed_in, no_list, number, parts}
+use Rattle.portable_text.specs.Numbers.{held_of, is_list, listed_by, listed_in, number, parts}
 
 -- no number in range is larger
 range-most : (m : Meaning) (n last v : ℕ) → in_range m n last v ≡ true → v ≤ most m n last
@@ -75,12 +78,21 @@ table-low : T (bounded 65535 0 table)
 unfolding bounded most width table
 table-low = tt
 
--- a list's timing has its numbers as they are held
-listed-numbers : (ps : List (List ℕ)) → T (is_list ps) → numbers_of (listed_by ps).timing ≡ map held_of ps
+-- a list has a timing, with its numbers as they are held; what is no list has none
+pub list_there : (text : List ℕ) → T (is_list (parts text)) → listed_in text ≡ Some (timing_of (map held_of (parts text)))
+unfolding listed_in listed_by
+list_there text t = rw (is_true (is_list (parts text)) t)
+
+pub list_none : (text : List ℕ) → is_list (parts text) ≡ false → listed_in text ≡ None
+unfolding listed_in listed_by
+list_none text e = rw e
+
+listed-numbers : (ps : List (List ℕ)) (t : Timing) → listed_by ps ≡ Some t → numbers_of t ≡ map held_of ps
 unfolding listed_by is_list
-listed-numbers ps t =
-    ap (λ (b : Bool). numbers_of (cond b (record { good = true; timing = timing_of (map held_of ps) }) no_list).timing) (is_true (is_list ps) t)
-    ∙ fourteen (map held_of ps) (length-map ps held_of ∙ eqb→eq (length ps) 14 (left (eqb (length ps) 14) (every number ps) t))
+listed-numbers ps t e =
+    let found = cond_some (is_list ps) (timing_of (map held_of ps)) t e in
+    ap numbers_of (sym found.1)
+    ∙ fourteen (map held_of ps) (length-map ps held_of ∙ eqb→eq (length ps) 14 (left (eqb (length ps) 14) (every number ps) (passes (is_list ps) found.0)))
 
 -- the ranges alone decide of the numbers
 by-ranges : (readable locked : Bool) (a b : List ℕ) → all_in_range table a ≡ all_in_range table b
@@ -88,11 +100,11 @@ by-ranges : (readable locked : Bool) (a b : List ℕ) → all_in_range table a �
 unfolding answer_by
 by-ranges readable locked a b e = ap (λ (r : Bool). cond readable (cond locked Locked (cond r (Done 0) OutOfRange)) NotSound) e
 
-pub held-alike : (bytes text : List ℕ) → T (is_list (parts text))
-    → timing_answer bytes (listed_in text).timing ≡ answer_by layout (readable bytes) (locked bytes) (map value_of (parts text))
+pub held-alike : (bytes text : List ℕ) (t : Timing) → listed_in text ≡ Some t
+    → timing_answer bytes t ≡ answer_by layout (readable bytes) (locked bytes) (map value_of (parts text))
 unfolding timing_answer listed_in all_in_range
-held-alike bytes text t =
-    ap (answer_by layout (readable bytes) (locked bytes)) (listed-numbers (parts text) t)
+held-alike bytes text t e =
+    ap (answer_by layout (readable bytes) (locked bytes)) (listed-numbers (parts text) t e)
     ∙ by-ranges (readable bytes) (locked bytes) (map held_of (parts text)) (map value_of (parts text)) (held-ranges 0 table (parts text) table-low)
 
 -- numbers in their ranges are held as they are
@@ -110,10 +122,10 @@ held-values last (n ∷ ns) (p ∷ ps) t r =
     (held-values (value_of p) ns ps (bounded-rest 65535 last (value_of p) n ns low t) (right here rest r))
 
 -- and so what an accepted list is written with are the numbers that it says
-pub held_same : (bytes text : List ℕ) → T (is_list (parts text)) → timing_answer bytes (listed_in text).timing ≡ Done 0
-    → numbers_of (listed_in text).timing ≡ map value_of (parts text)
+pub held_same : (bytes text : List ℕ) (t : Timing) → listed_in text ≡ Some t → timing_answer bytes t ≡ Done 0
+    → numbers_of t ≡ map value_of (parts text)
 unfolding listed_in all_in_range
-held_same bytes text t done =
-    listed-numbers (parts text) t
+held_same bytes text t e done =
+    listed-numbers (parts text) t e
     ∙ held-values 0 table (parts text) table-low
-    ((accepted-by layout (readable bytes) (locked bytes) (map value_of (parts text))).0 (sym (held-alike bytes text t) ∙ done)).ranged
+    ((accepted-by layout (readable bytes) (locked bytes) (map value_of (parts text))).0 (sym (held-alike bytes text t e) ∙ done)).ranged

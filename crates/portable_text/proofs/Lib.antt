@@ -1,5 +1,4 @@
 pub mod ListRead
-pub mod Cases
 pub mod Lines
 pub mod ListsWritten
 pub mod Beyond

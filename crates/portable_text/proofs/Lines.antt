@@ -7,6 +7,7 @@ use native.Mathlib.Omega.{arith}
 use lib.ListN.{get_or, length, length-append, replicate}
 use Rattle.bits.specs.Numbers.{read_numbers}
 use Rattle.bits.proofs.Test.{by-test}
+use Rattle.file.specs.declared.answer.Answer.TheVariants.{Done}
 use Rattle.file.specs.Answers.{code_of}
 use Rattle.portable.specs.declared.Read.{Read}
 use Rattle.portable.specs.declared.Timing.{Timing}
@@ -20,26 +21,25 @@ use Rattle.text.proofs.Spaced.{numbers-length, plain-length}
 use Rattle.portable_text.specs.Line.{line_of, line_most}
 
 -- the reader answers 0 or 12
-refused-code : (bytes : List ℕ) → (code_of (read_timing bytes).answer ≡ 0 → ⊥) → code_of (read_timing bytes).answer ≡ 12
+refused-code : (bytes : List ℕ) → ((x : ℕ) → (read_timing bytes).answer ≡ Done x → ⊥) → code_of (read_timing bytes).answer ≡ 12
 unfolding read_timing code_of
-refused-code bytes n = by-test (readable bytes) (λ e. absurd (n (rw e))) (λ e. rw e)
+refused-code bytes n = by-test (readable bytes) (λ e. absurd (n 0 (rw e refl))) (λ e. rw e refl)
 
-module _ (bytes : List ℕ) (read : Read) (numbers : List ℕ) (code : ℕ) (e : read ≡ read_timing bytes) (n : numbers ≡ numbers_of read.timing) (k : code ≡ code_of read.answer) where
-  by_word : (word : List ℕ) → decimal code ≡ word → numbers_line word [] numbers ≡ line_of bytes
+module _ (bytes : List ℕ) (read : Read) (numbers : List ℕ) (e : read ≡ read_timing bytes) (n : numbers ≡ numbers_of read.timing) where
+  by_word : (word : List ℕ) → word ≡ decimal (code_of read.answer) → numbers_line word [] numbers ≡ line_of bytes
   unfolding line_of
   by_word word w =
-      ap₂ (λ (x y : List ℕ). numbers_line x [] y) (sym w) n
-      ∙ ap (λ (j : ℕ). numbers_line (decimal j) [] (numbers_of read.timing)) k
+      ap₂ (λ (x y : List ℕ). numbers_line x [] y) w n
       ∙ ap (λ (r : Read). numbers_line (decimal (code_of r.answer)) [] (numbers_of r.timing)) e
 
-  pub done-line : code ≡ 0 → numbers_line (0x30 ∷ []) [] numbers ≡ line_of bytes
-  unfolding decimal decimal_places
-  done-line z = by_word (0x30 ∷ []) (ap decimal z)
+  pub done-line : (x : ℕ) → read.answer ≡ Done x → numbers_line (0x30 ∷ []) [] numbers ≡ line_of bytes
+  unfolding decimal decimal_places code_of
+  done-line x d = by_word (0x30 ∷ []) (rw d refl)
 
-  pub refused-line : (code ≡ 0 → ⊥) → numbers_line (0x31 ∷ 0x32 ∷ []) [] numbers ≡ line_of bytes
+  pub refused-line : ((x : ℕ) → read.answer ≡ Done x → ⊥) → numbers_line (0x31 ∷ 0x32 ∷ []) [] numbers ≡ line_of bytes
   unfolding decimal decimal_places
-  refused-line z =
-      by_word (0x31 ∷ 0x32 ∷ []) (ap decimal (k ∙ ap (λ (r : Read). code_of r.answer) e ∙ refused-code bytes (λ h. z (k ∙ ap (λ (r : Read). code_of r.answer) e ∙ h))))
+  refused-line d =
+      by_word (0x31 ∷ 0x32 ∷ []) (ap decimal (sym (ap (λ (r : Read). code_of r.answer) e ∙ refused-code bytes (λ x h. d x (ap (λ (r : Read). r.answer) e ∙ h)))))
 
 -- every number that is read has 16 bits
 zeros-below : (n k : ℕ) → get_or (replicate n 0) k 0 < 65536

@@ -1,4 +1,6 @@
 -- Read byte by byte, a text is a list of fourteen numbers exactly where its parts are, and the numbers are theirs. Assumes nothing.
+use Rattle.std.specs.Prelude.{Option, Some, None}
+use Rattle.std.specs.Option.{option_and_then, unwrap_or}
 use Prim.Native.Nat.{ℕ, zero, suc, ◌+◌, ◌-◌, ◌*◌, ◌%◌, ◌≤◌, ◌<◌, min}
 use mathlib.Core.Path.{◌≡◌, refl, sym, ap, ◌∙◌, fun_ext}
 use mathlib.Core.Bool.{Bool, true, false, ◌&&◌}
@@ -6,18 +8,18 @@ use mathlib.Core.List.{List, [], ◌∷◌, ◌++◌, map, map-append, append-ni
 use native.Mathlib.Nat.{mod-eq_of_lt}
 use native.Mathlib.Numerals.{add-one}
 use native.Mathlib.Omega.{arith}
-use borrow.Author.Tests.{eqb-true, eqb-false, eq-eqb, ne_eqb, lt-ltb, ltb-true, ltb-false}
+use borrow.Author.Tests.{eqb-true, eqb-false, eq-eqb, ne_eqb, lt-ltb, le-ltb, ltb-true, ltb-false}
 use lib.Dec.{eqb, ltb}
 use lib.ListN.{length, length-append, length-drop, length-map, drop, drop_of_length-le, get_or, replicate, set}
 use lib.Seq.{append_snoc, drop-cons, set-append_seam}
-use Rattle.bits.proofs.Test.{by-test, is_true, left, passes, right}
+use Rattle.bits.proofs.Test.{by-test}
 use Rattle.modes.specs.Form.{digit, every, value_from, value_of}
 use Rattle.modes.proofs.Tokens.{value-append}
 use Rattle.portable.specs.declared.Timing.{Timing}
 use Rattle.portable.specs.Timing.{timing_by, timing_of}
 use Rattle.portable_text.specs.declared.listing.Scan.{Scan}
-use Rattle.portable_text.specs.Numbers.{parts_from, parts, number, is_list, held_of, no_list, listed_by, listed_in}
-use Rattle.portable_text.specs.Scan.{begun, spoiled, with_digit, with_space, stepped, scanned, ended}
+use Rattle.portable_text.specs.Numbers.{parts_from, parts, number, is_list, held_of, listed_by, listed_in}
+use Rattle.portable_text.specs.Scan.{begun, with_digit, with_space, spaced_behind, stepped, scanned, ended, ended_behind}
 
 and-false : (b : Bool) → (b && false) ≡ false
 and-false true = refl
@@ -61,27 +63,47 @@ unfolding parts_from
 some-part part [] = omega arith
 some-part part (b ∷ text) = by-test (eqb b 0x20) (λ h. rw h (omega arith)) (λ h. rw h (some-part (part ++ b ∷ []) text))
 
-none-by-part : (ps : List (List ℕ)) → every number ps ≡ false → listed_by ps ≡ no_list
+none-by-part : (ps : List (List ℕ)) → every number ps ≡ false → listed_by ps ≡ None
 unfolding listed_by is_list
 none-by-part ps e = rw (e, and-false (eqb (length ps) 14))
 
-none-by-count : (ps : List (List ℕ)) → (length ps ≡ 14 → ⊥) → listed_by ps ≡ no_list
+none-by-count : (ps : List (List ℕ)) → (length ps ≡ 14 → ⊥) → listed_by ps ≡ None
 unfolding listed_by is_list
 none-by-count ps n = rw (ne_eqb (length ps) 14 n)
 
--- What is spoiled stays so.
+-- A scan, and behind it a text and its end.
 
-step-spoiled : (s : Scan) (b : ℕ) → s.good ≡ false → (stepped s b).good ≡ false
-unfolding stepped with_space with_digit spoiled
-step-spoiled s b e =
-    by-test (eqb b 0x20)
-    (λ h. rw h (by-test (s.some && ltb s.count 13) (λ g. rw g e) (λ g. rw g)))
-    (λ h. rw h (by-test (digit b) (λ g. rw g e) (λ g. rw g)))
+abbrev whole : Scan → List ℕ → Option Timing
+whole s text = option_and_then ended (scanned s text)
 
-spoiled-none : (s : Scan) (text : List ℕ) → s.good ≡ false → ended (scanned s text) ≡ no_list
-unfolding scanned ended
-spoiled-none s [] e = rw e
-spoiled-none s (b ∷ text) e = spoiled-none (stepped s b) text (step-spoiled s b e)
+module _ (s : Scan) (b : ℕ) (text : List ℕ) where
+  whole-none : stepped s b ≡ None → whole s (b ∷ text) ≡ None
+  unfolding scanned
+  whole-none e = rw e
+
+  whole-some : (x : Scan) → stepped s b ≡ Some x → whole s (b ∷ text) ≡ whole x text
+  unfolding scanned
+  whole-some x e = rw e
+
+-- the number at hand, if it has a digit
+unfoldable held_at : List ℕ → Option ℕ
+held_at [] = None
+held_at (b ∷ part) = Some (held_of (b ∷ part))
+
+held_none : (part : List ℕ) → ltb 0 (length part) ≡ false → held_at part ≡ None
+unfolding held_at
+held_none [] e = refl
+held_none (b ∷ part) e = absurd (omega (arith, ltb-false 0 (length (b ∷ part)) e))
+
+held_some : (part : List ℕ) → ltb 0 (length part) ≡ true → held_at part ≡ Some (held_of part)
+unfolding held_at
+held_some [] e = absurd (omega (arith, ltb-true 0 0 e))
+held_some (b ∷ part) e = refl
+
+held_first : (part : List ℕ) → unwrap_or (held_at part) 0 ≡ held_of part
+unfolding held_at held_of value_of value_from
+held_first [] = refl
+held_first (b ∷ part) = refl
 
 -- numbers that are held have 16 bits
 held_below : (ps : List (List ℕ)) (k : ℕ) → get_or (map held_of ps) k 0 < 65536
@@ -96,13 +118,11 @@ in-bits ps = ap timing_by (fun_ext (λ k. mod-eq_of_lt (held_below ps k)))
 
 -- A scan that has the numbers of the parts that ended, and a part at hand.
 record Reading (done : List (List ℕ)) (part : List ℕ) (s : Scan) : Type 0 where
-  good : s.good ≡ true
   count : s.count ≡ length done
   few : length done ≤ 13
   formed : every number done ≡ true
   digits : every digit part ≡ true
-  some : s.some ≡ ltb 0 (length part)
-  value : s.value ≡ held_of part
+  value : s.value ≡ held_at part
   left : List ℕ
   numbers : s.numbers ≡ map held_of done ++ left
   room : length done + length left ≡ 14
@@ -113,9 +133,9 @@ put_next xs [] n v e h = absurd (omega (arith, h))
 put_next xs (y ∷ ys) n v e h = ap (λ (k : ℕ). set (xs ++ y ∷ ys) k v) e ∙ set-append_seam xs y ys v ∙ sym (append_snoc xs v ys)
 
 module _ (done : List (List ℕ)) (part : List ℕ) (s : Scan) (r : Reading done part s) where
-  put-part : (n : ℕ) → n ≡ length done → set s.numbers n s.value ≡ map held_of (done ++ part ∷ []) ++ drop 1 r.left
+  put-part : (n : ℕ) → n ≡ length done → set s.numbers n (held_of part) ≡ map held_of (done ++ part ∷ []) ++ drop 1 r.left
   put-part n e =
-      rw (r.numbers, r.value)
+      rw r.numbers
       (put_next (map held_of done) r.left n (held_of part) (e ∙ sym (length-map done held_of)) (omega (arith, r.room, r.few))
       ∙ ap (λ (xs : List ℕ). xs ++ drop 1 r.left) (sym (map-append held_of done (part ∷ []))))
 
@@ -131,59 +151,71 @@ module _ (done : List (List ℕ)) (part : List ℕ) (s : Scan) (r : Reading done
   unfolding with_digit every
   with-digit b h =
       record {
-        good = r.good;
         count = r.count;
         few = r.few;
         formed = r.formed;
         digits = every_append digit part (b ∷ []) ∙ rw (r.digits, h);
-        some = sym (lt-ltb 0 (length (part ++ b ∷ [])) (omega (arith, length-append part (b ∷ []))));
-        value = rw r.value (sym (value-more part b));
+        value =
+            rw (r.value, held_first part)
+            (ap Some (sym (value-more part b))
+            ∙ sym (held_some (part ++ b ∷ []) (lt-ltb 0 (length (part ++ b ∷ [])) (omega (arith, length-append part (b ∷ []))))));
         left = r.left;
         numbers = r.numbers;
         room = r.room;
       }
 
   -- a space behind a number that is not the fourteenth
-  with-space : ltb 0 (length part) ≡ true → length done < 13 → with_space s ≡ record { good = s.good; count = s.count + 1; some = false; value = 0; numbers = set s.numbers s.count s.value }
-  unfolding with_space
-  with-space h k = rw (r.some, h, r.count, lt-ltb (length done) 13 k)
+  behind : Scan
+  behind = record { count = s.count + 1; value = None; numbers = set s.numbers s.count (held_of part) }
 
-  spaced : (h : ltb 0 (length part) ≡ true) → length done < 13
-      → Reading (done ++ part ∷ []) [] (record { good = s.good; count = s.count + 1; some = false; value = 0; numbers = set s.numbers s.count s.value })
-  unfolding held_of value_of value_from every
+  with-space : ltb 0 (length part) ≡ true → length done < 13 → with_space s ≡ Some behind
+  unfolding with_space spaced_behind behind
+  with-space h k = rw (r.value, held_some part h, r.count, lt-ltb (length done) 13 k)
+
+  spaced : ltb 0 (length part) ≡ true → length done < 13 → Reading (done ++ part ∷ []) [] behind
+  unfolding behind held_at every
   spaced h k =
       record {
-        good = r.good;
         count = ap (λ (n : ℕ). n + 1) r.count ∙ sym count-more;
         few = omega (arith, count-more, k);
         formed = all-formed h;
         digits = refl;
-        some = refl;
         value = refl;
         left = drop 1 r.left;
         numbers = put-part s.count r.count;
         room = omega (arith, count-more, length-drop 1 r.left, r.room, k);
       }
 
+  -- and one that ends no number, or the fourteenth
+  space-none : ltb 0 (length part) ≡ false → with_space s ≡ None
+  unfolding with_space
+  space-none h = rw (r.value, held_none part h)
+
+  space-last : 13 ≤ length done → with_space s ≡ None
+  unfolding with_space spaced_behind
+  space-last k =
+      by-test (ltb 0 (length part)) (λ h. rw (r.value, held_some part h, r.count, le-ltb (length done) 13 k)) (λ h. rw (r.value, held_none part h))
+
   -- the end of the text
   end_empty : ltb 0 (length part) ≡ false → ended s ≡ listed_by (done ++ part ∷ [])
   unfolding ended
-  end_empty h = rw (r.good, r.some, h) (sym (none-by-part (done ++ part ∷ []) (every-not number done (part ∷ []) (no_byte part [] h))))
+  end_empty h =
+      rw (r.value, held_none part h) (sym (none-by-part (done ++ part ∷ []) (every-not number done (part ∷ []) (no_byte part [] h))))
 
   end-early : ltb 0 (length part) ≡ true → eqb (length done) 13 ≡ false → ended s ≡ listed_by (done ++ part ∷ [])
-  unfolding ended
+  unfolding ended ended_behind
   end-early h k =
-      rw (r.good, r.some, h, r.count, k)
+      rw (r.value, held_some part h, r.count, k)
       (sym (none-by-count (done ++ part ∷ []) (λ e. absurd (eqb-false (length done) 13 k (omega (arith, e, count-more))))))
 
   end-full : ltb 0 (length part) ≡ true → eqb (length done) 13 ≡ true → ended s ≡ listed_by (done ++ part ∷ [])
-  unfolding ended listed_by is_list
+  unfolding ended ended_behind listed_by is_list
   end-full h k =
-      rw (r.good, r.some, h, r.count, k, all-formed h, eq-eqb (length (done ++ part ∷ [])) 14 (omega (arith, count-more, eqb-true (length done) 13 k)))
-      (ap (λ (t : Timing). record { good = true; timing = t })
+      rw (r.value, held_some part h, r.count, k, all-formed h, eq-eqb (length (done ++ part ∷ [])) 14 (omega (arith, count-more, eqb-true (length done) 13 k)))
+      (ap Some
       (ap (λ (ns : List ℕ). timing_by (λ (j : ℕ). get_or ns j 0 % 65536)) all-put ∙ in-bits (done ++ part ∷ [])))
     where
-      all-put : set s.numbers 13 s.value ≡ map held_of (done ++ part ∷ [])
+      all-put : set s.numbers 13 (held_of part) ≡ map held_of (done ++ part ∷ [])
       all-put =
           put-part 13 (sym (eqb-true (length done) 13 k))
           ∙ ap (λ (xs : List ℕ). map held_of (done ++ part ∷ []) ++ xs) (drop_of_length-le r.left {i = 1} (omega (arith, r.room, eqb-true (length done) 13 k)))
@@ -198,89 +230,69 @@ module _ (s : Scan) (b : ℕ) where
   unfolding stepped
   step-space h = rw h
 
-  step-digit : eqb b 0x20 ≡ false → digit b ≡ true → stepped s b ≡ with_digit s b
+  step-digit : eqb b 0x20 ≡ false → digit b ≡ true → stepped s b ≡ Some (with_digit s b)
   unfolding stepped
   step-digit h g = rw (h, g)
 
-  step-odd : eqb b 0x20 ≡ false → digit b ≡ false → stepped s b ≡ spoiled s
+  step-odd : eqb b 0x20 ≡ false → digit b ≡ false → stepped s b ≡ None
   unfolding stepped
   step-odd h g = rw (h, g)
 
--- a space that ends no number, or the fourteenth
-space-spoils : (done : List (List ℕ)) (part : List ℕ) (s : Scan) → Reading done part s → (text : List ℕ)
-    → (s.some && ltb s.count 13) ≡ false → ended (scanned (with_space s) text) ≡ listed_by (done ++ part ∷ parts_from [] text)
-unfolding with_space spoiled
-space-spoils done part s r text g =
-    rw g
-    (spoiled-none (spoiled s) text refl
-    ∙ sym (by-test (ltb 0 (length part))
-    (λ h. none-by-count (done ++ part ∷ parts_from [] text)
-    (λ e. absurd (omega (arith, e, length-append done (part ∷ parts_from [] text), some-part [] text, full h))))
-    (λ h. none-by-part (done ++ part ∷ parts_from [] text) (every-not number done (part ∷ parts_from [] text) (no_byte part (parts_from [] text) h)))))
-  where
-    full : ltb 0 (length part) ≡ true → 13 ≤ length done
-    full h = ltb-false (length done) 13 (rw (r.some, h, r.count) at g)
+-- behind a byte that begins no list there is none
+module _ (done : List (List ℕ)) (part text : List ℕ) where
+  none_empty : ltb 0 (length part) ≡ false → None ≡ listed_by (done ++ part ∷ parts_from [] text)
+  none_empty h =
+      sym (none-by-part (done ++ part ∷ parts_from [] text) (every-not number done (part ∷ parts_from [] text) (no_byte part (parts_from [] text) h)))
 
--- one that ends another
-space-takes : (done : List (List ℕ)) (part : List ℕ) (s : Scan) → Reading done part s → (text : List ℕ)
-    → ((x : Scan) → Reading (done ++ part ∷ []) [] x → ended (scanned x text) ≡ listed_by ((done ++ part ∷ []) ++ parts_from [] text))
-    → (s.some && ltb s.count 13) ≡ true → ended (scanned (with_space s) text) ≡ listed_by (done ++ part ∷ parts_from [] text)
-space-takes done part s r text rest g =
-    let both = passes (s.some && ltb s.count 13) g in
-    let h = sym r.some ∙ is_true s.some (left s.some (ltb s.count 13) both) in
-    let k = rw r.count at (ltb-true s.count 13 (is_true (ltb s.count 13) (right s.some (ltb s.count 13) both))) in
-    ap (λ (x : Scan). ended (scanned x text)) (with-space done part s r h k)
-    ∙ rest _ (spaced done part s r h k)
-    ∙ ap listed_by (append_snoc done part (parts_from [] text))
+  none-full : 13 ≤ length done → None ≡ listed_by (done ++ part ∷ parts_from [] text)
+  none-full k =
+      sym (none-by-count (done ++ part ∷ parts_from [] text)
+      (λ e. absurd (omega (arith, e, length-append done (part ∷ parts_from [] text), some-part [] text, k))))
 
--- a byte that is neither
-odd-spoils : (done : List (List ℕ)) (part : List ℕ) (s : Scan) (b : ℕ) (text : List ℕ) → digit b ≡ false
-    → ended (scanned (spoiled s) text) ≡ listed_by (done ++ parts_from (part ++ b ∷ []) text)
-unfolding spoiled every
-odd-spoils done part s b text g =
-    spoiled-none (spoiled s) text refl
-    ∙ sym (none-by-part (done ++ parts_from (part ++ b ∷ []) text)
-    (every-not number done (parts_from (part ++ b ∷ []) text) (odd-stays (part ++ b ∷ []) text (every-not digit part (b ∷ []) (rw g)))))
+  none-odd : (b : ℕ) → digit b ≡ false → None ≡ listed_by (done ++ parts_from (part ++ b ∷ []) text)
+  unfolding every
+  none-odd b g =
+      sym (none-by-part (done ++ parts_from (part ++ b ∷ []) text)
+      (every-not number done (parts_from (part ++ b ∷ []) text) (odd-stays (part ++ b ∷ []) text (every-not digit part (b ∷ []) (rw g)))))
 
 read-on : (text : List ℕ) (done : List (List ℕ)) (part : List ℕ) (s : Scan) → Reading done part s
-    → ended (scanned s text) ≡ listed_by (done ++ parts_from part text)
+    → whole s text ≡ listed_by (done ++ parts_from part text)
 unfolding scanned parts_from
 read-on [] done part s r = at-end done part s r
 read-on (b ∷ text) done part s r =
     by-test (eqb b 0x20)
     (λ h. rw h
-    (ap (λ (x : Scan). ended (scanned x text)) (step-space s b h)
-    ∙ by-test (s.some && ltb s.count 13) (space-takes done part s r text (λ x. read-on text (done ++ part ∷ []) [] x)) (space-spoils done part s r text)))
+    (by-test (ltb 0 (length part))
+    (λ g. by-test (ltb (length done) 13)
+    (λ k. let few = ltb-true (length done) 13 k in
+    whole-some s b text (behind done part s r) (step-space s b h ∙ with-space done part s r g few)
+    ∙ read-on text (done ++ part ∷ []) [] (behind done part s r) (spaced done part s r g few)
+    ∙ ap listed_by (append_snoc done part (parts_from [] text)))
+    (λ k. let full = ltb-false (length done) 13 k in whole-none s b text (step-space s b h ∙ space-last done part s r full) ∙ none-full done part text full))
+    (λ g. whole-none s b text (step-space s b h ∙ space-none done part s r g) ∙ none_empty done part text g)))
     (λ h. rw h
     (by-test (digit b)
-    (λ g. ap (λ (x : Scan). ended (scanned x text)) (step-digit s b h g) ∙ read-on text done (part ++ b ∷ []) (with_digit s b) (with-digit done part s r b g))
-    (λ g. ap (λ (x : Scan). ended (scanned x text)) (step-odd s b h g) ∙ odd-spoils done part s b text g)))
+    (λ g. whole-some s b text (with_digit s b) (step-digit s b h g) ∙ read-on text done (part ++ b ∷ []) (with_digit s b) (with-digit done part s r b g))
+    (λ g. whole-none s b text (step-odd s b h g) ∙ none-odd done part text b g)))
 
 -- the whole text
-pub list_read : (text : List ℕ) → ended (scanned begun text) ≡ listed_in text
-unfolding begun listed_in parts held_of value_of value_from every
+pub list_read : (text : List ℕ) → option_and_then ended (scanned begun text) ≡ listed_in text
+unfolding begun listed_in parts held_at every
 list_read text =
     read-on text [] [] begun
-    (record {
-      good = refl;
-      count = refl;
-      few = omega arith;
-      formed = refl;
-      digits = refl;
-      some = refl;
-      value = refl;
-      left = replicate 14 0;
-      numbers = refl;
-      room = refl;
-    })
+    (record { count = refl; few = omega arith; formed = refl; digits = refl; value = refl; left = replicate 14 0; numbers = refl; room = refl })
 
 -- The same by places of a text: what the code's loop has.
 
-pub scanned-next : (text : List ℕ) (s : Scan) (i : ℕ) → i < length text
-    → scanned (stepped s (get_or text i 0)) (drop (i + 1) text) ≡ scanned s (drop i text)
-unfolding scanned
-scanned-next text s i h = rw (drop-cons text i 0 h, add-one)
+module _ (text : List ℕ) (s : Scan) (i : ℕ) where
+  pub scanned-next : (x : Scan) → i < length text → stepped s (get_or text i 0) ≡ Some x → scanned s (drop i text) ≡ scanned x (drop (i + 1) text)
+  unfolding scanned
+  scanned-next x h e = rw (drop-cons text i 0 h, e, add-one)
 
-pub scanned-last : (text : List ℕ) (s : Scan) (i : ℕ) → length text ≤ i → scanned s (drop i text) ≡ s
-unfolding scanned
-scanned-last text s i h = rw (drop_of_length-le text {i = i} h)
+  pub scanned-none : i < length text → stepped s (get_or text i 0) ≡ None → scanned s (drop i text) ≡ None
+  unfolding scanned
+  scanned-none h e = rw (drop-cons text i 0 h, e)
+
+  pub scanned-last : length text ≤ i → scanned s (drop i text) ≡ Some s
+  unfolding scanned
+  scanned-last h = rw (drop_of_length-le text {i = i} h)

@@ -1,55 +1,61 @@
 -- What is written of a list; of what is no list, nothing. Assumes nothing.
+use Rattle.std.specs.Prelude.{Option, Some, None, Result, Ok, Err}
 use Prim.Native.Nat.{ℕ}
-use mathlib.Core.Bool.{Bool, false, cond}
-use mathlib.Core.List.{List, []}
-use mathlib.Core.Path.{◌≡◌, refl, sym, ap, ◌∙◌, subst}
-use lib.Dec.{T}
-use Rattle.bits.specs.Numbers.{all_in_range, in_range, ranges_from}
-use Rattle.bits.proofs.Test.{by-test, chosen}
+use mathlib.Core.Bool.{Bool, true, false, cond}
+use mathlib.Core.List.{List}
+use mathlib.Core.Path.{◌≡◌, refl, sym, ap, ◌∙◌}
+use Rattle.bits.proofs.Test.{by-test}
 use Rattle.file.specs.declared.answer.Answer.{Answer}
 use Rattle.file.specs.declared.answer.Answer.TheVariants.{Done, Locked, OutOfRange, NotSound}
-use Rattle.file.specs.Answers.{refused, code_of}
+use Rattle.file.specs.Answers.{code_of, refused}
+use Rattle.bits.specs.Numbers.{all_in_range}
 use Rattle.timing.specs.Layout.{answer_by}
 use Rattle.portable.specs.Table.{table}
-use Rattle.portable.specs.Timing.{locked, numbers_of, readable, timing_answer, timing_of, Written}
-use Rattle.portable.proofs.HandsBack.{refusal-leaves}
-use Rattle.portable_text.specs.declared.listing.Listed.{Listed}
-use Rattle.portable_text.specs.declared.writing.Tried.{Tried}
-use Rattle.portable_text.specs.Numbers.{is_list, ListWritten, listed_by, listed_in, no_list, parts}
+use Rattle.portable.specs.declared.Timing.{Timing}
+use Rattle.portable.specs.Timing.{locked, numbers_of, readable, timing_answer, Written}
+use Rattle.portable_text.specs.declared.writing.NotWritten.{NotWritten}
+use Rattle.portable_text.specs.declared.writing.NotWritten.TheVariants.{NoList, Refused}
+use Rattle.portable_text.specs.Numbers.{bytes_listed, list_result, listed_in, ListWritten}
 
-good-is : (ps : List (List ℕ)) → (listed_by ps).good ≡ is_list ps
-unfolding listed_by no_list
-good-is ps = by-test (is_list ps) (λ e. rw e) (λ e. rw e)
+module _ (before text : List ℕ) where
+  pub none_written : listed_in text ≡ None → ListWritten before text before (Err NoList)
+  unfolding list_result bytes_listed
+  none_written e = record { answered = rw e refl; bytes = rw e refl }
 
-pub list_written : (before text after : List ℕ) (said : Listed) (answer : Answer) → said ≡ listed_in text → Written before said.timing answer after
-    → ListWritten before text after (record { listed = said.good; answer = answer })
-unfolding listed_in
-list_written before text after said answer e w =
-    record {
-      listed = ap (λ (l : Listed). l.good) e ∙ good-is (parts text);
-      written = subst (λ (l : Listed). Written before l.timing answer after) e w;
-    }
+  module _ (t : Timing) (after : List ℕ) (answer : Answer) (there : listed_in text ≡ Some t) (w : Written before t answer after) where
+    pub list_written : refused answer ≡ false → ListWritten before text after (Ok tt)
+    unfolding list_result bytes_listed
+    list_written e = record { answered = rw (there, ap refused (sym w.answered) ∙ e) refl; bytes = rw there w.bytes }
 
--- what is no list has numbers out of range, H total 0 first
-none-ranged : all_in_range table (numbers_of (timing_of [])) ≡ false
-unfolding all_in_range ranges_from in_range table timing_of
-none-ranged = refl
+    pub list_refused : refused answer ≡ true → ListWritten before text after (Err (Refused answer))
+    unfolding list_result bytes_listed
+    list_refused e =
+        record {
+          answered = rw (there, ap refused (sym w.answered) ∙ e) (ap (λ (a : Answer). Err (Refused a)) w.answered);
+          bytes = rw there w.bytes;
+        }
 
-none-refused : (bytes : List ℕ) → T (refused (timing_answer bytes (timing_of [])))
-unfolding timing_answer answer_by refused code_of
-none-refused bytes =
-    chosen refused (readable bytes) _ NotSound
-    (chosen refused (locked bytes) Locked _ tt
-    (subst (λ (b : Bool). T (refused (cond b (Done 0) OutOfRange))) (sym none-ranged) tt)) tt
+-- the writer answers 0 or refuses
+by-tests : (readable locked ranged : Bool) → ((x : ℕ) → cond readable (cond locked Locked (cond ranged (Done 0) OutOfRange)) NotSound ≡ Done x → ⊥)
+    → refused (cond readable (cond locked Locked (cond ranged (Done 0) OutOfRange)) NotSound) ≡ true
+unfolding refused code_of
+by-tests true true ranged n = refl
+by-tests true false true n = absurd (n 0 refl)
+by-tests true false false n = refl
+by-tests false locked ranged n = refl
 
-none-timing : (ps : List (List ℕ)) → is_list ps ≡ false → (listed_by ps).timing ≡ timing_of []
-unfolding listed_by no_list
-none-timing ps e = rw e
+pub refused-else : (before : List ℕ) (t : Timing) (answer : Answer) → answer ≡ timing_answer before t → ((x : ℕ) → answer ≡ Done x → ⊥) → refused answer ≡ true
+unfolding timing_answer answer_by
+refused-else before t answer e n =
+    ap refused e ∙ by-tests (readable before) (locked before) (all_in_range table (numbers_of t)) (λ x h. n x (e ∙ h))
 
--- so its bytes are left as found
-pub unlisted-leaves : (before text after : List ℕ) (r : Tried) → ListWritten before text after r → r.listed ≡ false → after ≡ before
-unfolding listed_in
-unlisted-leaves before text after r w n =
-    refusal-leaves before after (listed_in text).timing r.answer w.written
-    (subst (λ (a : Answer). T (refused a))
-    (sym (w.written.answered ∙ ap (timing_answer before) (none-timing (parts text) (sym w.listed ∙ n)))) (none-refused before))
+-- what is no list leaves its bytes as found
+none-listed : (before : List ℕ) (o : Option Timing) → list_result before o ≡ Err NoList → bytes_listed before o ≡ before
+unfolding list_result bytes_listed
+none-listed before None e = refl
+none-listed before (Some t) e =
+    by-test (refused (timing_answer before t)) (λ h. let never : ◌≡◌ {A = Result (Unit {0}) NotWritten} (Err (Refused (timing_answer before t))) (Err NoList) = rw h at e in absurd (cc))
+    (λ h. let never : ◌≡◌ {A = Result (Unit {0}) NotWritten} (Ok tt) (Err NoList) = rw h at e in absurd (cc))
+
+pub unlisted-leaves : (before text after : List ℕ) (r : Result (Unit {0}) NotWritten) → ListWritten before text after r → r ≡ Err NoList → after ≡ before
+unlisted-leaves before text after r w n = w.bytes ∙ none-listed before (listed_in text) (sym w.answered ∙ n)

@@ -1,10 +1,12 @@
 -- The program of 02, 13/13 (DECISIONS, points 120 to 123 and 125): the writer's numbers as a text, fourteen of them.
 -- Assumes nothing.
-use Rattle.std.specs.Prelude.{ℕ, min, Bool, true, false, cond, ◌&&◌, List, [], ◌∷◌, ◌++◌, map, ◌≡◌, eqb, ltb, length}
+use Rattle.std.specs.Prelude.{ℕ, min, Bool, cond, ◌&&◌, List, [], ◌∷◌, ◌++◌, map, ◌≡◌, Option, Some, None, Result, Ok, Err, eqb, ltb, length}
+use Rattle.file.specs.Answers.{refused}
 use Rattle.modes.specs.Form.{digit, every, value_of}
-use Rattle.portable.specs.Timing.{timing_of, Written}
-use Rattle.portable_text.specs.declared.listing.Listed.{Listed}
-use Rattle.portable_text.specs.declared.writing.Tried.{Tried}
+use Rattle.portable.specs.declared.Timing.{Timing}
+use Rattle.portable.specs.Timing.{bytes_after, timing_answer, timing_of}
+use Rattle.portable_text.specs.declared.writing.NotWritten.{NotWritten}
+use Rattle.portable_text.specs.declared.writing.NotWritten.TheVariants.{NoList, Refused}
 
 -- the parts of a text between its spaces, behind the bytes that the first part has already
 unfoldable pub parts_from : List ℕ → List ℕ → List (List ℕ)
@@ -27,16 +29,23 @@ unfoldable pub held_of : List ℕ → ℕ
 held_of part = min (value_of part) 65535
 
 -- what is no list has no numbers
-unfoldable pub no_list : Listed
-no_list = record { good = false; timing = timing_of [] }
+unfoldable pub listed_by : List (List ℕ) → Option Timing
+listed_by ps = cond (is_list ps) (Some (timing_of (map held_of ps))) None
 
-unfoldable pub listed_by : List (List ℕ) → Listed
-listed_by ps = cond (is_list ps) (record { good = true; timing = timing_of (map held_of ps) }) no_list
-
-unfoldable pub listed_in : List ℕ → Listed
+unfoldable pub listed_in : List ℕ → Option Timing
 listed_in text = listed_by (parts text)
 
--- a text was to be written into bytes: whether it was a list, what the writer answered of its numbers, and what the bytes hold
-pub record ListWritten (before text after : List ℕ) (r : Tried) : Type 0 where
-  pub listed : r.listed ≡ is_list (parts text)
-  pub written : Written before (listed_in text).timing r.answer after
+-- what comes back of numbers that were to be written: the writer's answer, if there are any
+unfoldable pub list_result : List ℕ → Option Timing → Result (Unit {0}) NotWritten
+list_result before None = Err NoList
+list_result before (Some t) = cond (refused (timing_answer before t)) (Err (Refused (timing_answer before t))) (Ok tt)
+
+-- and what the bytes hold
+unfoldable pub bytes_listed : List ℕ → Option Timing → List ℕ
+bytes_listed before None = before
+bytes_listed before (Some t) = bytes_after before t
+
+-- a text was to be written into bytes
+pub record ListWritten (before text after : List ℕ) (r : Result (Unit {0}) NotWritten) : Type 0 where
+  pub answered : r ≡ list_result before (listed_in text)
+  pub bytes : after ≡ bytes_listed before (listed_in text)

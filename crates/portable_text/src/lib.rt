@@ -5,6 +5,6 @@ mod listing;
 mod printing;
 mod writing;
 
-pub use listing::{Listed, read_list};
+pub use listing::read_list;
 pub use printing::{LINE_MOST, timing_line};
-pub use writing::{Tried, write_list};
+pub use writing::{NotWritten, write_list};

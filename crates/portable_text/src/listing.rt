@@ -1,170 +1,90 @@
 // A list of fourteen numbers, byte by byte.
-ghost use Rattle.std.specs.Prelude.{◌≡◌, ◌+◌, ◌-◌, ◌*◌, ◌<◌, min, set};
-ghost use Rattle.portable_text.specs.Scan.{begun as begunList, ended as endedList, spoiled as spoiledList, stepped as steppedList, with_digit, with_space};
-ghost use Rattle.portable_text.specs.Numbers.{listed_in, no_list};
+ghost use Rattle.std.specs.Prelude.{◌≡◌};
+ghost use Rattle.portable_text.specs.Scan.{begun, ended, stepped, with_digit, with_space};
+ghost use Rattle.portable_text.specs.Numbers.{listed_in};
 
 use portable::Timing;
 
-// Whether a text is a list of fourteen numbers, and these; none where it isn't.
-#[derive(Clone, Copy)]
-pub struct Listed {
-    pub good: bool,
-    pub timing: Timing,
-}
-
-// How far a list is read: whether it may still be one, how many numbers have ended, whether the one at hand has a digit and what it is so far, and those
-// that have ended.
+// How far a list is read: how many numbers have ended, the one at hand so far if it has a digit, and those that have ended, in fixed memory.
 #[derive(Clone, Copy)]
 struct Scan {
-    good: bool,
     count: usize,
-    some: bool,
-    value: u32,
+    value: Option<u32>,
     numbers: [u32; 14],
 }
 
-// Before the first byte.
-fn begun() -> Scan
-    ensures { result ≡ begunList }
-{
-    Scan {
-        good: true,
-        count: 0,
-        some: false,
-        value: 0,
-        numbers: [0; 14],
+impl Scan {
+    // Before the first byte.
+    #[tactic(auto, unfolding(crate::specs::Scan::begun))]
+    fn begun() -> Scan
+        ensures { result ≡ begun }
+    {
+        Scan {
+            count: 0,
+            value: None,
+            numbers: [0; 14],
+        }
     }
-}
 
-// A digit's value.
-fn digit(b: u8) -> u32
-    ensures value { result ≡ b - 0x30 }
-    ensures upper_bound { result < 256 }
-{
-    if b < 0x30 {
-        return 0;
+    // A digit behind the number at hand; what is above 65,535 is held as that.
+    #[tactic(auto, unfolding(crate::specs::Scan::with_digit))]
+    fn with_digit(mut self, b: u8) -> Scan
+        ensures { result ≡ with_digit self b }
+    {
+        let digit = u32::from(b.saturating_sub(b'0'));
+        let before = self.value.unwrap_or(0);
+        self.value = Some(before.saturating_mul(10).saturating_add(digit).min(65535));
+        self
     }
-    (b - 0x30) as u32
-}
 
-// A digit behind a number; what is above 65,535 is held as that.
-fn held(value: u32, b: u8) -> u32
-    ensures { result ≡ min (10 * value + (b - 0x30)) 65535 }
-{
-    if value > 6553 {
-        return 65535;
+    // A space ends a number that has a digit, but not the fourteenth.
+    #[tactic(auto, unfolding(crate::specs::Scan::with_space, crate::specs::Scan::spaced_behind))]
+    fn with_space(mut self) -> Option<Scan>
+        ensures { result ≡ with_space self }
+    {
+        let value = self.value?;
+        if self.count >= 13 {
+            return None;
+        }
+        self.numbers[self.count] = value;
+        self.count += 1;
+        self.value = None;
+        Some(self)
     }
-    let more = 10 * value + digit(b);
-    if more < 65535 {
-        return more;
-    }
-    65535
-}
 
-// A number in its place.
-fn put(numbers: [u32; 14], count: usize, value: u32) -> [u32; 14]
-    requires { count < 14 }
-    ensures { result ≡ set numbers count value }
-{
-    let mut after = numbers;
-    after[count] = value;
-    after
-}
+    // One byte further; none where no list begins so.
+    #[tactic(auto, unfolding(crate::specs::Scan::stepped, modes::specs::Form::digit))]
+    fn stepped(self, b: u8) -> Option<Scan>
+        ensures { result ≡ stepped self b }
+    {
+        match b {
+            b' ' => self.with_space(),
+            b'0'..=b'9' => Some(self.with_digit(b)),
+            _ => None,
+        }
+    }
 
-// No list begins so.
-fn spoiled(scan: Scan) -> Scan
-    ensures { result ≡ spoiledList scan }
-{
-    let mut after = scan;
-    after.good = false;
-    after
-}
-
-fn with_digit(scan: Scan, b: u8) -> Scan
-    ensures { result ≡ with_digit scan b }
-{
-    let mut after = scan;
-    after.some = true;
-    after.value = held(scan.value, b);
-    after
-}
-
-// A space ends a number that has a digit, but not the fourteenth.
-fn with_space(scan: Scan) -> Scan
-    ensures { result ≡ with_space scan }
-{
-    if !scan.some {
-        return spoiled(scan);
-    }
-    if scan.count >= 13 {
-        return spoiled(scan);
-    }
-    let before = scan.numbers;
-    let numbers = put(before, scan.count, scan.value);
-    Scan {
-        good: scan.good,
-        count: scan.count + 1,
-        some: false,
-        value: 0,
-        numbers,
-    }
-}
-
-// One byte further.
-fn stepped(scan: Scan, b: u8) -> Scan
-    ensures { result ≡ steppedList scan b }
-{
-    if b == 0x20 {
-        return with_space(scan);
-    }
-    if b < 0x30 {
-        return spoiled(scan);
-    }
-    if b > 0x39 {
-        return spoiled(scan);
-    }
-    with_digit(scan, b)
-}
-
-// The end of the text ends the fourteenth number.
-fn ended(scan: Scan) -> Listed
-    ensures { result ≡ endedList scan }
-{
-    if !scan.good {
-        return no_list();
-    }
-    if !scan.some {
-        return no_list();
-    }
-    if scan.count != 13 {
-        return no_list();
-    }
-    let before = scan.numbers;
-    let numbers = put(before, 13, scan.value);
-    Listed {
-        good: true,
-        timing: Timing::of(numbers),
-    }
-}
-
-fn no_list() -> Listed
-    ensures { result ≡ no_list }
-{
-    Listed {
-        good: false,
-        timing: Timing::of([0; 14]),
+    // The end of the text ends the fourteenth number.
+    #[tactic(auto, unfolding(crate::specs::Scan::ended, crate::specs::Scan::ended_behind))]
+    fn ended(mut self) -> Option<Timing>
+        ensures { result ≡ ended self }
+    {
+        let value = self.value?;
+        if self.count != 13 {
+            return None;
+        }
+        self.numbers[13] = value;
+        Some(Timing::of(self.numbers))
     }
 }
 
 // The numbers of a text that is a list of fourteen, decimal, with one space between.
-pub fn read_list(text: &[u8]) -> Listed
+pub fn read_list(text: &[u8]) -> Option<Timing>
     ensures { result ≡ listed_in text.now }
 {
-    let mut scan = begun();
-    let mut i: usize = 0;
-    while i < text.len() {
-        scan = stepped(scan, text[i]);
-        i += 1;
+    let mut scan = Scan::begun();
+    for b in text {
+        scan = scan.stepped(*b)?;
     }
-    ended(scan)
+    scan.ended()
 }

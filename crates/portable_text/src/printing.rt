@@ -2,6 +2,7 @@
 ghost use Rattle.text.specs.Lent.{Lined, room_answer};
 ghost use Rattle.portable_text.specs.Line.{line_of};
 
+use file::Answer;
 use portable::read_timing;
 use text::{Placed, numbers_line};
 
@@ -13,12 +14,9 @@ pub fn timing_line(buffer: &mut [u8], at: usize, bytes: &[u8]) -> Placed
     ensures { Lined (room_answer buffer.old at (line_of bytes.now)) at (line_of bytes.now) buffer.old buffer.new result }
 {
     let read = read_timing(bytes);
-    let answer = read.answer;
-    let timing = read.timing;
-    let numbers = timing.numbers();
-    let minus: [bool; 0] = [];
-    if answer.code() == 0 {
-        return numbers_line(buffer, at, b"0", &minus, &numbers);
-    }
-    numbers_line(buffer, at, b"12", &minus, &numbers)
+    let code: &[u8] = match read.answer {
+        Answer::Done(_) => b"0",
+        _ => b"12",
+    };
+    numbers_line(buffer, at, code, &[], &read.timing.numbers())
 }

@@ -5,22 +5,22 @@ use crate::listing::read_list;
 use file::Answer;
 use portable::write_timing;
 
-// Whether the text was a list, and what the writer answered.
+// Why no numbers were written: the text was no list of fourteen, or what the writer answered of them.
 #[derive(Clone, Copy)]
-pub struct Tried {
-    pub listed: bool,
-    pub answer: Answer,
+pub enum NotWritten {
+    NoList,
+    Refused(Answer),
 }
 
-// The numbers of a list, written into 28 bytes; what is no list has no numbers, and these the writer refuses.
-pub fn write_list(bytes: &mut [u8], text: &[u8]) -> Tried
+// The numbers of a list, written into 28 bytes; what is no list leaves them as they are.
+pub fn write_list(bytes: &mut [u8], text: &[u8]) -> Result<(), NotWritten>
     ensures { ListWritten bytes.old text.now bytes.new result }
 {
-    let said = read_list(text);
-    let timing = said.timing;
-    let answer = write_timing(bytes, timing);
-    Tried {
-        listed: said.good,
-        answer,
+    let Some(timing) = read_list(text) else {
+        return Err(NotWritten::NoList);
+    };
+    match write_timing(bytes, timing) {
+        Answer::Done(_) => Ok(()),
+        answer => Err(NotWritten::Refused(answer)),
     }
 }

@@ -16,11 +16,11 @@ returns c =
     let args = c.args in
     let same =
     ap capture_line
-    (λ i. c.widened.ensures.0 i ∷ c.widened-2.ensures.0 i ∷ c.widened-3.ensures.0 i ∷ c.widened-4.ensures.0 i ∷ []) in record {
+    (λ i. c.from.ensures i ∷ c.from-2.ensures i ∷ c.from-3.ensures i ∷ c.from-4.ensures i ∷ []) in record {
       lined = lined-as args.at _ (capture_text args.capture) _ _ _ same c.capture_line.ensures;
       capture_len_bound = subst (λ (t : List ℕ). length t ≤ 52) same
           (capture-short _ refl
-          (also (omega (arith, c.widened.ensures.1))
-          (also (omega (arith, c.widened-2.ensures.1))
-          (also (omega (arith, c.widened-3.ensures.1)) (also (omega (arith, c.widened-4.ensures.1)) none)))));
+          (also (omega (arith, c.from.type_inv))
+          (also (omega (arith, c.from-2.type_inv))
+          (also (omega (arith, c.from-3.type_inv)) (also (omega (arith, c.from-4.type_inv)) none)))));
     }

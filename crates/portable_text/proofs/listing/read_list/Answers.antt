@@ -1,36 +1,24 @@
-use Prim.Native.Nat.{◌+◌}
 use mathlib.Core.Path.{sym, ap, ◌∙◌}
-use native.Mathlib.Omega.{arith}
-use lib.ListN.{drop}
-use Rattle.portable_text.specs.declared.listing.Scan.{Scan}
-use Rattle.portable_text.specs.Scan.{ended, scanned}
-use Rattle.portable_text.proofs.ListRead.{list_read, scanned-next, scanned-last}
+use Rattle.std.specs.Option.{option_and_then}
+use Rattle.portable_text.specs.Scan.{ended}
+use Rattle.portable_text.proofs.ListRead.{list_read, scanned-last, scanned-next, scanned-none}
 use Rattle.portable_text.proofs.listing.read_list.Goals as goal
 
-pub loop-i-init : goal.loop-i-init
-loop-i-init c = (ap (λ (s : Scan). scanned s c.args.text.now) c.begun-scan.ensures, omega arith)
-
-pub bounds-text-i : goal.bounds-text-i
-bounds-text-i c = omega arith
-
-pub overflow_add-i : goal.overflow_add-i
-overflow_add-i c = omega arith
-
-pub loop-i-smaller : goal.loop-i-smaller
-loop-i-smaller c = omega arith
-
-pub loop-i-preserved : goal.loop-i-preserved
-loop-i-preserved c =
+pub returns-in_err-scan : goal.returns-in_err-scan
+returns-in_err-scan c =
     let text = c.args.text.now in
-    let scan = c.loop-i.scan in
-    let i = c.loop-i.i in
-    (ap (λ (s : Scan). scanned s (drop (i + 1) text)) c.stepped-scan.ensures ∙ scanned-next text scan i (omega arith) ∙ c.loop-i.invariant.0, omega arith)
+    let none = scanned-none text c.loop-b.scan c.loop-b.b-index c.loop-b-test.true (sym c.stepped.ensures ∙ c.in_err-scan.was) in
+    c.from_residual.ensures ∙ ap (option_and_then ended) (sym none ∙ c.loop-b.invariant) ∙ list_read text
+
+pub loop-b-preserved : goal.loop-b-preserved
+loop-b-preserved c =
+    let text = c.args.text.now in
+    sym (scanned-next text c.loop-b.scan c.loop-b.b-index c.in_ok-scan.scan c.loop-b-test.true (sym c.stepped.ensures ∙ c.in_ok-scan.was))
+    ∙ c.loop-b.invariant
 
 pub returns : goal.returns
 returns c =
     let text = c.args.text.now in
-    let scan = c.loop-i.scan in
-    let i = c.loop-i.i in
     c.ended.ensures
-    ∙ ap ended (sym (scanned-last text scan i (omega arith)) ∙ c.loop-i.invariant.0)
+    ∙ ap (option_and_then ended) (sym (scanned-last text c.loop-b.scan c.loop-b.b-index c.loop-b-test.false) ∙ c.loop-b.invariant)
     ∙ list_read text
