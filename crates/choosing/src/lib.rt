@@ -5,5 +5,6 @@ mod choosing;
 mod options;
 mod words;
 
-pub use choosing::{Choice, Chosen, choose, choose_behind};
-pub use words::{Asked, Word, Words, count_args, read_arg};
+pub use choosing::{Choice, Chosen, choose};
+pub use program_input::{count_args, read_arg};
+pub use words::{Asked, Word, Words};

@@ -6,47 +6,48 @@ use crate::words::{Asked, Word};
 use engines::Engine;
 use file::Chip;
 
-// A chip, an engine, or nothing that there is.
+// A chip, or an engine.
 #[derive(Clone, Copy)]
 pub enum Wish {
     OnChip(Chip),
     ByEngine(Engine),
-    Nothing,
 }
 
-fn chip_named(name: Word) -> Wish
+// The names of the chips, and below those of the engines: two of each, of two types, so that one table of both would be no plainer.
+fn chip_named(name: Word) -> Option<Wish>
     ensures { result ≡ chip_named (text_of name) }
 {
     if name.is(b"5462") {
-        return Wish::OnChip(Chip::Gd5462);
+        Some(Wish::OnChip(Chip::Gd5462))
+    } else if name.is(b"5464") {
+        Some(Wish::OnChip(Chip::Gd5464))
+    } else {
+        None
     }
-    if name.is(b"5464") {
-        return Wish::OnChip(Chip::Gd5464);
-    }
-    Wish::Nothing
 }
 
-fn engine_named(name: Word) -> Wish
+fn engine_named(name: Word) -> Option<Wish>
     ensures { result ≡ engine_named (text_of name) }
 {
     if name.is(b"quick") {
-        return Wish::ByEngine(Engine::Quick);
+        Some(Wish::ByEngine(Engine::Quick))
+    } else if name.is(b"plain") {
+        Some(Wish::ByEngine(Engine::Plain))
+    } else {
+        None
     }
-    if name.is(b"plain") {
-        return Wish::ByEngine(Engine::Plain);
-    }
-    Wish::Nothing
 }
 
-pub fn wanted(asked: Asked) -> Wish
+// Nothing, where there is no such option, or no such name behind it.
+pub fn wanted(asked: Asked) -> Option<Wish>
     ensures { result ≡ wantedOf asked }
 {
     let option = asked.option;
     if option.is(b"--chip") {
-        return chip_named(asked.name);
+        chip_named(asked.name)
+    } else if option.is(b"--engine") {
+        engine_named(asked.name)
+    } else {
+        None
     }
-    if option.is(b"--engine") {
-        return engine_named(asked.name);
-    }
-    Wish::Nothing
 }

@@ -1,16 +1,16 @@
 -- `engine_named` meets its contract: the two names, one after the other. Assumes nothing.
-use mathlib.Core.Path.{sym, ◌∙◌}
+use Rattle.std.proofs.Common.{sym, ◌∙◌, refl}
 use Rattle.choosing.specs.Choosing.{engine_named}
 use Rattle.choosing.proofs.options.engine_named.Goals as goal
 
 pub returns-then-is : goal.returns-then-is
 unfolding engine_named
-returns-then-is c = rw (sym c.is.ensures ∙ c.if-is.true)
+returns-then-is c = rw (sym c.is.ensures ∙ c.if-is.true) refl
 
 pub returns-then-is-2 : goal.returns-then-is-2
 unfolding engine_named
-returns-then-is-2 c = rw (sym c.is.ensures ∙ c.if-is.false, sym c.is-2.ensures ∙ c.if-is-2.true)
+returns-then-is-2 c = rw (sym c.is.ensures ∙ c.if-is.false, sym c.is-else-is.ensures ∙ c.if-is-2.true) refl
 
-pub returns : goal.returns
+pub returns-else-is-2 : goal.returns-else-is-2
 unfolding engine_named
-returns c = rw (sym c.is.ensures ∙ c.if-is.false, sym c.is-2.ensures ∙ c.if-is-2.false)
+returns-else-is-2 c = rw (sym c.is.ensures ∙ c.if-is.false, sym c.is-else-is.ensures ∙ c.if-is-2.false) refl
