@@ -1,9 +1,7 @@
 -- The command `replay` as a job: a trace that is run from power-on, fed in parts, with a line for each record where lines are asked for.
 -- Assumes nothing.
-use Rattle.std.specs.Prelude.{ℕ, ◌+◌, ◌-◌, ◌*◌, ◌/◌, ◌%◌, min, Bool, cond, List, [], ◌++◌, ◌≡◌, length, drop}
-use Rattle.file.specs.declared.answer.Answer.TheVariants.{Done}
+use Rattle.std.specs.Prelude.{ℕ, ◌+◌, ◌-◌, ◌/◌, ◌%◌, min, Bool, cond, List, [], ◌++◌, ◌≡◌, length, drop}
 use Rattle.file.specs.declared.chip.Chip.{Chip}
-use Rattle.file.specs.declared.registers.File.{File}
 use Rattle.file.specs.File.{power_on}
 use Rattle.file.specs.Sound.{sound}
 use Rattle.timing.specs.Timing.{read_timing}
@@ -11,8 +9,7 @@ use Rattle.trace.specs.Records.{item_count}
 use Rattle.text.specs.Text.{timing_line}
 use Rattle.feeding.specs.Feeding.{Fed, bytes_of, units_in}
 use Rattle.refusals.specs.Counted.{counted_part, none_counted}
-use Rattle.replaying.specs.declared.Part.{Part}
-use Rattle.replaying.specs.Replay.{after_part, part_lines, part_replies}
+use Rattle.replaying.specs.Replay.{after_part, part_lines}
 use Rattle.job_replay.specs.declared.job.TraceFed.{TraceFed}
 use Rattle.job_replay.specs.declared.job.TraceJob.{TraceJob}
 
@@ -61,15 +58,6 @@ bytes_taken prints last job part out = bytes_of 8 (records_taken prints last job
 -- bytes of a trace that are whole records
 unfoldable pub WholeRecords : List ℕ → Type 0
 WholeRecords bytes = length bytes % 8 ≡ 0
-
--- a part that was run from a file: what comes back, and what both buffers hold
-pub record Parted (f : File) (number : ℕ) (prints : Bool) (part replies₀ replies out₀ out : List ℕ) (r : Part) : Type 0 where
-  pub answered : r.answer ≡ Done 0
-  pub file : r.file ≡ after_part f part
-  pub count : r.count ≡ item_count part
-  pub end : r.end ≡ length (cond prints (part_lines number f part) [])
-  pub replied : replies ≡ part_replies f part ++ drop (8 * item_count part) replies₀
-  pub printed : out ≡ cond prints (part_lines number f part) [] ++ drop r.end out₀
 
 -- a part that was run whole in one step of a job
 pub record Stepped (prints : Bool) (before : TraceJob) (part out₀ out : List ℕ) (r : TraceFed) : Type 0 where

@@ -2,45 +2,13 @@
 ghost use Rattle.std.specs.Prelude.{true, ◌≡◌, ◌+◌, ◌*◌, ◌^◌, ◌≤◌, ◌<◌, T, length};
 ghost use Rattle.file.specs.Sound.{sound};
 ghost use Rattle.trace.specs.Records.{item_count};
-ghost use Rattle.job_replay.specs.Job.{Parted, Stepped, TraceStep};
+ghost use Rattle.job_replay.specs.Job.{Stepped, TraceStep};
 
 use crate::job::{TraceFed, TraceJob};
-use crate::taking::{least, records_taken};
-use engines::{Engine, run_by};
-use file::File;
+use crate::taking::records_taken;
+use engines::Engine;
 use refusals::counting_replies;
-use replaying::{Part, replay_part};
-
-// Runs `part` by `engine` from the file `before` on, and puts the lines of its records, numbered from `number` on, from the start of `out` on
-// if `prints` asks for them.
-fn run_part(
-    engine: Engine,
-    prints: bool,
-    before: File,
-    number: u64,
-    part: &[u8],
-    replies: &mut [u8],
-    out: &mut [u8],
-) -> Part
-    requires t { T (sound before) }
-    requires part_in_bounds { 8 * item_count part.now ≤ length replies.old }
-    requires part_in_bounds_2 { prints ≡ true → 30 * item_count part.now ≤ length out.old }
-    requires part_bound { number + item_count part.now ≤ 2 ^ 64 }
-    ensures { Parted before number prints part.now replies.old replies.new out.old out.new result }
-{
-    if prints {
-        return replay_part(engine, before, number, part, replies, out);
-    }
-    let ran = run_by(engine, before, part, replies);
-    let answer = ran.answer;
-    let file = ran.file;
-    Part {
-        answer,
-        file,
-        count: ran.count,
-        end: 0,
-    }
-}
+use replaying::run_part;
 
 // Runs the whole of `part` in one step of the job `before`, and counts its answers.
 fn run_some(engine: Engine, prints: bool, before: TraceJob, part: &[u8], out: &mut [u8]) -> TraceFed
@@ -88,6 +56,6 @@ pub fn feed(
             end: 0,
         };
     }
-    let used = least(8 * records, part.len());
+    let used = (8 * records).min(part.len());
     run_some(engine, prints, before, &part[..used], out)
 }

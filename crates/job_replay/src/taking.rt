@@ -1,16 +1,10 @@
 // How many records of a part one step takes.
-ghost use Rattle.std.specs.Prelude.{◌≡◌, ◌-◌, min};
+ghost use Rattle.std.specs.Prelude.{◌≡◌, ◌-◌};
 ghost use Rattle.feeding.specs.Feeding.{units_in};
 ghost use Rattle.job_replay.specs.Job.{number_most, records_taken, room_for};
 
 use crate::job::TraceJob;
 use file::is_sound;
-
-pub fn least(a: usize, b: usize) -> usize
-    ensures { result ≡ min a b }
-{
-    if a <= b { a } else { b }
-}
 
 // Counts the whole records of `part`, and in the last part a fragment too.
 fn records_in(part: &[u8], last: bool) -> usize
@@ -47,7 +41,7 @@ pub fn records_taken(prints: bool, last: bool, job: TraceJob, part: &[u8], room:
         return 0;
     }
     let number = job.number;
-    let records = least(records_in(part, last), 1024);
-    let fit = least(room_for(prints, room), numbers_left(number));
-    least(records, fit)
+    let records = records_in(part, last).min(1024);
+    let fit = room_for(prints, room).min(numbers_left(number));
+    records.min(fit)
 }

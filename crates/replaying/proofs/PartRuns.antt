@@ -1,31 +1,33 @@
 -- A part of a trace: the run leaves its file and its replies, and the lines of the replies are those that 01 gives its records. Assumes nothing.
 use Prim.Native.Nat.{ℕ, suc, ◌+◌, ◌*◌, ◌/◌, ◌≤◌, ◌<◌, min}
-use mathlib.Core.Bool.{Bool, cond, true, false, ◌&&◌}
+use Rattle.std.proofs.Common.{◌^◌, Ok, Err}
+use mathlib.Core.Bool.{Bool, true, false, ◌&&◌}
 use mathlib.Core.List.{List, [], ◌∷◌, ◌++◌, append-nil}
 use mathlib.Core.Path.{◌≡◌, refl, sym, ap, ap₂, ◌∙◌}
 use native.Mathlib.Nat.{min-eq_left, zero-add}
 use native.Mathlib.Omega.{arith}
-use borrow.Author.Tests.{eqb-true, le-leb, leb-true}
+use borrow.Author.Tests.{eqb-true, le-leb}
 use lib.Dec.{T, eqb, leb, leb→le, ltb, ltb→lt}
 use lib.ListN.{length, take, drop, length-append}
 use lib.Seq.{take_at}
-use Rattle.bits.proofs.Test.{by-test, left, right, passes}
+use Rattle.bits.proofs.Test.{by-test, is_true, left, right, passes}
 use Rattle.access.specs.declared.record.Item.{Item}
 use Rattle.access.specs.Access.{access_item}
 use Rattle.file.specs.declared.answer.Answer.{Answer}
 use Rattle.file.specs.declared.answer.Answer.TheVariants.{Done, OutOfRange, ShortBuffer, NotSound}
 use Rattle.file.specs.declared.registers.File.{File}
+use Rattle.replaying.specs.declared.Part.{Part}
 use Rattle.file.specs.Answers.{code_of, is_listed, listed, one_of, refused, value_of}
 use Rattle.file.specs.Sound.{sound}
 use Rattle.file.proofs.Codes.{every-listed}
 use Rattle.trace.specs.Records.{items, item_count}
 use Rattle.trace.specs.declared.running.Ran.{Ran}
-use Rattle.trace.specs.Run.{run, ran, run_count}
+use Rattle.trace.specs.Run.{filled, run, ran, run_count}
 use Rattle.trace.specs.Run.{RunLeft as LeftBy}
 use Rattle.trace.proofs.RunMore.{items-length, replies-length}
 use Rattle.text.specs.declared.placed.Placed.{Placed}
 use Rattle.text.specs.Lent.{Lined, behind_by, fits, placed_by, room_answer}
-use Rattle.replaying.specs.Replay.{PartReplayed, after_part, part_answer, part_lines, part_replies, records_fit, record_line, record_lines}
+use Rattle.replaying.specs.Replay.{PartRan, PartReplayed, Parted, after_part, asked, part_answer, part_lines, part_replies, part_result, records_fit, record_line, record_lines}
 use Rattle.text.specs.Text.{all_lines, lines_answer, numbers_fit, reply_lines}
 use Rattle.text.proofs.Lines.{line-most}
 use Rattle.replaying.proofs.Pieces.{lines-of-run}
@@ -84,135 +86,139 @@ module _ (count last replies lines : ℕ) where
   unfolding records_fit
   both-fit h l = rw (le-leb _ _ h, le-leb _ _ l)
 
+-- the replies of a run are within the buffer, whatever the file
+run-within : (f : File) (part replies₀ : List ℕ) → 8 * (run f part replies₀).count ≤ length (run f part replies₀).buffer
+unfolding run ran run_count
+run-within f part replies₀ =
+    let n = min (item_count part) (length replies₀ / 8) in
+    by-test (sound f)
+    (λ s. rw (s, length-append) (omega (arith, replies-length f (items n part), items-length n part)))
+    (λ s. rw s (omega arith))
+
+-- a part that is run from any file
+module _ (f : File) (number : ℕ) (part replies₀ lines₀ : List ℕ) (r : Ran) (left : List ℕ)
+    (same : (r.answer ≡ (run f part replies₀).answer) × (r.file ≡ (run f part replies₀).file) × (r.count ≡ (run f part replies₀).count))
+    (same-left : left ≡ (run f part replies₀).buffer) where
+  pub within : 8 * r.count ≤ length left
+  within = omega (arith, run-within f part replies₀, same.2, ap length same-left)
+
+  pub ran-unprinted : PartRan f number false part replies₀ left lines₀ lines₀ (record { file = r.file; count = r.count; end = 0 })
+  ran-unprinted = record { file = same.1; count = same.2; replied = same-left; end = refl; printed = refl }
+
+  its_replies : take (8 * r.count) left ≡ filled (run f part replies₀)
+  unfolding filled
+  its_replies = ap₂ (λ (k : ℕ) (l : List ℕ). take (8 * k) l) same.2 same-left
+
+  pub ran-printed : (after : List ℕ) (p : Placed)
+      → Lined (lines_answer lines₀ 0 number (take (8 * r.count) left)) 0 (all_lines number (take (8 * r.count) left)) lines₀ after p
+      → PartRan f number true part replies₀ left lines₀ after (record { file = r.file; count = r.count; end = p.end })
+  ran-printed after p l =
+      let here = rw its_replies at l in
+      record { file = same.1; count = same.2; replied = same-left; end = here.ended; printed = here.bytes }
+
+-- a part that is run from a sound file, with room for its replies
+module _ (f : File) (number : ℕ) (part replies₀ lines₀ : List ℕ) (good : T (sound f)) (room : 8 * item_count part ≤ length replies₀)
+    (low : number + item_count part ≤ 2 ^ 64) (r : Ran) (filled : List ℕ)
+    (same : (r.answer ≡ (run f part replies₀).answer) × (r.file ≡ (run f part replies₀).file) × (r.count ≡ (run f part replies₀).count))
+    (same-filled : filled ≡ (run f part replies₀).buffer) where
+  whole_run : run f part replies₀ ≡ ran (item_count part) f part replies₀
+  unfolding run run_count
+  whole_run =
+      let all : min (item_count part) (length replies₀ / 8) ≡ item_count part = min-eq_left (omega (arith, room)) in
+      rw (is_true (sound f) good, all)
+
+  pub all-run : r.count ≡ item_count part
+  unfolding ran
+  all-run = same.2 ∙ ap (λ (x : LeftBy). x.count) whole_run
+
+  file-after : r.file ≡ after_part f part
+  unfolding ran after_part
+  file-after = same.1 ∙ ap (λ (x : LeftBy). x.file) whole_run
+
+  filled-with : filled ≡ part_replies f part ++ drop (8 * item_count part) replies₀
+  unfolding ran part_replies
+  filled-with = same-filled ∙ ap (λ (x : LeftBy). x.buffer) whole_run
+
+  -- its lines aren't asked for
+  pub part-unprinted : Parted f number false part replies₀ filled lines₀ lines₀ (record { file = r.file; count = r.count; end = 0 })
+  unfolding asked
+  part-unprinted = record { file = file-after; count = all-run; end = refl; replied = filled-with; printed = refl }
+
+  -- what is lent for the lines has the replies
+  said : take (8 * r.count) filled ≡ part_replies f part
+  said =
+      ap₂ (λ (k : ℕ) (l : List ℕ). take (8 * k) l) all-run filled-with
+      ∙ take_at (part_replies f part) (drop (8 * item_count part) replies₀) (8 * item_count part) (replies-long f part)
+
+  many : length (part_replies f part) / 8 ≡ item_count part
+  many = omega (arith, replies-long f part)
+
+  same_lines : all_lines number (part_replies f part) ≡ part_lines number f part
+  unfolding all_lines part_lines part_replies
+  same_lines =
+      ap₂ (λ (k : ℕ) (l : List ℕ). reply_lines k number l) many (sym (append-nil (part_replies f part)))
+      ∙ lines-of-run (item_count part) number f part []
+
+  numbered : numbers_fit number (item_count part) ≡ true
+  unfolding numbers_fit
+  numbered = le-leb (number + item_count part) 18446744073709551616 (omega (arith, low))
+
+  -- they are, and have room
+  module _ (wide : 30 * item_count part ≤ length lines₀) where
+    short : length (part_lines number f part) ≤ length lines₀
+    short = omega (arith, lines-short number f part (omega (arith, low)), wide)
+
+    answers : lines_answer lines₀ 0 number (part_replies f part) ≡ Done 0
+    unfolding lines_answer room_answer fits
+    answers =
+        rw (many, numbered, same_lines, le-leb (0 + length (part_lines number f part)) (length lines₀) (omega (arith, short)))
+
+    pub part-printed : (after : List ℕ) (p : Placed)
+        → Lined (lines_answer lines₀ 0 number (take (8 * r.count) filled)) 0 (all_lines number (take (8 * r.count) filled)) lines₀ after p
+        → Parted f number true part replies₀ filled lines₀ after (record { file = r.file; count = r.count; end = p.end })
+    unfolding asked placed_by behind_by refused code_of
+    part-printed after p l =
+        let here : Lined (Done 0) 0 (part_lines number f part) lines₀ after p = rw (said, answers, same_lines) at l in
+        let ended : p.end ≡ 0 + length (part_lines number f part) = here.ended in
+        record {
+          file = file-after;
+          count = all-run;
+          end = ended ∙ zero-add _;
+          replied = filled-with;
+          printed = here.bytes ∙ ap (λ (k : ℕ). part_lines number f part ++ drop k lines₀) (sym ended);
+        }
+
+-- a part whose lines are asked for, and the tests before it
 module _ (f : File) (number : ℕ) (part replies₀ lines₀ : List ℕ) where
-  -- a part that is refused leaves all as it was
-  part-refused : (a : Answer) → a ≡ part_answer f number part replies₀ lines₀ → refused a ≡ true
-      → PartReplayed f number part replies₀ replies₀ lines₀ lines₀ (record { answer = a; file = f; count = 0; end = 0 })
-  unfolding behind_by placed_by
-  part-refused a e n =
-      record { answered = e; file = rw n refl; count = rw n refl; ended = rw n refl; replied = rw n refl; lined = rw n refl }
+  -- one that is refused leaves all as it was
+  part-refused : (a : Answer) → part_answer f number part replies₀ lines₀ ≡ a → refused a ≡ true
+      → PartReplayed f number part replies₀ replies₀ lines₀ lines₀ (Err a)
+  unfolding part_result placed_by
+  part-refused a e n = record { told = rw (e, n) refl; replied = rw (e, n) refl; lined = rw (e, n) refl }
 
-  refused-first : (a : Answer) → refused a ≡ true → refused (cond (sound f) a NotSound) ≡ true
-  unfolding refused code_of
-  refused-first a n = by-test (sound f) (λ s. rw s n) (λ s. rw s refl)
-
-  pub not-roomy : records_fit (item_count part) 0 (length replies₀) (length lines₀) ≡ false
-      → PartReplayed f number part replies₀ replies₀ lines₀ lines₀ (record { answer = cond (sound f) ShortBuffer NotSound; file = f; count = 0; end = 0 })
+  pub not-sound : sound f ≡ false → PartReplayed f number part replies₀ replies₀ lines₀ lines₀ (Err NotSound)
   unfolding part_answer refused code_of
-  not-roomy e = part-refused (cond (sound f) ShortBuffer NotSound) (rw e refl) (refused-first ShortBuffer refl)
+  not-sound s = part-refused NotSound (rw s refl) refl
 
-  module _ (roomy : records_fit (item_count part) 0 (length replies₀) (length lines₀) ≡ true) where
-    pub not-numbered : numbers_fit number (item_count part) ≡ false
-        → PartReplayed f number part replies₀ replies₀ lines₀ lines₀ (record { answer = cond (sound f) OutOfRange NotSound; file = f; count = 0; end = 0 })
+  module _ (s : sound f ≡ true) where
+    pub not-roomy : records_fit (item_count part) 0 (length replies₀) (length lines₀) ≡ false
+        → PartReplayed f number part replies₀ replies₀ lines₀ lines₀ (Err ShortBuffer)
     unfolding part_answer refused code_of
-    not-numbered e = part-refused (cond (sound f) OutOfRange NotSound) (rw (roomy, e) refl) (refused-first OutOfRange refl)
+    not-roomy e = part-refused ShortBuffer (rw (s, e) refl) refl
 
-    module _ (numbered : numbers_fit number (item_count part) ≡ true) (r : Ran) (filled : List ℕ)
-        (same : (r.answer ≡ (run f part replies₀).answer) × (r.file ≡ (run f part replies₀).file) × (r.count ≡ (run f part replies₀).count))
-        (same-filled : filled ≡ (run f part replies₀).buffer) where
-      low : number + item_count part ≤ 18446744073709551616
-      unfolding numbers_fit
-      low = leb-true _ _ numbered
+    module _ (roomy : records_fit (item_count part) 0 (length replies₀) (length lines₀) ≡ true) where
+      pub not-numbered : numbers_fit number (item_count part) ≡ false
+          → PartReplayed f number part replies₀ replies₀ lines₀ lines₀ (Err OutOfRange)
+      unfolding part_answer refused code_of
+      not-numbered e = part-refused OutOfRange (rw (s, roomy, e) refl) refl
 
-      -- the buffer has that many replies
-      pub few : 8 * r.count ≤ length replies₀
-      unfolding run ran run_count
-      few = by-test (sound f) (λ s. omega (arith, rw s at same.2)) (λ s. omega (arith, rw s at same.2))
-
-      module _ (s : sound f ≡ true) where
-        whole_run : run f part replies₀ ≡ ran (item_count part) f part replies₀
-        unfolding run run_count
-        whole_run =
-            let all : min (item_count part) (length replies₀ / 8) ≡ item_count part = min-eq_left (omega (arith, fit-replies _ _ _ _ roomy)) in
-            rw (s, all)
-
-        pub done : r.answer ≡ Done 0
-        unfolding ran
-        done = same.0 ∙ ap (λ (x : LeftBy). x.answer) whole_run
-
-        pub all-run : r.count ≡ item_count part
-        unfolding ran
-        all-run = same.2 ∙ ap (λ (x : LeftBy). x.count) whole_run
-
-        pub file-after : r.file ≡ after_part f part
-        unfolding ran after_part
-        file-after = same.1 ∙ ap (λ (x : LeftBy). x.file) whole_run
-
-        pub filled-with : filled ≡ part_replies f part ++ drop (8 * item_count part) replies₀
-        unfolding ran part_replies
-        filled-with = same-filled ∙ ap (λ (x : LeftBy). x.buffer) whole_run
-
-        -- what is lent for the lines has the replies
-        said : take (8 * r.count) filled ≡ part_replies f part
-        said =
-            ap₂ (λ (k : ℕ) (l : List ℕ). take (8 * k) l) all-run filled-with
-            ∙ take_at (part_replies f part) (drop (8 * item_count part) replies₀) (8 * item_count part) (replies-long f part)
-
-        many : length (part_replies f part) / 8 ≡ item_count part
-        many = omega (arith, replies-long f part)
-
-        same_lines : all_lines number (part_replies f part) ≡ part_lines number f part
-        unfolding all_lines part_lines part_replies
-        same_lines =
-            ap₂ (λ (k : ℕ) (l : List ℕ). reply_lines k number l) many (sym (append-nil (part_replies f part)))
-            ∙ lines-of-run (item_count part) number f part []
-
-        short : length (part_lines number f part) ≤ length lines₀
-        short = omega (arith, lines-short number f part low, fit-lines _ _ _ _ roomy)
-
-        answers : lines_answer lines₀ 0 number (part_replies f part) ≡ Done 0
-        unfolding lines_answer room_answer fits
-        answers =
-            rw (many, numbered, same_lines, le-leb (0 + length (part_lines number f part)) (length lines₀) (omega (arith, short)))
-
-        pub part-run : (after : List ℕ) (p : Placed)
-            → Lined (lines_answer lines₀ 0 number (take (8 * r.count) filled)) 0 (all_lines number (take (8 * r.count) filled)) lines₀ after p
-            → PartReplayed f number part replies₀ filled lines₀ after (record { answer = r.answer; file = r.file; count = r.count; end = p.end })
-        unfolding part_answer placed_by behind_by refused code_of
-        part-run after p l =
-            let here : Lined (Done 0) 0 (part_lines number f part) lines₀ after p = rw (said, answers, same_lines) at l in
-            rw done
-            (record {
-              answered = rw (s, roomy, numbered) refl;
-              file = file-after;
-              count = all-run;
-              ended = here.ended;
-              replied = filled-with ∙ rw (zero-add, replies-long) refl;
-              lined = here.bytes;
-            })
-
-      -- an unsound file has no replies, so no lines
-      module _ (u : sound f ≡ false) where
-        no_run : run f part replies₀ ≡ record { answer = NotSound; file = f; count = 0; buffer = replies₀; rest = part }
-        unfolding run
-        no_run = rw u refl
-
-        none_said : take (8 * r.count) filled ≡ []
-        none_said = ap (λ (k : ℕ). take (8 * k) filled) (same.2 ∙ ap (λ (x : LeftBy). x.count) no_run)
-
-        none_answers : lines_answer lines₀ 0 number [] ≡ Done 0
-        unfolding lines_answer numbers_fit room_answer fits all_lines reply_lines
-        none_answers =
-            rw (le-leb (number + 0) 18446744073709551616 (omega (arith, low)), le-leb (0 + 0) (length lines₀) (omega arith))
-
-        pub part-unsound : (after : List ℕ) (p : Placed)
-            → Lined (lines_answer lines₀ 0 number (take (8 * r.count) filled)) 0 (all_lines number (take (8 * r.count) filled)) lines₀ after p
-            → PartReplayed f number part replies₀ filled lines₀ after (record { answer = r.answer; file = r.file; count = r.count; end = p.end })
-        unfolding part_answer placed_by behind_by refused code_of all_lines reply_lines
-        part-unsound after p l =
-            let here : Lined (Done 0) 0 [] lines₀ after p = rw (none_said, none_answers) at l in
-            let answered : r.answer ≡ NotSound = same.0 ∙ ap (λ (x : LeftBy). x.answer) no_run in
-            rw answered
-            (record {
-              answered = rw u refl;
-              file = same.1 ∙ ap (λ (x : LeftBy). x.file) no_run;
-              count = same.2 ∙ ap (λ (x : LeftBy). x.count) no_run;
-              ended = here.ended;
-              replied = same-filled ∙ ap (λ (x : LeftBy). x.buffer) no_run;
-              lined = here.bytes;
-            })
-
-      pub part-done : (after : List ℕ) (p : Placed)
-          → Lined (lines_answer lines₀ 0 number (take (8 * r.count) filled)) 0 (all_lines number (take (8 * r.count) filled)) lines₀ after p
-          → PartReplayed f number part replies₀ filled lines₀ after (record { answer = r.answer; file = r.file; count = r.count; end = p.end })
-      part-done after p l = by-test (sound f) (λ s. part-run s after p l) (λ u. part-unsound u after p l)
+      pub part-done : numbers_fit number (item_count part) ≡ true → {replies lines : List ℕ} {r : Part}
+          → Parted f number true part replies₀ replies lines₀ lines r → PartReplayed f number part replies₀ replies lines₀ lines (Ok r)
+      unfolding part_answer part_result placed_by refused code_of asked
+      part-done e p =
+          let yes : part_answer f number part replies₀ lines₀ ≡ Done 0 = rw (s, roomy, e) refl in
+          record {
+            told = rw yes (λ i. Ok (record { file = p.file i; count = p.count i; end = p.end i }));
+            replied = rw yes (p.replied ∙ rw (zero-add, replies-long) refl);
+            lined = rw yes (p.printed ∙ ap (λ (k : ℕ). part_lines number f part ++ drop k lines₀) (p.end ∙ sym (zero-add _)));
+          }

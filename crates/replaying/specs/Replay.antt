@@ -1,6 +1,6 @@
 -- 01, 'The replay program': what it prints of a trace, and the same over lent bytes, of a part of a trace and of the whole.
 -- Assumes nothing.
-use Rattle.std.specs.Prelude.{ℕ, suc, ◌+◌, ◌*◌, Bool, cond, ◌&&◌, List, [], ◌∷◌, ◌++◌, ◌≡◌, leb, length}
+use Rattle.std.specs.Prelude.{ℕ, suc, ◌+◌, ◌*◌, Bool, cond, ◌&&◌, List, [], ◌∷◌, ◌++◌, ◌≡◌, Result, Ok, Err, leb, length, drop}
 use Rattle.file.specs.declared.answer.Answer.{Answer}
 use Rattle.file.specs.declared.answer.Answer.TheVariants.{Done, NotSound, OutOfRange, ShortBuffer}
 use Rattle.file.specs.declared.chip.Chip.{Chip}
@@ -12,10 +12,10 @@ use Rattle.access.specs.declared.record.Item.{Item}
 use Rattle.access.specs.Access.{access_item}
 use Rattle.timing.specs.Timing.{timing_in}
 use Rattle.trace.specs.Records.{items, item_count}
-use Rattle.trace.specs.Run.{file_after, replies}
+use Rattle.trace.specs.Run.{file_after, filled, replies, run}
 use Rattle.replaying.specs.declared.Part.{Part}
 use Rattle.text.specs.Lent.{behind_by, placed_by}
-use Rattle.text.specs.Text.{line_of, numbers_fit, timing_line}
+use Rattle.text.specs.Text.{all_lines, line_of, lines_answer, numbers_fit, timing_line}
 
 -- the line of an answer
 unfoldable pub record_line : ℕ → Answer → List ℕ
@@ -61,14 +61,39 @@ part_answer f number part replies lines =
     ShortBuffer)
     NotSound
 
+-- the lines of a part, if they are asked for
+unfoldable pub asked : Bool → ℕ → File → List ℕ → List ℕ
+asked prints number f part = cond prints (part_lines number f part) []
+
+-- a part that was run from a file: what comes back, and what both buffers hold
+pub record Parted (f : File) (number : ℕ) (prints : Bool) (part replies₀ replies lines₀ lines : List ℕ) (r : Part) : Type 0 where
+  pub file : r.file ≡ after_part f part
+  pub count : r.count ≡ item_count part
+  pub end : r.end ≡ length (asked prints number f part)
+  pub replied : replies ≡ part_replies f part ++ drop (8 * item_count part) replies₀
+  pub printed : lines ≡ asked prints number f part ++ drop r.end lines₀
+
+-- a run from any file, sound or not, into whatever room the buffers have: its file, its count and its replies, and, if they are asked for and have room,
+-- the lines of its replies
+pub record PartRan (f : File) (number : ℕ) (prints : Bool) (part replies₀ replies lines₀ lines : List ℕ) (r : Part) : Type 0 where
+  pub file : r.file ≡ (run f part replies₀).file
+  pub count : r.count ≡ (run f part replies₀).count
+  pub replied : replies ≡ (run f part replies₀).buffer
+  pub end : r.end ≡ cond prints (behind_by (lines_answer lines₀ 0 number (filled (run f part replies₀))) 0 (all_lines number (filled (run f part replies₀)))) 0
+  pub printed :
+      lines ≡ cond prints (placed_by (lines_answer lines₀ 0 number (filled (run f part replies₀))) lines₀ 0 (all_lines number (filled (run f part replies₀)))) lines₀
+
+-- what comes back of a part whose lines are asked for: a refusal, or the file after it, the count of its records and where its lines end
+unfoldable pub part_result : Answer → ℕ → File → List ℕ → Result Part Answer
+part_result answer number f part =
+    cond (refused answer) (Err answer)
+    (Ok (record { file = after_part f part; count = item_count part; end = length (part_lines number f part) }))
+
 -- what a part leaves, from a file and a number on: what comes back, and what both buffers hold
-pub record PartReplayed (f : File) (number : ℕ) (part replies₀ replies lines₀ lines : List ℕ) (r : Part) : Type 0 where
-  pub answered : r.answer ≡ part_answer f number part replies₀ lines₀
-  pub file : r.file ≡ cond (refused r.answer) f (after_part f part)
-  pub count : r.count ≡ cond (refused r.answer) 0 (item_count part)
-  pub ended : r.end ≡ behind_by r.answer 0 (part_lines number f part)
-  pub replied : replies ≡ placed_by r.answer replies₀ 0 (part_replies f part)
-  pub lined : lines ≡ placed_by r.answer lines₀ 0 (part_lines number f part)
+pub record PartReplayed (f : File) (number : ℕ) (part replies₀ replies lines₀ lines : List ℕ) (r : Result Part Answer) : Type 0 where
+  pub told : r ≡ part_result (part_answer f number part replies₀ lines₀) number f part
+  pub replied : replies ≡ placed_by (part_answer f number part replies₀ lines₀) replies₀ 0 (part_replies f part)
+  pub lined : lines ≡ placed_by (part_answer f number part replies₀ lines₀) lines₀ 0 (part_lines number f part)
 
 -- the most bytes that a file's timing line has: the word, fifteen numbers of ten digits, each behind a space, a newline
 unfoldable pub timing_most : ℕ

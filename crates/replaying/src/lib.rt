@@ -1,13 +1,12 @@
 // A trace replayed from lent bytes to lent bytes: its records are run, and their lines stored. The replies stand in a buffer lent for them.
 #![tactic(auto)]
 
-ghost use Rattle.std.specs.Prelude.{cond, ◌≡◌};
-ghost use Rattle.file.specs.declared.answer.Answer.TheVariants.{NotSound as NotSoundAnswer};
+ghost use Rattle.std.specs.Prelude.{◌≡◌, ◌+◌, ◌*◌, ◌^◌, ◌≤◌, true, T, length};
 ghost use Rattle.file.specs.File.{power_on};
 ghost use Rattle.file.specs.Sound.{sound};
 ghost use Rattle.trace.specs.Records.{item_count};
 ghost use Rattle.text.specs.Lent.{Lined, placed_by};
-ghost use Rattle.replaying.specs.Replay.{PartReplayed, part_replies, records_fit, replay_answer, replayed};
+ghost use Rattle.replaying.specs.Replay.{PartRan, PartReplayed, Parted, part_replies, records_fit, replay_answer, replayed};
 
 use engines::{Engine, run_by};
 use file::{Answer, Chip, File, is_sound};
@@ -17,10 +16,9 @@ use timing::read_timing;
 // The most bytes that a file's timing line has.
 pub const TIMING_MOST: usize = 172;
 
-// What a part of a trace leaves: its answer, the file after it, the count of its records, and where its lines end.
+// What a part of a trace leaves: the file after it, the count of its records, and where its lines end.
 #[derive(Clone, Copy)]
 pub struct Part {
-    pub answer: Answer,
     pub file: File,
     pub count: usize,
     pub end: usize,
@@ -37,36 +35,14 @@ fn item_count(trace: &[u8]) -> usize
 fn records_fit(count: usize, last: usize, replies: usize, lines: usize) -> bool
     ensures { result ≡ records_fit count last replies lines }
 {
-    if replies / 8 < count {
-        return false;
-    }
     if lines < last {
         return false;
     }
-    count <= (lines - last) / 30
+    count <= replies / 8 && count <= (lines - last) / 30
 }
 
-// A part that is refused; the file's soundness comes first.
-fn refused_part(before: File, answer: Answer) -> Part
-    ensures { result ≡ record { answer = cond (sound before) answer NotSoundAnswer; file = before; count = 0; end = 0 } }
-{
-    if is_sound(before) {
-        return Part {
-            answer,
-            file: before,
-            count: 0,
-            end: 0,
-        };
-    }
-    Part {
-        answer: Answer::NotSound,
-        file: before,
-        count: 0,
-        end: 0,
-    }
-}
-
-// A part of a trace, run by an engine from a file on, and the lines of its records, numbered from a number on, from the start of a buffer on.
+// A part of a trace, run by an engine from a file on, and the lines of its records, numbered from a number on, from the start of a buffer on;
+// code 12 of a file that isn't sound, 11 where a buffer is short, 10 where a record's number has no room, and then both buffers stay.
 pub fn replay_part(
     engine: Engine,
     before: File,
@@ -74,25 +50,49 @@ pub fn replay_part(
     trace: &[u8],
     replies: &mut [u8],
     lines: &mut [u8],
-) -> Part
+) -> Result<Part, Answer>
     ensures { PartReplayed before number trace.now replies.old replies.new lines.old lines.new result }
 {
     let count = item_count(trace);
+    if !is_sound(before) {
+        return Err(Answer::NotSound);
+    }
     if !records_fit(count, 0, replies.len(), lines.len()) {
-        return refused_part(before, Answer::ShortBuffer);
+        return Err(Answer::ShortBuffer);
     }
     if !numbers_fit(number, count) {
-        return refused_part(before, Answer::OutOfRange);
+        return Err(Answer::OutOfRange);
     }
-    // An unsound file has no replies, so no lines.
+    Ok(run_part(engine, true, before, number, trace, replies, lines))
+}
+
+// A part of a trace, run by an engine from a file on, and the lines of its records, numbered from a number on, from the start of a buffer on
+// if they are asked for. It tests nothing: where the file isn't sound or a buffer is short, it leaves what the run and the lines by themselves do.
+pub fn run_part(
+    engine: Engine,
+    prints: bool,
+    before: File,
+    number: u64,
+    trace: &[u8],
+    replies: &mut [u8],
+    lines: &mut [u8],
+) -> Part
+    ensures parted { T (sound before) → 8 * item_count trace.now ≤ length replies.old → (prints ≡ true → 30 * item_count trace.now ≤ length lines.old) → number + item_count trace.now ≤ 2 ^ 64 → Parted before number prints trace.now replies.old replies.new lines.old lines.new result }
+    ensures ran { PartRan before number prints trace.now replies.old replies.new lines.old lines.new result }
+{
     let ran = run_by(engine, before, trace, replies);
-    let answer = ran.answer;
     let file = ran.file;
     let count = ran.count;
+    if !prints {
+        return Part {
+            file,
+            count,
+            end: 0,
+        };
+    }
     let size = 8 * count;
     let printed = reply_lines(lines, 0, number, &replies[..size]);
     Part {
-        answer,
         file,
         count,
         end: printed.end,
@@ -117,8 +117,6 @@ pub fn replay(
             end: 0,
         };
     }
-    let part = replay_part(engine, File::power_on(chip), 0, trace, replies, lines);
-    let end = part.end;
-    let file = part.file;
-    timing_line(lines, end, read_timing(file).timing)
+    let part = run_part(engine, true, File::power_on(chip), 0, trace, replies, lines);
+    timing_line(lines, part.end, read_timing(part.file).timing)
 }

@@ -1,5 +1,5 @@
 -- A second trace behind a saved file, by its parts: the file that it leads to, and the set of what it touched. Assumes nothing.
-use Rattle.std.proofs.Common.{◌≡◌, ℕ, zero, suc, ◌+◌, ◌-◌, ◌*◌, ◌/◌, ◌%◌, ◌^◌, ◌<◌, ◌≤◌, min, true, false, T, List, [], ◌∷◌, ◌++◌, length, sym, refl, ap, ◌∙◌, ap₂, subst₂, true≢false, arith, length-append, eqb-true}
+use Rattle.std.proofs.Common.{◌≡◌, ℕ, ◌+◌, ◌*◌, ◌/◌, ◌%◌, ◌^◌, ◌<◌, ◌≤◌, min, true, false, T, List, [], ◌∷◌, ◌++◌, length, sym, refl, ap, ◌∙◌, ap₂, subst₂, arith, length-append, eqb-true}
 use Rattle.bits.proofs.Test.{by-test, is_true}
 use Rattle.file.specs.declared.effect.Reach.{Reach}
 use Rattle.file.specs.declared.registers.File.{File}
@@ -13,7 +13,8 @@ use Rattle.touched.specs.Noted.{noted, noted_all}
 use Rattle.touched.specs.Outside.{agrees_outside}
 use Rattle.touched.specs.Things.{IsSet, nothing}
 use Rattle.touched.proofs.Elsewhere.{itself-agrees}
-use Rattle.noting.specs.declared.kept.RunNoted.{RunNoted}
+use Rattle.trace.specs.declared.running.Ran.{Ran}
+use Rattle.noting.specs.declared.kept.Noted.{Noted}
 use Rattle.noting.specs.Noting.{item_reach, run_reaches, RunNotedKept}
 use Rattle.noting.proofs.SetsKeepUp.{run-keeps-up}
 use Rattle.replaying.specs.Replay.{after_part}
@@ -54,7 +55,7 @@ run-whole f part before s room =
     let all : min (item_count part) (length before / 8) ≡ item_count part = omega (arith, room) in
     rw (is_true (sound f) s, all) refl
 
-module _ {s : Touched} {f : File} {part before after : List ℕ} {r : RunNoted} (kept : RunNotedKept s f part before after r) (good : T (sound f))
+module _ {s : Touched} {f : File} {part before after : List ℕ} {r : Noted Ran} (kept : RunNotedKept s f part before after r) (good : T (sound f))
     (room : 8 * item_count part ≤ length before) where
   pub noted-file : r.done.file ≡ after_part f part
   unfolding after_part ran
@@ -66,23 +67,21 @@ module _ {s : Touched} {f : File} {part before after : List ℕ} {r : RunNoted} 
 
 -- ---- turns
 
--- where the turns so far led to, with so many turns left: no read failed, and there are turns enough for as many bytes as can be counted
+-- where so many turns led to: no read failed, and each turn that leaves more to read took 8,192 bytes
 pub record Following (saved : File) (turns : ℕ) (r : Onward) : Type 0 where
   pub come : Followed saved r
-  pub unfailed : r.failed ≡ false
   pub read : r.read.failed ≡ false
-  pub left : r.more ≡ true → r.read.all + 8192 * turns ≡ 8192 * 18446744073709551615
+  pub taken : r.more ≡ true → r.read.all ≡ 8192 * turns
 
-pub following-none : (saved : File) (r : Onward) → r.file ≡ saved → r.touched ≡ nothing → r.failed ≡ false
-    → r.read ≡ record { count = 0; failed = false; all = 0 } → Following saved 18446744073709551615 r
+pub following-none : (saved : File) (r : Onward) → r.file ≡ saved → r.touched ≡ nothing
+    → r.read ≡ record { count = 0; failed = false; all = 0 } → Following saved 0 r
 unfolding touched_after item_count items run_reaches noted_all
-following-none saved r file touched unfailed read =
+following-none saved r file touched read =
     let all = ap (λ (x : Filled). x.all) read in
     record {
       come = record { trace = []; file = file ∙ none_after saved; touched = touched; all = all; whole = λ _. refl };
-      unfailed = unfailed;
       read = ap (λ (x : Filled). x.failed) read;
-      left = λ _. omega (arith, all);
+      taken = λ _. omega (arith, all);
     }
 
 followed-on : (saved : File) (before : Onward) (read : Filled) (part : List ℕ) (r : Onward) → Followed saved before → before.more ≡ true
@@ -102,35 +101,25 @@ followed-on saved before read part r come more all on =
           rw length-append (omega (arith, whole, full));
     }
 
-pub following-on : (saved : File) (turns : ℕ) (before : Onward) (read : Filled) (part : List ℕ) (r : Onward) → Following saved turns before → 0 < turns
+pub following-on : (saved : File) (turns : ℕ) (before : Onward) (read : Filled) (part : List ℕ) (r : Onward) → Following saved turns before
     → before.more ≡ true → read.all ≡ counted before.read.all (length part) → before.read.all + 8192 < 2 ^ 64 → read.failed ≡ false
-    → Gone before read part r → Following saved (turns - 1) r
-following-on saved turns before read part r on some more all low unfailed gone =
+    → Gone before read part r → Following saved (turns + 1) r
+following-on saved turns before read part r on more all low unfailed gone =
     record {
       come = followed-on saved before read part r on.come more all gone;
-      unfailed = gone.failed;
       read = ap (λ (x : Filled). x.failed) gone.read ∙ unfailed;
-      left =
+      taken =
           λ goes. let full : length part ≡ 8192 = eqb-true _ _ (sym gone.more ∙ goes) in
           let now = ap (λ (x : Filled). x.all) gone.read ∙ all in
-          omega (arith, on.left more, full, now, low, some);
+          omega (arith, on.taken more, full, now, low);
     }
 
-by_less : (n : ℕ) → (0 < n → ⊥) → (n ≡ 0 → ⊥) → ⊥
-by_less zero some none = none refl
-by_less (suc n) some none = some (omega arith)
+-- no run comes to so many turns
+pub following-ended : (saved : File) (turns : ℕ) (r : Onward) → 18446744073709551615 ≤ turns → Following saved turns r → r.more ≡ false
+following-ended saved turns r all on = by-test r.more (λ e. absurd (omega (arith, all, on.taken e, on.come.all))) (λ e. e)
 
--- the turns are never used up
-pub followed-to-end : (saved : File) (turns : ℕ) (r : Onward) → Following saved turns r → (0 < turns → r.more ≡ false) → Ended saved r
-followed-to-end saved turns r on end =
-    record {
-      ended = by-test r.more (λ e. absurd (turned e)) (λ e. e);
-      failed = on.unfailed ∙ sym on.read;
-      led = λ _. on.come;
-    }
-  where
-    turned : r.more ≡ true → ⊥
-    turned e = by_less turns (λ some. true≢false (sym e ∙ end some)) (λ none. omega (arith, on.left e, on.come.all, none))
+pub followed-to-end : (saved : File) (turns : ℕ) (r : Onward) → Following saved turns r → r.more ≡ false → Ended saved r
+followed-to-end saved turns r on end = record { ended = end; led = λ _. on.come }
 
 -- each turn begins with a sound file
 pub followed-sound : (saved : File) (r : Onward) → T (sound saved) → Followed saved r → T (sound r.file)

@@ -1,24 +1,19 @@
 -- A turn, and a course of turns: what was read and what was handed to be written are what 01 says of the trace. Assumes nothing.
-use Rattle.std.proofs.Common.{◌≡◌, ℕ, ◌+◌, ◌-◌, ◌*◌, ◌%◌, ◌^◌, ◌<◌, ◌≤◌, Bool, true, false, ◌||◌, T, eqb, List, [], ◌++◌, length, take, drop, sym, refl, ap, ◌∙◌, ap₂, true≢false, zero-add, arith, length-append, take_at, eqb-true, le-leb}
+use Rattle.std.proofs.Common.{◌≡◌, ℕ, ◌+◌, ◌*◌, ◌%◌, ◌^◌, ◌<◌, ◌≤◌, Bool, true, false, ◌||◌, T, eqb, List, [], ◌++◌, length, take, drop, sym, refl, ap, ◌∙◌, ap₂, true≢false, zero-add, arith, length-append, take_at, eqb-true}
 use borrow.Author.Tests.{eqb-false}
-use Rattle.bits.proofs.Test.{by-test, is_true, or_left, or_right}
-use Rattle.file.specs.declared.answer.Answer.TheVariants.{Done}
+use Rattle.bits.proofs.Test.{by-test, or_left, or_right}
 use Rattle.file.specs.declared.chip.Chip.{Chip}
 use Rattle.file.specs.declared.registers.File.{File}
-use Rattle.file.specs.Answers.{code_of, refused}
 use Rattle.file.specs.File.{power_on}
 use Rattle.file.specs.Sound.{sound}
 use Rattle.file.specs.State.{initial}
 use Rattle.file.proofs.Soundness.{power_on-sound}
 use Rattle.timing.specs.Timing.{timing_in}
 use Rattle.trace.specs.Records.{items, item_count}
-use Rattle.trace.specs.declared.running.Ran.{Ran}
-use Rattle.trace.specs.Run.{file_after, replies, run}
+use Rattle.trace.specs.Run.{file_after}
 use Rattle.replaying.specs.declared.Part.{Part}
-use Rattle.text.specs.Lent.{behind_by, placed_by}
-use Rattle.replaying.specs.Replay.{PartReplayed, after_part, part_answer, part_lines, records_fit, record_lines, replayed, replayed_from}
-use Rattle.text.specs.Text.{numbers_fit, timing_line}
-use Rattle.replaying.proofs.PartRuns.{all-run, both-fit, done, file-after, filled-with, replies-long}
+use Rattle.replaying.specs.Replay.{Parted, after_part, asked, part_lines, record_lines, replayed, replayed_from}
+use Rattle.text.specs.Text.{timing_line}
 use Rattle.replaying.proofs.Pieces.{file-parts, lines-parts, parts-count}
 use Rattle.replaying.proofs.Whole.{part_sound}
 use Rattle.io.specs.Counts.{IsPrefixLen}
@@ -26,50 +21,9 @@ use Rattle.shell.specs.declared.course.Course.{Course}
 use Rattle.shell.specs.declared.course.Turn.{Turn}
 use Rattle.shell.specs.declared.reading.Filled.{Filled}
 use Rattle.shell.specs.declared.telling.Handed.{Handed}
-use Rattle.shell.specs.Parts.{Brought, Came, HandedOn, Parted, Turned, Turns, asked, beginning, counted, course_after, course_of, failed_after, turn_lines, with_read}
+use Rattle.shell.specs.Parts.{Brought, Came, Finished, HandedOn, Turned, Turns, beginning, counted, course_after, course_of, failed_after, has_failed, turn_lines, with_read}
 use Rattle.shell.specs.Parts.Turns.{none, then, unread, unwritten}
 use Rattle.shell.proofs.Bounds.{counts}
-
--- a part that was run: its lines are asked for, or they aren't
-module _ (f : File) (number : ℕ) (part replies₀ lines₀ : List ℕ) (s : T (sound f)) (room : 8 * item_count part ≤ length replies₀)
-    (wide : 30 * item_count part ≤ length lines₀) (low : number + item_count part ≤ 2 ^ 64) where
-  numbered : numbers_fit number (item_count part) ≡ true
-  unfolding numbers_fit
-  numbered = le-leb (number + item_count part) 18446744073709551616 (omega (arith, low))
-
-  roomy : records_fit (item_count part) 0 (length replies₀) (length lines₀) ≡ true
-  roomy = both-fit (item_count part) 0 (length replies₀) (length lines₀) room (omega (arith, wide))
-
-  pub part-printed : (replies lines : List ℕ) (r : Part) → PartReplayed f number part replies₀ replies lines₀ lines r
-      → Parted f number true part replies₀ replies lines₀ lines r
-  unfolding asked part_answer behind_by placed_by refused code_of
-  part-printed replies lines r p =
-      let yes : r.answer ≡ Done 0 = p.answered ∙ rw (is_true (sound f) s, roomy, numbered) refl in
-      let ended : r.end ≡ 0 + length (part_lines number f part) = rw yes at p.ended in
-      record {
-        answered = yes;
-        file = rw yes at p.file;
-        count = rw yes at p.count;
-        end = ended ∙ zero-add _;
-        replied = rw yes at p.replied ∙ rw (zero-add, replies-long) refl;
-        printed = rw yes at p.lined ∙ ap (λ (k : ℕ). part_lines number f part ++ drop k lines₀) (sym ended);
-      }
-
-  pub part-unprinted : (r : Ran) (filled : List ℕ)
-      → (r.answer ≡ (run f part replies₀).answer) × (r.file ≡ (run f part replies₀).file) × (r.count ≡ (run f part replies₀).count)
-      → filled ≡ (run f part replies₀).buffer
-      → Parted f number false part replies₀ filled lines₀ lines₀ (record { answer = r.answer; file = r.file; count = r.count; end = 0 })
-  unfolding asked
-  part-unprinted r filled same same-filled =
-      let so = is_true (sound f) s in
-      record {
-        answered = done f number part replies₀ lines₀ roomy numbered r filled same same-filled so;
-        file = file-after f number part replies₀ lines₀ roomy numbered r filled same same-filled so;
-        count = all-run f number part replies₀ lines₀ roomy numbered r filled same same-filled so;
-        end = refl;
-        replied = filled-with f number part replies₀ lines₀ roomy numbered r filled same same-filled so;
-        printed = refl;
-      }
 
 -- nothing is asked for of no part
 none-asked : (prints : Bool) (number : ℕ) (f : File) → asked prints number f [] ≡ []
@@ -99,7 +53,7 @@ pub turn-done : (before : Course) (prints : Bool) (part replies₀ replies lines
     → Turned before prints part replies₀ replies lines₀ lines
     (record {
       end = p.end;
-      course = record { file = p.file; number = before.number + p.count; more = more; failed = false; read = before.read; handed = before.handed };
+      course = record { file = p.file; number = before.number + p.count; more = more; read = before.read; handed = before.handed };
     })
 unfolding course_after turn_lines
 turn-done before prints part replies₀ replies lines₀ lines p more parted full =
@@ -111,10 +65,10 @@ turn-done before prints part replies₀ replies lines₀ lines p more parted ful
     }
 
 -- a course with more to read has not failed
-pub more-unfailed : {chip : Chip} {prints : Bool} {trace text : List ℕ} {r : Course} → Turns chip prints trace text r → r.more ≡ true → r.failed ≡ false
-unfolding beginning course_after failed_after
+pub more-unfailed : {chip : Chip} {prints : Bool} {trace text : List ℕ} {r : Course} → Turns chip prints trace text r → r.more ≡ true → has_failed r ≡ false
+unfolding beginning course_after failed_after has_failed
 more-unfailed none more = refl
-more-unfailed (then part read handed turns brought on) more = refl
+more-unfailed (then part read handed turns brought on) more = rw (brought.so, on.so) refl
 more-unfailed (unread part read turns brought) more = absurd (true≢false (sym more))
 more-unfailed (unwritten part read handed turns brought on) more = absurd (true≢false (sym more))
 
@@ -132,10 +86,10 @@ unfolding asked
 asked-parts true f trace part whole = sym (lines-parts trace part whole 0 f ∙ rw zero-add refl)
 asked-parts false f trace part whole = refl
 
-pub turns-stand : {chip : Chip} {prints : Bool} {trace text : List ℕ} {r : Course} → Turns chip prints trace text r → r.failed ≡ false → Stands chip prints trace text r
-unfolding beginning course_after failed_after turn_lines item_count
-turns-stand (unread part read turns brought) e = absurd (true≢false e)
-turns-stand (unwritten part read handed turns brought on) e = absurd (true≢false e)
+pub turns-stand : {chip : Chip} {prints : Bool} {trace text : List ℕ} {r : Course} → Turns chip prints trace text r → has_failed r ≡ false → Stands chip prints trace text r
+unfolding beginning course_after failed_after turn_lines item_count has_failed
+turns-stand (unread part read turns brought) e = absurd (true≢false (rw brought.so at e))
+turns-stand (unwritten part read handed turns brought on) e = absurd (true≢false (rw (brought.so, on.so) at e))
 turns-stand {chip} {prints} none e =
     record { file = none_after (power_on chip); number = refl; printed = sym (none-asked prints 0 (power_on chip)); whole = λ _. refl; last = λ e. absurd (true≢false e) }
 turns-stand {chip} {prints} (then {trace} {text} {before} part read handed turns brought on) e =
@@ -176,18 +130,9 @@ turns-counted {chip} {prints} (unwritten {trace} {text} {before} part read hande
   counted-on _ _ text (turn_lines prints before part) (turns-counted turns).1 on.all,
 )
 
--- a course has failed if and only if a read or a write of it has
-pub turns-failed : {chip : Chip} {prints : Bool} {trace text : List ℕ} {r : Course} → Turns chip prints trace text r
-    → r.failed ≡ r.read.failed || r.handed.failed
-unfolding beginning course_after failed_after
-turns-failed none = refl
-turns-failed (then part read handed turns brought on) = rw (brought.so, on.so) refl
-turns-failed (unread part read turns brought) = rw brought.so refl
-turns-failed (unwritten part read handed turns brought on) = rw (brought.so, on.so) refl
-
 -- 01, 'It reads a trace on standard input from power-on. For each record .. Last comes one line': what the turns handed to be written, and
 -- then the timing line of the file that they came to, is what is printed of the trace that they read
-pub turns-replayed : {chip : Chip} {trace text : List ℕ} {r : Course} → Turns chip true trace text r → r.failed ≡ false
+pub turns-replayed : {chip : Chip} {trace text : List ℕ} {r : Course} → Turns chip true trace text r → has_failed r ≡ false
     → text ++ timing_line (timing_in r.file) ≡ replayed chip trace
 unfolding asked replayed replayed_from part_lines after_part
 turns-replayed turns e =
@@ -195,40 +140,38 @@ turns-replayed turns e =
     rw (held.printed, held.file) refl
 
 -- a course that came to its end without a failure is a function of the trace that was read
-pub course-of : {chip : Chip} {prints : Bool} {r : Course} (c : Came chip prints r) → r.failed ≡ false → r ≡ course_of chip prints c.trace
-unfolding course_of
+pub course-of : {chip : Chip} {prints : Bool} {r : Course} (c : Came chip prints r) → has_failed r ≡ false → r ≡ course_of chip prints c.trace
+unfolding course_of has_failed
 course-of {chip} {prints} {r} c e =
     let held = turns-stand c.turns e in
     let all = turns-counted c.turns in
-    let none : r.read.failed || r.handed.failed ≡ false = sym (turns-failed c.turns) ∙ e in
     λ i. record {
       file = held.file i;
       number = held.number i;
       more = c.ended i;
-      failed = e i;
-      read = record { count = held.last c.ended i; failed = or_left r.read.failed r.handed.failed none i; all = all.0 i };
+      read = record { count = held.last c.ended i; failed = or_left r.read.failed r.handed.failed e i; all = all.0 i };
       handed =
           record {
             all = (all.1 ∙ ap (λ (l : List ℕ). length l % 2 ^ 64) held.printed) i;
-            failed = or_right r.read.failed r.handed.failed none i;
+            failed = or_right r.read.failed r.handed.failed e i;
           };
     }
 
-pub more-sound : {chip : Chip} {prints : Bool} {trace text : List ℕ} {r : Course} → Turns chip prints trace text r → r.failed ≡ false → T (sound r.file)
+pub more-sound : {chip : Chip} {prints : Bool} {trace text : List ℕ} {r : Course} → Turns chip prints trace text r → has_failed r ≡ false → T (sound r.file)
 more-sound {chip} {trace = trace} turns e = rw (turns-stand turns e).file (part_sound (power_on chip) trace (power_on-sound chip))
 
--- a course on its way, with so many turns left: each turn that leaves more to read took 1,024 records
+-- a course on its way, after so many turns: each turn that leaves more to read took 1,024 records
 pub record Coming (chip : Chip) (prints : Bool) (turns : ℕ) (r : Course) : Type 0 where
   pub trace : List ℕ
   pub text : List ℕ
   pub led : Turns chip prints trace text r
   pub low : r.number < 2 ^ 64
-  pub left : r.more ≡ true → r.number + 1024 * turns ≡ 1024 * 18446744073709551615
+  pub taken : r.more ≡ true → r.number ≡ 1024 * turns
 
-pub coming-none : (chip : Chip) (prints : Bool) (r : Course) → r ≡ beginning chip → Coming r.file.state.chip prints 18446744073709551615 r
+pub coming-none : (chip : Chip) (prints : Bool) (r : Course) → r ≡ beginning chip → Coming r.file.state.chip prints 0 r
 unfolding beginning power_on initial
 coming-none chip prints r e =
-    rw e (record { trace = []; text = []; led = none; low = omega arith; left = λ _. refl })
+    rw e (record { trace = []; text = []; led = none; low = omega arith; taken = λ _. refl })
 
 -- a part that was asked for, and what the test of its failure said
 pub brought : {failed test : Bool} {before : Course} {part : List ℕ} {read : Filled} → before.more ≡ true → read.count ≡ length part
@@ -245,7 +188,7 @@ brought {before = before} goes count so tested test =
 
 -- the course with what was handed to be written
 abbrev with_handed : Handed → Course → Course
-with_handed handed c = record { file = c.file; number = c.number; more = c.more; failed = c.failed; read = c.read; handed = handed }
+with_handed handed c = record { file = c.file; number = c.number; more = c.more; read = c.read; handed = handed }
 
 -- a turn that was taken: its part was read, and its lines were handed on
 module _ {chip : Chip} {prints : Bool} {turns : ℕ} {before : Course} (read : Filled) (part replies₀ replies lines₀ lines : List ℕ) (r : Turn) (handed : Handed)
@@ -265,18 +208,18 @@ module _ {chip : Chip} {prints : Bool} {turns : ℕ} {before : Course} (read : F
         so = so;
       }
 
-  pub coming-on : handed.failed ≡ false → 0 < turns → r.course.number < 2 ^ 64 → Coming chip prints (turns - 1) (with_handed handed r.course)
+  pub coming-on : handed.failed ≡ false → r.course.number < 2 ^ 64 → Coming chip prints (turns + 1) (with_handed handed r.course)
   unfolding course_after item_count
-  coming-on written some low =
+  coming-on written low =
       record {
         trace = come.trace ++ part;
         text = come.text ++ turn_lines prints before part;
         led = rw after (then part read handed come.led brought (on false written));
         low = low;
-        left =
+        taken =
             λ more. let full : length part ≡ 8192 = eqb-true _ _ (sym (ap (λ (c : Course). c.more) after) ∙ more) in
             let number = ap (λ (c : Course). c.number) after in
-            omega (arith, come.left brought.goes, full, number);
+            omega (arith, come.taken brought.goes, full, number);
       }
 
   -- its lines were not written
@@ -290,9 +233,9 @@ module _ {chip : Chip} {prints : Bool} {turns : ℕ} {before : Course} (read : F
         ended = rw e refl;
       }
 
--- no run uses up its turns
-pub coming-ended : {chip : Chip} {prints : Bool} {r : Course} → Coming chip prints 0 r → r.more ≡ false
-coming-ended {r = r} come = by-test r.more (λ e. absurd (omega (arith, come.left e, come.low))) (λ e. e)
+-- no run comes to so many turns
+pub coming-ended : {chip : Chip} {prints : Bool} {turns : ℕ} {r : Course} → 18446744073709551615 ≤ turns → Coming chip prints turns r → r.more ≡ false
+coming-ended {r = r} all come = by-test r.more (λ e. absurd (omega (arith, all, come.taken e, come.low))) (λ e. e)
 
 -- a read that failed
 pub came-unread : {chip : Chip} {prints : Bool} {turns : ℕ} {before : Course} (part : List ℕ) (read : Filled) (r : Course) → Coming chip prints turns before
@@ -303,3 +246,13 @@ came-unread part read r come brought e =
 
 pub came : {chip : Chip} {prints : Bool} {turns : ℕ} {r : Course} → Coming chip prints turns r → r.more ≡ false → Came chip prints r
 came come e = record { trace = come.trace; text = come.text; turns = come.led; ended = e }
+
+-- a course has failed if and only if a read or a write of it has
+pub turns-failed : {chip : Chip} {prints : Bool} {trace text : List ℕ} {r : Course} → Turns chip prints trace text r
+    → has_failed r ≡ r.read.failed || r.handed.failed
+unfolding has_failed
+turns-failed turns = refl
+
+-- a run that finished left a sound file
+pub finished-sound : {prints : Bool} {r : Course} → Finished prints r → T (sound r.file)
+finished-sound f = more-sound f.came.turns f.unfailed

@@ -1,43 +1,31 @@
 -- 01, 'The replay program': what a part of a trace leaves and prints, a turn, and the course of turns.
 -- Assumes nothing.
-use Rattle.std.specs.Prelude.{◌≡◌, ℕ, ◌+◌, ◌*◌, ◌%◌, ◌^◌, ◌≤◌, Bool, true, false, cond, List, [], ◌++◌, length, drop, ◌==◌}
-use Rattle.file.specs.declared.answer.Answer.TheVariants.{Done}
+use Rattle.std.specs.Prelude.{◌≡◌, ℕ, ◌+◌, ◌*◌, ◌%◌, ◌^◌, ◌≤◌, Bool, true, false, ◌||◌, List, [], ◌++◌, length, drop, ◌==◌}
 use Rattle.file.specs.declared.chip.Chip.{Chip}
-use Rattle.file.specs.declared.registers.File.{File}
 use Rattle.file.specs.File.{power_on}
 use Rattle.trace.specs.Records.{item_count}
-use Rattle.replaying.specs.declared.Part.{Part}
-use Rattle.replaying.specs.Replay.{after_part, part_lines, part_replies}
+use Rattle.replaying.specs.Replay.{after_part, asked, part_replies}
 use Rattle.shell.specs.declared.course.Course.{Course}
 use Rattle.shell.specs.declared.course.Turn.{Turn}
 use Rattle.shell.specs.declared.reading.Filled.{Filled}
 use Rattle.shell.specs.declared.telling.Handed.{Handed}
 
--- the lines of a part, if they are asked for
-unfoldable pub asked : Bool → ℕ → File → List ℕ → List ℕ
-asked prints number f part = cond prints (part_lines number f part) []
-
--- a part that was run from a file: what comes back, and what both buffers hold
-pub record Parted (f : File) (number : ℕ) (prints : Bool) (part replies₀ replies lines₀ lines : List ℕ) (r : Part) : Type 0 where
-  pub answered : r.answer ≡ Done 0
-  pub file : r.file ≡ after_part f part
-  pub count : r.count ≡ item_count part
-  pub end : r.end ≡ length (asked prints number f part)
-  pub replied : replies ≡ part_replies f part ++ drop (8 * item_count part) replies₀
-  pub printed : lines ≡ asked prints number f part ++ drop r.end lines₀
-
 -- how many bytes were read, or handed to be written, in all: so many behind those before, as far as 64 bits count
 abbrev pub counted : ℕ → ℕ → ℕ
 counted before count = (before + count) % 2 ^ 64
 
+-- a course has failed if its last read or its last write has
+unfoldable pub has_failed : Course → Bool
+has_failed c = c.read.failed || c.handed.failed
+
 -- what fails ends the course and leaves the rest of it
 unfoldable pub failed_after : Course → Course
 failed_after before =
-    record { file = before.file; number = before.number; more = false; failed = true; read = before.read; handed = before.handed }
+    record { file = before.file; number = before.number; more = false; read = before.read; handed = before.handed }
 
 -- the course with what was read
 abbrev pub with_read : Filled → Course → Course
-with_read read c = record { file = c.file; number = c.number; more = c.more; failed = c.failed; read = read; handed = c.handed }
+with_read read c = record { file = c.file; number = c.number; more = c.more; read = read; handed = c.handed }
 
 -- the lines that a turn makes of the part that was read
 unfoldable pub turn_lines : Bool → Course → List ℕ → List ℕ
@@ -50,7 +38,6 @@ course_after read handed before part =
       file = after_part before.file part;
       number = before.number + item_count part;
       more = (length part == 8192);
-      failed = false;
       read = read;
       handed = handed;
     }
@@ -70,7 +57,6 @@ beginning chip =
       file = power_on chip;
       number = 0;
       more = true;
-      failed = false;
       read = record { count = 0; failed = false; all = 0 };
       handed = record { all = 0; failed = false };
     }
@@ -108,7 +94,6 @@ course_of chip prints trace =
       file = after_part (power_on chip) trace;
       number = item_count trace;
       more = false;
-      failed = false;
       read = record { count = length trace % 8192; failed = false; all = length trace % 2 ^ 64 };
       handed = record { all = length (asked prints 0 (power_on chip) trace) % 2 ^ 64; failed = false };
     }
@@ -119,3 +104,9 @@ pub record Came (chip : Chip) (prints : Bool) (r : Course) : Type 0 where
   pub text : List ℕ
   pub turns : Turns chip prints trace text r
   pub ended : r.more ≡ false
+
+-- a run that came to its end without a failure, on some chip
+pub record Finished (prints : Bool) (r : Course) : Type 0 where
+  pub chip : Chip
+  pub came : Came chip prints r
+  pub unfailed : has_failed r ≡ false

@@ -21,7 +21,6 @@ pub record Gone (before : Onward) (filled : Filled) (part : List ℕ) (r : Onwar
   pub touched : r.touched ≡ touched_after before.touched before.file part
   pub more : r.more ≡ (length part == 8192)
   pub read : r.read ≡ filled
-  pub failed : r.failed ≡ false
 
 -- where a second trace has led to: 'the set of exactly those .. that an access .. has stored into .. or moved since a saved file was taken'. As many bytes
 -- were read as the trace has
@@ -32,8 +31,7 @@ pub record Followed (saved : File) (r : Onward) : Type 0 where
   pub all : r.read.all ≡ length trace % 2 ^ 64
   pub whole : r.more ≡ true → length trace % 8 ≡ 0
 
--- how it ends: there is no more to read, and it failed exactly where its last read did; else it has led somewhere
+-- how it ends: there is no more to read, and where its last read didn't fail it has led somewhere
 pub record Ended (saved : File) (r : Onward) : Type 0 where
   pub ended : r.more ≡ false
-  pub failed : r.failed ≡ r.read.failed
-  pub led : r.failed ≡ false → Followed saved r
+  pub led : r.read.failed ≡ false → Followed saved r

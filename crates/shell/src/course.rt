@@ -1,22 +1,23 @@
 // A trace on standard input, run from power-on, in fixed memory.
 ghost use Rattle.std.specs.Prelude.{◌≡◌, ◌+◌, ◌*◌, ◌^◌, ◌<◌, ◌≤◌, true, T, length};
+ghost use Rattle.std.specs.Option.{IfSome};
 ghost use Rattle.file.specs.Sound.{sound};
-ghost use Rattle.trace.specs.Records.{item_count};
-ghost use Rattle.shell.specs.Parts.{Came, Parted, Turned, beginning, failed_after};
+ghost use Rattle.shell.specs.Parts.{Came, Finished, Turned, beginning, failed_after, has_failed};
 
 use crate::reading::{Filled, nothing_read, read_some};
-use crate::telling::{Handed, nothing_handed, write_out};
-use engines::{Engine, run_by};
+use crate::telling::{Handed, choose_course, nothing_handed, write_out};
+use choosing::Chosen;
+use engines::Engine;
 use file::{Chip, File};
-use replaying::{Part, replay_part};
+use replaying::run_part;
+use std::rt::Env;
 
-// How far a run has come: how many records there were, whether there is more to read, whether something failed, what was read and what
-// was handed to be written, and the file after the records.
+// How far a run has come: how many records there were, whether there is more to read, what was read and what was handed to be written, and the file after
+// the records. `more` stays beside them, since the course that a trace leads to, `course_of`, has it.
 #[derive(Clone, Copy)]
 pub struct Course {
     pub number: u64,
     pub more: bool,
-    pub failed: bool,
     pub read: Filled,
     pub handed: Handed,
     pub file: File,
@@ -29,33 +30,13 @@ struct Turn {
     course: Course,
 }
 
-// A part of a trace, run by an engine, and the lines of its records, if they are asked for, from the start of a buffer on.
-fn run_part(
-    engine: Engine,
-    before: File,
-    number: u64,
-    prints: bool,
-    trace: &[u8],
-    replies: &mut [u8],
-    lines: &mut [u8],
-) -> Part
-    requires t { T (sound before) }
-    requires trace_in_bounds { 8 * item_count trace.now ≤ length replies.old }
-    requires trace_in_bounds_2 { 30 * item_count trace.now ≤ length lines.old }
-    requires trace_bound { number + item_count trace.now ≤ 2 ^ 64 }
-    ensures { Parted before number prints trace.now replies.old replies.new lines.old lines.new result }
-{
-    if prints {
-        return replay_part(engine, before, number, trace, replies, lines);
-    }
-    let ran = run_by(engine, before, trace, replies);
-    let answer = ran.answer;
-    let file = ran.file;
-    Part {
-        answer,
-        file,
-        count: ran.count,
-        end: 0,
+impl Course {
+    // Whether the last read or the last write failed.
+    #[tactic(auto, unfolding(crate::specs::Parts::has_failed))]
+    pub fn has_failed(self) -> bool
+        ensures { result ≡ has_failed self }
+    {
+        self.read.has_failed() || self.handed.has_failed()
     }
 }
 
@@ -66,7 +47,6 @@ fn begin(chip: Chip) -> Course
     Course {
         number: 0,
         more: true,
-        failed: false,
         read: nothing_read(),
         handed: nothing_handed(),
         file: File::power_on(chip),
@@ -79,7 +59,6 @@ fn failed(before: Course) -> Course
 {
     let mut course = before;
     course.more = false;
-    course.failed = true;
     course
 }
 
@@ -99,7 +78,7 @@ fn run_some(
     ensures { Turned before prints trace.now replies.old replies.new lines.old lines.new result }
 {
     let number = before.number;
-    let part = run_part(engine, before.file, number, prints, trace, replies, lines);
+    let part = run_part(engine, prints, before.file, number, trace, replies, lines);
     let number = number + part.count as u64;
     let read = before.read;
     let handed = before.handed;
@@ -109,7 +88,6 @@ fn run_some(
         course: Course {
             number,
             more: trace.len() == 8192,
-            failed: false,
             read,
             handed,
             file,
@@ -117,25 +95,26 @@ fn run_some(
     }
 }
 
-// The whole of a trace, on a chip, by either engine. A proved loop has to end, so this one counts its turns down, from a number that no run uses up.
+// The whole of a trace, on a chip, by either engine. A proved loop has to end, so this one counts its turns, up to a number that no run comes to.
 pub fn run_input(
     rt: &(impl Input + Print),
     err: &impl Print,
     program: &[u8],
-    chip: Chip,
-    engine: Engine,
+    chosen: Chosen,
     prints: bool,
 ) -> Course
-    ensures { Came chip prints result }
+    ensures { Came chosen.chip prints result }
 {
     let mut input = rt.reader();
     let mut trace = [0u8; 8192];
     let mut replies = [0u8; 8192];
     let mut lines = [0u8; 32768];
-    let mut course = begin(chip);
-    let mut turns = u64::MAX;
-    while turns > 0 && course.more {
-        let read = read_some(
+    let mut course = begin(chosen.chip);
+    for _turn in 0..u64::MAX {
+        if !course.more {
+            return course;
+        }
+        course.read = read_some(
             &mut input,
             err,
             program,
@@ -143,13 +122,12 @@ pub fn run_input(
             course.read,
             &mut trace,
         );
-        course.read = read;
-        if read.has_failed() {
+        if course.read.has_failed() {
             return failed(course);
         }
-        let size = read.count;
+        let size = course.read.count;
         let turn = run_some(
-            engine,
+            chosen.engine,
             prints,
             course,
             &trace[..size],
@@ -158,12 +136,29 @@ pub fn run_input(
         );
         let end = turn.end;
         course = turn.course;
-        let handed = write_out(rt, err, program, course.handed, &lines[..end]);
-        course.handed = handed;
-        if handed.has_failed() {
+        course.handed = write_out(rt, err, program, course.handed, &lines[..end]);
+        if course.handed.has_failed() {
             return failed(course);
         }
-        turns -= 1;
     }
     course
+}
+
+// The whole of a trace on the chip and by the engine that the program's words choose, without so many behind its own name; nothing where they choose none or
+// where something failed, which is told.
+pub fn run_chosen(
+    rt: &(impl Env + Input + Print),
+    err: &impl Print,
+    program: &[u8],
+    skipped: usize,
+    prints: bool,
+) -> Option<Course>
+    ensures { IfSome result (λ course. Finished prints course) }
+{
+    let chosen = choose_course(rt, err, program, skipped)?;
+    let course = run_input(rt, err, program, chosen, prints);
+    if course.has_failed() {
+        return None;
+    }
+    Some(course)
 }

@@ -6,11 +6,9 @@ ghost use Rattle.timing.specs.Timing.{timing_in};
 ghost use Rattle.replaying.specs.Replay.{timing_most};
 ghost use Rattle.text.specs.Text.{timing_line};
 
-use crate::course::run_input;
-use crate::telling::{choose_course, write_out};
-use choosing::Chosen;
-use engines::Engine;
-use file::{Chip, File};
+use crate::course::run_chosen;
+use crate::telling::write_out;
+use file::File;
 use replaying::TIMING_MOST;
 use std::rt::Env;
 
@@ -25,21 +23,13 @@ fn timing_end(file: File, line: &mut [u8]) -> usize
     text::timing_line(line, 0, timing::read_timing(file).timing).end
 }
 
-// Runs the trace on standard input from a chip's power-on and prints what 01 says on standard output.
-fn replay_on(rt: &(impl Input + Print), err: &impl Print, chip: Chip, engine: Engine) {
-    let course = run_input(rt, err, b"replay", chip, engine, true);
-    if course.failed {
+// Runs the trace on standard input from a chip's power-on, on the chip and by the engine that the program's words choose, and prints what 01 says on standard
+// output.
+pub fn replay(rt: &(impl Env + Input + Print), err: &impl Print) {
+    let Some(course) = run_chosen(rt, err, b"replay", 0, true) else {
         return;
-    }
+    };
     let mut line = [0u8; TIMING_MOST];
     let end = timing_end(course.file, &mut line);
     write_out(rt, err, b"replay", course.handed, &line[..end]);
-}
-
-// The same on the chip and by the engine that the program's words choose.
-pub fn replay(rt: &(impl Env + Input + Print), err: &impl Print) {
-    let chosen = choose_course(rt, err, b"replay");
-    if let Chosen::On(chip, engine) = chosen {
-        replay_on(rt, err, chip, engine);
-    }
 }

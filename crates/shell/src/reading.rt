@@ -1,5 +1,6 @@
 // Standard input, or another file that is open, by buffers.
-ghost use Rattle.std.specs.Prelude.{◌≡◌, ◌+◌, ◌^◌, ◌<◌, ◌≤◌, false, length, take};
+ghost use Rattle.std.specs.Prelude.{◌≡◌, ◌+◌, ◌^◌, ◌<◌, ◌≤◌, MatchOption, false, length, take};
+ghost use Rattle.std.specs.Bool.{⊤};
 ghost use Rattle.io.specs.Counts.{IsPrefixLen};
 ghost use Rattle.shell.specs.Parts.{counted};
 
@@ -13,8 +14,8 @@ const LAST: u64 = u64::MAX - 1024;
 // The last count of bytes at which those of a whole buffer are still counted.
 const LAST_BYTE: u64 = u64::MAX - 8192;
 
-// How many bytes came into a buffer, whether a read failed, and how many bytes came in all, as far as 64 bits count. It is made here
-// alone: no other module can say that bytes came or that a read failed.
+// How many bytes came into a buffer, whether a read failed, and how many bytes came in all, as far as 64 bits count: those before a read that failed
+// are counted too, so it is no Result. It is made here alone: no other module can say that bytes came or that a read failed.
 #[derive(Clone, Copy)]
 pub struct Filled {
     pub count: usize,
@@ -29,13 +30,6 @@ impl Filled {
     {
         self.failed
     }
-}
-
-// What one read brought.
-#[derive(Clone, Copy)]
-struct Got {
-    count: usize,
-    failed: bool,
 }
 
 // Nothing yet.
@@ -62,8 +56,8 @@ fn filled_with(before: Filled, count: usize, failed: bool) -> Filled
     }
 }
 
-// One read into what is left of a buffer from a place on; no bytes where the input ends or the read fails, which is told. What stands before the place
-// stays.
+// One read into what is left of a buffer from a place on, and how many bytes it brought: none where the input ends, and nothing where the read fails, which
+// is told. What stands before the place stays.
 fn read_on<I: Read>(
     from: &mut I,
     err: &impl Print,
@@ -71,22 +65,16 @@ fn read_on<I: Read>(
     what: &[u8],
     buffer: &mut [u8],
     at: usize,
-) -> Got
+) -> Option<usize>
     requires { at ≤ length buffer.old }
-    ensures count_in_bounds { at + result.count ≤ length buffer.new }
+    ensures count_in_bounds { MatchOption result ⊤ (λ count. at + count ≤ length buffer.new) }
     ensures buffer_unchanged { take at buffer.new ≡ take at buffer.old }
 {
     match from.read(&mut buffer[at..]) {
-        Ok(count) => Got {
-            count,
-            failed: false,
-        },
+        Ok(count) => Some(count),
         Err(why) => {
             tell_failure(err, program, what, why);
-            Got {
-                count: 0,
-                failed: true,
-            }
+            None
         }
     }
 }
@@ -105,11 +93,11 @@ pub fn fill_from<I: Read>(
 {
     let mut at = 0;
     while at < buffer.len() {
-        let more = read_on(from, err, program, what, buffer, at);
-        if more.count == 0 {
-            return filled_with(before, at, more.failed);
+        match read_on(from, err, program, what, buffer, at) {
+            Some(0) => return filled_with(before, at, false),
+            Some(count) => at += count,
+            None => return filled_with(before, at, true),
         }
-        at += more.count;
     }
     filled_with(before, at, false)
 }

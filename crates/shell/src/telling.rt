@@ -2,7 +2,7 @@
 ghost use Rattle.std.specs.Prelude.{◌≡◌, false, length};
 ghost use Rattle.shell.specs.Parts.{counted};
 
-use choosing::{Choice, Chosen, choose, choose_behind};
+use choosing::{Choice, Chosen, choose};
 use std::io;
 use std::num::wrapping_add_u64;
 use std::rt::Env;
@@ -22,8 +22,8 @@ pub fn tell(err: &impl Print, program: &[u8], what: &[u8]) {
     let _ = err.write_all(b"\n");
 }
 
-// How many bytes were handed to be written in all, as far as 64 bits count, and whether writing the last of them failed. It is made here
-// alone: no other module can say that bytes were handed on or that a write failed.
+// How many bytes were handed to be written in all, as far as 64 bits count, and whether writing the last of them failed: the count is true of a write
+// that failed too, so it is no Result. It is made here alone: no other module can say that bytes were handed on or that a write failed.
 #[derive(Clone, Copy)]
 pub struct Handed {
     all: u64,
@@ -70,11 +70,11 @@ impl Handed {
 }
 
 // What was chosen; where the words name none, that is told.
-pub fn tell_choice(err: &impl Print, program: &[u8], choice: Choice) -> Chosen
+pub fn tell_choice(err: &impl Print, program: &[u8], choice: Choice) -> Option<Chosen>
     ensures { result ≡ choice.chosen }
 {
     let chosen = choice.chosen;
-    if let Chosen::Unknown = chosen {
+    if chosen.is_none() {
         tell(
             err,
             program,
@@ -84,12 +84,12 @@ pub fn tell_choice(err: &impl Print, program: &[u8], choice: Choice) -> Chosen
     chosen
 }
 
-// The chip and the engine that a program is started for.
-pub fn choose_course(rt: &impl Env, err: &impl Print, program: &[u8]) -> Chosen {
-    tell_choice(err, program, choose(rt))
-}
-
-// The same by the words behind the first.
-pub fn choose_course_behind(rt: &impl Env, err: &impl Print, program: &[u8]) -> Chosen {
-    tell_choice(err, program, choose_behind(rt))
+// The chip and the engine that a program is started for, by its words without so many behind its own name.
+pub fn choose_course(
+    rt: &impl Env,
+    err: &impl Print,
+    program: &[u8],
+    skipped: usize,
+) -> Option<Chosen> {
+    tell_choice(err, program, choose(rt, skipped))
 }

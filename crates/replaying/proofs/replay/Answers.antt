@@ -1,38 +1,35 @@
 -- `replay` meets its contract. Assumes nothing.
-use Prim.Native.Nat.{ℕ}
-use mathlib.Core.Path.{sym, ap, ◌∙◌}
-use native.Mathlib.Omega.{arith}
-use borrow.Author.Tests.{not-false, not-true}
-use lib.ListN.{length}
+use Rattle.std.proofs.Common.{◌≡◌, ℕ, Bool, sym, ap, ◌∙◌, arith}
+use Rattle.file.proofs.Soundness.{power_on-sound}
 use Rattle.trace.specs.Records.{item_count}
 use Rattle.replaying.specs.Replay.{records_fit, timing_most}
-use Rattle.replaying.proofs.Whole.{not-replayed, whole-replayed}
+use Rattle.replaying.proofs.Whole.{lines-fit, not-replayed, replies-fit, whole-replayed}
 use Rattle.replaying.proofs.replay.Goals as goal
+
+-- what the test of room said of so many records
+room_by : (count last replies lines : ℕ) {told said : Bool} (n : ℕ) → n ≡ count → told ≡ records_fit n last replies lines → told ≡ said
+    → records_fit count last replies lines ≡ said
+room_by count last replies lines n e t s = ap (λ (k : ℕ). records_fit k last replies lines) (sym e) ∙ sym t ∙ s
 
 pub returns-then-not-records_fit : goal.returns-then-not-records_fit
 unfolding timing_most
-returns-then-not-records_fit c = record {
-  lined = (let args = c.args in
-      let short =
-      ap (λ (k : ℕ). records_fit k timing_most (length args.replies.now) (length args.lines.now)) (sym c.item_count-count.ensures) ∙ sym c.records_fit.ensures ∙ not-true _ c.if-not-records_fit.true-raw in
-      not-replayed args.chip args.trace.now args.replies.now args.lines.now short).0;
-  replies_after = (let args = c.args in
-      let short =
-      ap (λ (k : ℕ). records_fit k timing_most (length args.replies.now) (length args.lines.now)) (sym c.item_count-count.ensures) ∙ sym c.records_fit.ensures ∙ not-true _ c.if-not-records_fit.true-raw in
-      not-replayed args.chip args.trace.now args.replies.now args.lines.now short).1;
-}
+returns-then-not-records_fit c =
+    let args = c.args in
+    let all =
+    not-replayed args.chip args.trace.now args.replies.now args.lines.now
+    (room_by _ timing_most _ _ _ c.item_count-count.ensures c.records_fit.ensures c.if-not-records_fit.true) in
+    record { lined = all.0; replies_after = all.1 }
 
 pub returns : goal.returns
 unfolding timing_most item_count
-returns c = record {
-  lined = (let args = c.args in
-      let room =
-      ap (λ (k : ℕ). records_fit k timing_most (length args.replies.now) (length args.lines.now)) (sym c.item_count-count.ensures) ∙ sym c.records_fit.ensures ∙ not-false _ c.if-not-records_fit.false-raw in
-      let part = c.replay_part-part in
-      whole-replayed args.chip args.trace.now args.replies.now args.lines.now room (omega arith) part.result _ _ (rw c.power_on.ensures at part.ensures) c.read_timing.result c.read_timing.ensures _ _ c.timing_line.ensures).0;
-  replies_after = (let args = c.args in
-      let room =
-      ap (λ (k : ℕ). records_fit k timing_most (length args.replies.now) (length args.lines.now)) (sym c.item_count-count.ensures) ∙ sym c.records_fit.ensures ∙ not-false _ c.if-not-records_fit.false-raw in
-      let part = c.replay_part-part in
-      whole-replayed args.chip args.trace.now args.replies.now args.lines.now room (omega arith) part.result _ _ (rw c.power_on.ensures at part.ensures) c.read_timing.result c.read_timing.ensures _ _ c.timing_line.ensures).1;
-}
+returns c =
+    let args = c.args in
+    let room = room_by _ timing_most _ _ _ c.item_count-count.ensures c.records_fit.ensures c.if-not-records_fit.false in
+    let part = c.run_part-part in
+    let parted =
+    part.ensures.parted (rw c.power_on.ensures (power_on-sound args.chip)) (replies-fit args.chip args.trace.now args.replies.now args.lines.now room (omega arith))
+    (λ _. lines-fit args.chip args.trace.now args.replies.now args.lines.now room (omega arith)) (omega arith) in
+    let all =
+    whole-replayed args.chip args.trace.now args.replies.now args.lines.now room (omega arith) part.result _ _ (rw c.power_on.ensures at parted)
+    c.read_timing.result c.read_timing.ensures _ _ c.timing_line.ensures in
+    record { lined = all.0; replies_after = all.1 }

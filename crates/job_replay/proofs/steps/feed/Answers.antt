@@ -18,32 +18,21 @@ overflow_mul-records c =
     omega (arith, c.records_taken-records.ensures, within_step args.prints args.last args.before args.part.now (length args.out.now))
 
 pub slice_bounds-run_some-end : goal.slice_bounds-run_some-end
-slice_bounds-run_some-end c = sym (length-take-le _ _ (omega (arith, c.least-used.ensures)))
+slice_bounds-run_some-end c = sym (length-take-le _ _ (omega (arith, c.min-used.ensures)))
 
 pub run_some-requires : goal.run_some-requires
-run_some-requires c = record {
-  t = (let args = c.args in
-      let used = c.least-used in
-      some-run args.prints args.last args.before args.part.now args.out.now c.records_taken-records.result
-      c.records_taken-records.ensures used.result used.ensures c.if-records-eq0.false).0;
-  part_bound = (let args = c.args in
-      let used = c.least-used in
-      some-run args.prints args.last args.before args.part.now args.out.now c.records_taken-records.result
-      c.records_taken-records.ensures used.result used.ensures c.if-records-eq0.false).1.0;
-  part_in_bounds = (let args = c.args in
-      let used = c.least-used in
-      some-run args.prints args.last args.before args.part.now args.out.now c.records_taken-records.result
-      c.records_taken-records.ensures used.result used.ensures c.if-records-eq0.false).1.1.0;
-  part_bound_2 = (let args = c.args in
-      let used = c.least-used in
-      some-run args.prints args.last args.before args.part.now args.out.now c.records_taken-records.result
-      c.records_taken-records.ensures used.result used.ensures c.if-records-eq0.false).1.1.1;
-}
+run_some-requires c =
+    let args = c.args in
+    let used = c.min-used in
+    let all =
+    some-run args.prints args.last args.before args.part.now args.out.now c.records_taken-records.result
+    c.records_taken-records.ensures used.result used.ensures c.if-records-eq0.false in
+    record { t = all.0; part_bound = all.1.0; part_in_bounds = all.1.1.0; part_bound_2 = all.1.1.1 }
 
 pub returns : goal.returns
 returns c =
     let args = c.args in
-    let used = c.least-used in
+    let used = c.min-used in
     let run = c.run_some in
     some-fed args.prints args.last args.before args.part.now args.out.now c.records_taken-records.result
     c.records_taken-records.ensures used.result used.ensures _ run.result run.ensures

@@ -1,9 +1,6 @@
--- `run_input` is safe and ends: the measure is the number of turns that are left. Turns lead to its course. Assumes nothing.
+-- `run_input` is safe: turns lead to its course. Assumes nothing.
 use Rattle.shell.proofs.Turns.{Coming}
 use Rattle.shell.proofs.course.run_input.Given as goal
 
-abbrev pub invariant-loop-turns : goal.invariant-loop-turns
-invariant-loop-turns g l = Coming l.initial.course.file.state.chip l.prints l.turns l.course
-
-abbrev pub decreases-loop-turns : goal.decreases-loop-turns
-decreases-loop-turns g l = l.turns
+abbrev pub invariant-loop-turn : goal.invariant-loop-turn
+invariant-loop-turn g l = Coming l.initial.course.file.state.chip l.prints l._turn l.course

@@ -13,5 +13,4 @@ returns c =
       touched = noted-set done c.requires.t (omega (arith, few));
       more = refl;
       read = refl;
-      failed = refl;
     }

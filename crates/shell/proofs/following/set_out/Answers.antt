@@ -3,4 +3,4 @@ use Rattle.std.proofs.Common.{refl}
 use Rattle.shell.proofs.following.set_out.Goals as goal
 
 pub returns : goal.returns
-returns c = (refl, c.nothing.ensures, refl, c.nothing_read.ensures)
+returns c = (refl, c.nothing.ensures, c.nothing_read.ensures)
