@@ -1,11 +1,9 @@
 pub mod SameTexts
-pub mod TableOfOptions
+pub mod Among
+pub mod Numbers
 pub mod Parts
-pub mod Passed
-pub mod Cases
-pub mod SpansKept
-pub mod Asks
 pub mod Added
-pub mod Typed
 pub mod Shown
+pub mod Passed
+pub mod SpansKept
 pub mod Examples

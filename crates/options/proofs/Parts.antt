@@ -1,19 +1,16 @@
 -- A part of the words: the bytes that there are, its name, and its end. Assumes nothing.
 use Prim.Native.Nat.{ℕ, zero, suc, ◌+◌, ◌-◌, ◌≤◌, ◌<◌, min}
-use mathlib.Core.Bool.{false}
 use mathlib.Core.List.{List, [], ◌∷◌}
-use mathlib.Core.Path.{◌≡◌, refl, sym, ap, ◌∙◌}
+use mathlib.Core.Path.{◌≡◌, refl, sym, ◌∙◌}
 use native.Mathlib.Numerals.{add-one}
 use native.Mathlib.Omega.{arith}
 use borrow.Author.Tests.{eq-eqb, ne_eqb, leb-true, leb-false, ltb-true, ltb-false}
 use lib.Dec.{eqb, leb, ltb}
 use lib.ListN.{length, take, drop, get_or, length-take, length-drop, drop_of_length-le}
 use lib.Seq.{drop-cons, take_all}
-use Rattle.bits.proofs.Test.{by-test, passes}
-use Rattle.file.specs.Readers.{ascii, same}
+use Rattle.bits.proofs.Test.{by-test}
 use Rattle.options.specs.declared.types.Span.{Span}
 use Rattle.options.specs.Words.{name_in, part}
-use Rattle.options.proofs.SameTexts.{same_lists}
 
 -- nothing is taken of nothing, nor where nothing is taken
 none-taken : (n : ℕ) (words : List ℕ) (start : ℕ) → length words ≤ start → take n (drop start words) ≡ []
@@ -80,15 +77,3 @@ name-within words s =
       length-take (s.end - s.start) (drop s.start words),
       length-drop s.start words,
     )
-
--- ---- its last four bytes
-
-pub too_short : (name : List ℕ) → length name < 4 → false ≡ same (drop (length name - 4) name) (ascii ".hex")
-unfolding ascii
-too_short name h =
-    by-test (same (drop (length name - 4) name) (ascii ".hex"))
-    (λ e. absurd (omega (arith, h, length-drop (length name - 4) name, ap length (same_lists (drop (length name - 4) name) (ascii ".hex") (passes _ e)))))
-    (λ e. sym e)
-
-pub last-four : (name : List ℕ) (from : ℕ) → take (length name - from) (drop from name) ≡ drop from name
-last-four name from = take_all (length name - from) (drop from name) (omega (arith, length-drop from name))

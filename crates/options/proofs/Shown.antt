@@ -1,5 +1,6 @@
 -- A word as it is shown, a message, and how long they are. Assumes nothing.
 use Prim.Native.Nat.{ℕ, ◌+◌, ◌*◌, ◌≤◌, ◌<◌, min}
+use Rattle.std.proofs.Common.{Option, Some, None}
 use mathlib.Core.Bool.{cond}
 use mathlib.Core.List.{List, [], ◌∷◌, ◌++◌}
 use mathlib.Core.Path.{◌≡◌, refl, sym, ap, ◌∙◌}
@@ -13,23 +14,25 @@ use Rattle.io.specs.Counts.{IsPrefixLen}
 use Rattle.bits.proofs.Test.{by-test}
 use Rattle.file.specs.Readers.{ascii}
 use Rattle.text.specs.declared.placed.Placed.{Placed}
+use Rattle.text.specs.declared.fixed.Line.{Line}
+use Rattle.text.specs.Fixed.{behind, blank, byte_behind, text_of}
 use Rattle.text.specs.Lent.{Lined, room_answer}
 use Rattle.text.specs.Text.{newline}
 use Rattle.text.proofs.Standing.{stands}
 use Rattle.escaping.specs.Escaped.{escaped_text}
 use Rattle.escaping.proofs.Sizes.{text-most}
-use Rattle.options.specs.declared.line.Line.{Line}
-use Rattle.options.specs.declared.types.Asked.{Asked}
+use Rattle.options.specs.declared.types.Refused.{Refused}
 use Rattle.options.specs.declared.types.Command.{Command}
 use Rattle.options.specs.declared.types.Command.TheVariants.{Replay, Snapshot, Geometry, Modeline, Clocks, Portable, Explain, Bytes}
 use Rattle.options.specs.declared.types.Wrong.{Wrong}
-use Rattle.options.specs.declared.types.Wrong.TheVariants.{Fine, NoCommand, UnknownCommand, UnknownOption, NoValue}
+use Rattle.options.specs.declared.types.Wrong.TheVariants.{NoCommand, UnknownCommand, UnknownOption, NoValue}
 use Rattle.options.specs.declared.types.Wrong.TheVariants.{NoTwoValues, NoSuchChip, NoSuchEngine, NotWithValue}
 use Rattle.options.specs.declared.types.Wrong.TheVariants.{Twice, WideWithOf, NoFile, OneFileMore}
 use Rattle.options.specs.declared.types.Wrong.TheVariants.{EmptyName, BothStandardInput, TooManyWords, TooLong}
-use Rattle.options.specs.Words.{part}
-use Rattle.options.specs.Lines.{blank, byte_added, line_most, shown, text_added, text_of}
-use Rattle.options.specs.Messages.{command_name, filled, message, message_by, piece_of, wrong_line}
+use Rattle.options.specs.Words.{word_at}
+use Rattle.options.specs.Table.{command_name}
+use Rattle.options.specs.Lines.{line_most, shown}
+use Rattle.options.specs.Messages.{filled, message, message_by, name_of, piece_of, wrong_line}
 use Rattle.options.proofs.Added.{added-append, all-kept, then-added}
 
 -- ---- a word
@@ -59,29 +62,25 @@ module _ (word : List ℕ) (size : ℕ) (e : size ≡ min (length word) 64) (bef
 
 -- ---- a message
 
-module _ (asked : Asked) (words : List ℕ) where
-  pub next-piece : (l : Line) (said : List ℕ) (i : ℕ) → i < length said
-      → text_added (text_added l (piece_of asked words (get_or said i 0))) (filled asked words (drop (i + 1) said)) ≡ text_added l (filled asked words (drop i said))
+module _ (refused : Refused) (words : List ℕ) where
+  pub next-piece : (l : Line line_most) (said : List ℕ) (i : ℕ) → i < length said
+      → behind (behind l (piece_of refused words (get_or said i 0))) (filled refused words (drop (i + 1) said)) ≡ behind l (filled refused words (drop i said))
   unfolding filled
   next-piece l said i h =
-      added-append l (piece_of asked words (get_or said i 0)) (filled asked words (drop (i + 1) said)) ∙ rw (drop-cons said i 0 h, add-one)
+      added-append l (piece_of refused words (get_or said i 0)) (filled refused words (drop (i + 1) said)) ∙ rw (drop-cons said i 0 h, add-one)
 
-  pub no-piece : (l : Line) (said : List ℕ) (i : ℕ) → length said ≤ i → text_added l (filled asked words (drop i said)) ≡ l
-  unfolding filled text_added
+  pub no-piece : (l : Line line_most) (said : List ℕ) (i : ℕ) → length said ≤ i → behind l (filled refused words (drop i said)) ≡ l
+  unfolding filled behind
   no-piece l said i h = rw (drop_of_length-le said h)
 
   -- the program's name before it, and a newline after it
-  pub framed : (said : List ℕ) {a b c d : Line} → a ≡ blank → b ≡ text_added a (ascii "sedgecoil: ") → c ≡ text_added b (filled asked words said)
-      → d ≡ byte_added c 0x0A → d ≡ text_added blank (message_by asked words said)
-  unfolding message_by newline ascii text_added
-  framed said e f g h =
-      then-added blank (ascii "sedgecoil: " ++ filled asked words said) newline
-      (then-added blank (ascii "sedgecoil: ") (filled asked words said) (f ∙ ap (λ (l : Line). text_added l (ascii "sedgecoil: ")) e) g) h
-
-  pub said-by : (w : Wrong) {l : Line} → asked.wrong ≡ w → l ≡ text_added blank (message_by asked words (message w))
-      → l ≡ text_added blank (wrong_line asked words)
-  unfolding wrong_line
-  said-by w e f = f ∙ ap (λ (v : Wrong). text_added blank (message_by asked words (message v))) (sym e)
+  pub framed : {a b c d : Line line_most} → a ≡ blank line_most → b ≡ behind a (ascii "sedgecoil: ") → c ≡ behind b (filled refused words (message refused.wrong))
+      → d ≡ byte_behind c 0x0A → d ≡ behind (blank line_most) (wrong_line refused words)
+  unfolding wrong_line message_by newline ascii behind
+  framed e f g h =
+      let said = filled refused words (message refused.wrong) in
+      then-added (blank line_most) (ascii "sedgecoil: " ++ said) newline
+      (then-added (blank line_most) (ascii "sedgecoil: ") said (f ∙ ap (λ (l : Line line_most). behind l (ascii "sedgecoil: ")) e) g) h
 
 -- ---- how long it is
 
@@ -105,23 +104,27 @@ name-short Portable = leb-true _ _ refl
 name-short Explain = leb-true _ _ refl
 name-short Bytes = leb-true _ _ refl
 
+named-short : (command : Option Command) → length (name_of command) ≤ 8
+unfolding name_of
+named-short None = omega arith
+named-short (Some command) = name-short command
+
 -- the most bytes that a byte of a message stands for
 unfoldable costs : List ℕ → ℕ
 costs [] = 0
 costs (b ∷ bs) = cond (eqb b 0x25) 8 (cond (eqb b 0x40) 258 1) + costs bs
 
-filled-short : (asked : Asked) (words said : List ℕ) → length (filled asked words said) ≤ costs said
+filled-short : (refused : Refused) (words said : List ℕ) → length (filled refused words said) ≤ costs said
 unfolding filled costs piece_of
-filled-short asked words [] = omega arith
-filled-short asked words (b ∷ bs) =
+filled-short refused words [] = omega arith
+filled-short refused words (b ∷ bs) =
     rw length-append
-    (by-test (eqb b 0x25) (λ t. rw t (omega (arith, filled-short asked words bs, name-short asked.command)))
-    (λ t. by-test (eqb b 0x40) (λ u. rw (t, u) (omega (arith, filled-short asked words bs, shown-short (part words asked.word))))
-    (λ u. rw (t, u) (omega (arith, filled-short asked words bs)))))
+    (by-test (eqb b 0x25) (λ t. rw t (omega (arith, filled-short refused words bs, named-short refused.command)))
+    (λ t. by-test (eqb b 0x40) (λ u. rw (t, u) (omega (arith, filled-short refused words bs, shown-short (word_at words refused.word))))
+    (λ u. rw (t, u) (omega (arith, filled-short refused words bs)))))
 
 costs-short : (w : Wrong) → costs (message w) ≤ 388
 unfolding costs message
-costs-short Fine = leb-true _ _ refl
 costs-short NoCommand = leb-true _ _ refl
 costs-short UnknownCommand = leb-true _ _ refl
 costs-short UnknownOption = leb-true _ _ refl
@@ -140,18 +143,17 @@ costs-short TooManyWords = leb-true _ _ refl
 costs-short TooLong = leb-true _ _ refl
 
 -- the line has 400 bytes at most
-pub message-short : (asked : Asked) (words : List ℕ) → length (wrong_line asked words) ≤ line_most
+pub message-short : (refused : Refused) (words : List ℕ) → length (wrong_line refused words) ≤ line_most
 unfolding wrong_line message_by newline ascii
-message-short asked words =
+message-short refused words =
     rw length-append
     (omega (
       arith,
-      length-append (ascii "sedgecoil: ") (filled asked words (message asked.wrong)),
-      filled-short asked words (message asked.wrong),
-      costs-short asked.wrong,
+      length-append (ascii "sedgecoil: ") (filled refused words (message refused.wrong)),
+      filled-short refused words (message refused.wrong),
+      costs-short refused.wrong,
     ))
 
 -- so none of it is dropped
-pub nothing-dropped : (asked : Asked) (words : List ℕ) {l : Line} → l ≡ text_added blank (wrong_line asked words) → text_of l ≡ wrong_line asked words
-unfolding text_of
-nothing-dropped asked words e = ap text_of e ∙ all-kept blank (wrong_line asked words) refl (omega (arith, message-short asked words))
+pub nothing-dropped : (refused : Refused) (words : List ℕ) {l : Line line_most} → l ≡ behind (blank line_most) (wrong_line refused words) → text_of l ≡ wrong_line refused words
+nothing-dropped refused words e = ap text_of e ∙ all-kept (blank line_most) (wrong_line refused words) refl (omega (arith, message-short refused words))

@@ -1,142 +1,154 @@
--- Every span of what is asked for is within the slice of the words. Assumes nothing.
+-- Every span of what is asked for, or of what is refused, is within the slice of the words. Assumes nothing.
 use Prim.Native.Nat.{ℕ, zero, suc, ◌+◌, ◌≤◌, ◌<◌}
 use mathlib.Core.Bool.{Bool, true, false, cond}
 use mathlib.Core.List.{List, [], ◌∷◌}
-use mathlib.Core.Path.{◌≡◌, refl, sym, ◌∙◌}
+use mathlib.Core.Path.{◌≡◌, refl}
 use native.Mathlib.Omega.{arith}
 use borrow.Author.Tests.{eqb-true, eqb-false, ltb-true, ltb-false}
 use lib.Dec.{eqb, ltb}
 use lib.ListN.{length, get_or, set, replicate, length-set, get_or-eq_default}
 use lib.Seq.{get_or-set_same, get_or-set_other}
+use Rattle.std.proofs.Common.{Option, Some, None, Result, Ok, Err}
+use Rattle.std.specs.Option.{IfSome, is_some}
+use Rattle.std.specs.Result.{MatchResult}
 use Rattle.bits.proofs.Test.{by-test}
 use Rattle.file.specs.Readers.{ascii, same}
 use Rattle.options.specs.declared.types.Asked.{Asked}
+use Rattle.options.specs.declared.types.Command.{Command}
 use Rattle.options.specs.declared.types.Reading.{Reading}
+use Rattle.options.specs.declared.types.Refused.{Refused}
+use Rattle.options.specs.declared.types.Slot.{Slot}
+use Rattle.options.specs.declared.types.Slot.TheVariants as slots
 use Rattle.options.specs.declared.types.Span.{Span}
+use Rattle.options.specs.declared.types.Waiting.{Waiting}
 use Rattle.options.specs.declared.types.Wrong.{Wrong}
-use Rattle.options.specs.declared.types.Wrong.TheVariants.{TooLong}
+use Rattle.options.specs.declared.types.Wrong.TheVariants.{BothStandardInput}
 use Rattle.options.specs.Words.{is_option, name_span, part, span, words_from}
-use Rattle.options.specs.Table.{command_word, has_option, of_option, option_word, since_option, value_count, write_option}
-use Rattle.options.specs.Slots.{awaiting, begun, counted, ended_options, file_slot, filled, is_taken}
-use Rattle.options.specs.Slots.{mhz_slot, named, no_span, put_slot, slot_count, span_at, wronged}
-use Rattle.options.specs.Steps.{allowed, alone, cause_of, commanded, commanded_by, equalled, is_bad, is_excluded, next_slot, operand}
-use Rattle.options.specs.Steps.{optioned, optioned_by, stepped, unended, value_taken, valued, worded}
-use Rattle.options.specs.Asking.{asked, both_standard, folded, is_filed, is_whole, lack_of, read_words, tested, told, word_of}
-use Rattle.options.specs.Within.{Inside, SpansWithin}
+use Rattle.options.specs.Table.{command_named, option_named, value_count}
+use Rattle.options.specs.Slots.{awaiting, begun, command_read, counted, filled, number_of, options_ended, refused, slot_count, taken_at}
+use Rattle.options.specs.Steps.{allowed, alone, cause_of, commanded, commanded_by, equalled, is_bad, is_excluded, next_waiting, operand}
+use Rattle.options.specs.Steps.{optioned, optioned_by, stepped, unended, value_taken, valued, waiting, waits_next, worded, worded_by}
+use Rattle.options.specs.Asking.{asked, asked_by, both_standard, folded, is_whole, of_both, read_words, told, told_by, told_of}
+use Rattle.options.specs.Within.{AllWithin, BothInside, Inside, InsideIf, SpansWithin, WordWithin}
 use Rattle.options.proofs.Parts.{name-within}
 
--- the wrong word and every slot are within so many bytes
+-- what waits, and every slot, is within so many bytes
 record Kept (size : ℕ) (r : Reading) : Type 0 where
-  word : Inside size r.word
-  long : length r.starts ≡ length r.ends
-  slots : (slot : ℕ) → Inside size (span (get_or r.starts slot 0) (get_or r.ends slot 0))
+  waits : IfSome r.waiting (λ (w : Waiting). Inside size w.option)
+  slots : (k : ℕ) → InsideIf size (get_or r.filled k None)
 
-nothing-inside : (size : ℕ) → Inside size no_span
-nothing-inside size = record { ordered = omega arith; within = omega arith }
+-- a reading that goes on, or a wrong word
+record Goes (size : ℕ) (r : Result Reading Refused) : Type 0 where
+  goes : MatchResult r (Kept size) (WordWithin size)
 
-either : {size : ℕ} {x y : Reading} (b : Bool) → Kept size x → Kept size y → Kept size (cond b x y)
+on : {size : ℕ} {r : Reading} → Kept size r → Goes size (Ok r)
+on k = record { goes = k }
+
+either : {size : ℕ} {x y : Result Reading Refused} (b : Bool) → Goes size x → Goes size y → Goes size (cond b x y)
 either true k l = k
 either false k l = l
 
 -- the first need be kept only where it is chosen
-either-by : {size : ℕ} {x y : Reading} (b : Bool) → (b ≡ true → Kept size x) → Kept size y → Kept size (cond b x y)
+either-by : {size : ℕ} {x y : Result Reading Refused} (b : Bool) → (b ≡ true → Goes size x) → Goes size y → Goes size (cond b x y)
 either-by true k l = k refl
 either-by false k l = l
 
+either-kept : {size : ℕ} {x y : Reading} (b : Bool) → Kept size x → Kept size y → Kept size (cond b x y)
+either-kept true k l = k
+either-kept false k l = l
+
 -- a span in a slot
-set-inside : (size : ℕ) (starts ends : List ℕ) (slot : ℕ) (s : Span) → length starts ≡ length ends → Inside size s
-    → ((k : ℕ) → Inside size (span (get_or starts k 0) (get_or ends k 0)))
-    → (k : ℕ) → Inside size (span (get_or (set starts slot s.start) k 0) (get_or (set ends slot s.end) k 0))
-set-inside size starts ends slot s e i held k =
+set-inside : (size : ℕ) (filled : List (Option Span)) (slot : ℕ) (s : Span) → Inside size s → ((k : ℕ) → InsideIf size (get_or filled k None))
+    → (k : ℕ) → InsideIf size (get_or (set filled slot (Some s)) k None)
+set-inside size filled slot s i held k =
     by-test (eqb k slot)
     (λ t. rw (eqb-true k slot t)
-    (by-test (ltb slot (length starts))
-    (λ u. rw (
-      get_or-set_same starts slot s.start 0 (ltb-true slot (length starts) u),
-      get_or-set_same ends slot s.end 0 (omega (
-        arith,
-        e,
-        ltb-true slot (length starts) u,
-      )),
-    ) i)
+    (by-test (ltb slot (length filled))
+    (λ u. rw (get_or-set_same filled slot (Some s) None (ltb-true slot (length filled) u)) i)
     (λ u.
-    let over = ltb-false slot (length starts) u in
-    let first = get_or-eq_default (set starts slot s.start) 0 {n = slot} (omega (arith, length-set starts slot s.start, over)) in
-    let second = get_or-eq_default (set ends slot s.end) 0 {n = slot} (omega (arith, length-set ends slot s.end, e, over)) in
-    rw (first, second) (nothing-inside size))))
-    (λ t. rw (get_or-set_other starts slot k s.start 0 (eqb-false k slot t), get_or-set_other ends slot k s.end 0 (eqb-false k slot t)) (held k))
+    let over = ltb-false slot (length filled) u in
+    let none = get_or-eq_default (set filled slot (Some s)) None {n = slot} (omega (arith, length-set filled slot (Some s), over)) in
+    rw none tt)))
+    (λ t. rw (get_or-set_other filled slot k (Some s) None (eqb-false k slot t)) (held k))
+
+waits-kept : (size : ℕ) (slot : Slot) (option : Span) → Inside size option → IfSome (waits_next slot option) (λ (w : Waiting). Inside size w.option)
+unfolding waits_next
+waits-kept size slots.Hex option i = tt
+waits-kept size slots.Quiet option i = tt
+waits-kept size slots.Chip option i = tt
+waits-kept size slots.Engine option i = tt
+waits-kept size slots.Since option i = tt
+waits-kept size slots.Wide option i = tt
+waits-kept size slots.Write option i = tt
+waits-kept size slots.Summary option i = tt
+waits-kept size slots.Of option i = i
+waits-kept size slots.Mhz option i = tt
+waits-kept size slots.Operand option i = tt
 
 module _ (size : ℕ) (r : Reading) (kept : Kept size r) where
-  wronged-kept : (wrong : Wrong) (s : Span) → Inside size s → Kept size (wronged r wrong s)
-  unfolding wronged
-  wronged-kept wrong s i = record { word = i; long = kept.long; slots = kept.slots }
+  wrong-word : (wrong : Wrong) (s : Span) → Inside size s → Goes size (Err (refused r wrong (Some s)))
+  unfolding refused
+  wrong-word wrong s i = record { goes = record { word = i; slots = kept.slots } }
 
   counted-kept : Kept size (counted r)
   unfolding counted
-  counted-kept = record { word = kept.word; long = kept.long; slots = kept.slots }
+  counted-kept = record { waits = kept.waits; slots = kept.slots }
 
-  named-kept : (command : ℕ) → Kept size (named r command)
-  unfolding named
-  named-kept command = record { word = kept.word; long = kept.long; slots = kept.slots }
+  command-kept : (command : Command) → Kept size (command_read r command)
+  unfolding command_read
+  command-kept command = record { waits = kept.waits; slots = kept.slots }
 
-  ended-kept : Kept size (ended_options r)
-  unfolding ended_options
-  ended-kept = record { word = kept.word; long = kept.long; slots = kept.slots }
+  ended-kept : Kept size (options_ended r)
+  unfolding options_ended
+  ended-kept = record { waits = kept.waits; slots = kept.slots }
 
-  awaiting-kept : (slot : ℕ) (s : Span) → Inside size s → Kept size (awaiting r slot s)
+  awaiting-kept : (w : Option Waiting) → IfSome w (λ (x : Waiting). Inside size x.option) → Kept size (awaiting r w)
   unfolding awaiting
-  awaiting-kept slot s i = record { word = i; long = kept.long; slots = kept.slots }
+  awaiting-kept w i = record { waits = i; slots = kept.slots }
 
-  put-kept : (slot : ℕ) (s : Span) → Inside size s → Kept size (put_slot r slot s)
-  unfolding put_slot filled
-  put-kept slot s i =
-      either {y = r} (ltb slot slot_count)
-      (record {
-        word = kept.word;
-        long = length-set r.starts slot s.start ∙ kept.long ∙ sym (length-set r.ends slot s.end);
-        slots = set-inside size r.starts r.ends slot s kept.long i kept.slots;
-      })
-      kept
-
-put_word : (r : Reading) (slot : ℕ) (s : Span) → (put_slot r slot s).word ≡ r.word
-unfolding put_slot filled
-put_word r slot s = by-test (ltb slot slot_count) (λ t. rw t refl) (λ t. rw t refl)
+  filled-kept : (slot : Slot) (s : Span) → Inside size s → Kept size (filled r slot s)
+  unfolding filled
+  filled-kept slot s i = record { waits = kept.waits; slots = set-inside size r.filled (number_of slot) s i kept.slots }
 
 module _ (size : ℕ) (words : List ℕ) (r : Reading) (kept : Kept size r) where
-  valued-kept : (s : Span) → Inside size s → Kept size (valued words r s)
-  unfolding valued value_taken
-  valued-kept s i =
-      either (is_bad r.waiting (part words s)) (wronged-kept size r kept (cause_of r.waiting) s i)
-      (awaiting-kept size (put_slot r r.waiting s) (put-kept size r kept r.waiting s i) (next_slot r.waiting) r.word kept.word)
+  valued-goes : (w : Waiting) (s : Span) → Inside size w.option → Inside size s → Goes size (valued words r w s)
+  unfolding valued value_taken next_waiting
+  valued-goes w s o i =
+      either (is_bad w.slot (part words s)) (wrong-word size r kept (cause_of w.slot) s i)
+      (on (awaiting-kept size (filled r w.slot s) (filled-kept size r kept w.slot s i) (waits_next w.slot w.option) (waits-kept size w.slot w.option o)))
 
-  operand-kept : (s : Span) → Inside size s → Kept size (operand words r s)
+  operand-goes : (s : Span) → Inside size s → Goes size (operand words r s)
   unfolding operand
-  operand-kept s i =
-      either (is_taken r file_slot) (wronged-kept size r kept _ s i)
-      (either (same (part words s) []) (wronged-kept size r kept _ s i) (put-kept size r kept file_slot s i))
+  operand-goes s i =
+      either (is_some (taken_at r slots.Operand)) (wrong-word size r kept _ s i)
+      (either (same (part words s) []) (wrong-word size r kept _ s i) (on (filled-kept size r kept slots.Operand s i)))
 
 -- an option, whose name is within its word
-module _ (size : ℕ) (words : List ℕ) (r : Reading) (kept : Kept size r) (option : ℕ) (name : Span) (end : ℕ) (i : Inside size name) (h : end ≤ size) where
-  equalled-kept : name.end < end → Kept size (equalled words r option name end)
+module _ (size : ℕ) (words : List ℕ) (r : Reading) (kept : Kept size r) (option : Slot) (name : Span) (end : ℕ) (i : Inside size name) (h : end ≤ size) where
+  equalled-goes : name.end < end → Goes size (equalled words r option name end)
   unfolding equalled
-  equalled-kept less =
+  equalled-goes less =
       either (eqb (value_count option) 1)
-      (valued-kept size words (awaiting r option name) (awaiting-kept size r kept option name i) (span (name.end + 1) end)
-      (record { ordered = omega (arith, less); within = h }))
-      (wronged-kept size r kept _ name i)
+      (valued-goes size words r kept (waiting option name) (span (name.end + 1) end) i (record { ordered = omega (arith, less); within = h }))
+      (wrong-word size r kept _ name i)
 
   alone-kept : Kept size (alone r option name)
   unfolding alone
-  alone-kept = either (eqb (value_count option) 0) (put-kept size r kept option name i) (awaiting-kept size r kept option name i)
+  alone-kept =
+      either-kept (eqb (value_count option) 0) (filled-kept size r kept option name i) (awaiting-kept size r kept (Some (waiting option name)) i)
 
-  optioned-kept : Kept size (optioned_by words r option name end)
-  unfolding optioned_by allowed
-  optioned-kept =
-      either (has_option r.command option)
-      (either (is_taken r option) (wronged-kept size r kept _ name i)
-      (either (is_excluded r option) (wronged-kept size r kept _ name i)
-      (either-by (ltb name.end end) (λ t. equalled-kept (ltb-true name.end end t)) alone-kept)))
-      (wronged-kept size r kept _ name i)
+  allowed-goes : Goes size (allowed words r option name end)
+  unfolding allowed
+  allowed-goes =
+      either (is_some (taken_at r option)) (wrong-word size r kept _ name i)
+      (either (is_excluded r option) (wrong-word size r kept _ name i)
+      (either-by (ltb name.end end) (λ t. equalled-goes (ltb-true name.end end t)) (on alone-kept)))
+
+optioned-goes : (size : ℕ) (words : List ℕ) (r : Reading) → Kept size r → (option : Option Slot) (name : Span) (end : ℕ) → Inside size name → end ≤ size
+    → Goes size (optioned_by words r option name end)
+unfolding optioned_by
+optioned-goes size words r kept None name end i h = wrong-word size r kept _ name i
+optioned-goes size words r kept (Some option) name end i h = allowed-goes size words r kept option name end i h
 
 name-inside : (words : List ℕ) (s : Span) → Inside (length words) s → Inside (length words) (name_span words s)
 unfolding name_span
@@ -144,85 +156,103 @@ name-inside words s i = record { ordered = omega arith; within = omega (arith, n
 
 -- a word
 module _ (words : List ℕ) where
-  worded-kept : (r : Reading) → Kept (length words) r → (s : Span) → Inside (length words) s → Kept (length words) (worded words r s)
-  unfolding worded commanded commanded_by unended optioned ascii
-  worded-kept r kept s i =
-      either (eqb r.count 1)
-      (either (eqb (command_word (part words s)) 8) (wronged-kept (length words) r kept _ s i) (named-kept (length words) r kept (command_word (part words s))))
-      (either (ltb r.waiting slot_count) (valued-kept (length words) words r kept s i)
-      (either r.ended (operand-kept (length words) words r kept s i)
-      (either (same (part words s) (ascii "--")) (ended-kept (length words) r kept)
-      (either (is_option (part words s))
-      (optioned-kept (length words) words r kept (option_word (part words (name_span words s))) (name_span words s) s.end (name-inside words s i) i.within)
-      (operand-kept (length words) words r kept s i)))))
+  commanded-goes : (r : Reading) → Kept (length words) r → (s : Span) → Inside (length words) s → (command : Option Command)
+      → Goes (length words) (commanded_by r s command)
+  unfolding commanded_by
+  commanded-goes r kept s i None = wrong-word (length words) r kept _ s i
+  commanded-goes r kept s i (Some command) = on (command-kept (length words) r kept command)
 
-  stepped_kept : (r : Reading) → Kept (length words) r → (s : Span) → Inside (length words) s → Kept (length words) (stepped words r s)
-  unfolding stepped
-  stepped_kept r kept s i =
-      either {y = r} r.good
-      (either (ltb r.count 64) (worded-kept (counted r) (counted-kept (length words) r kept) s i)
-      (wronged-kept (length words) r kept _ no_span (nothing-inside (length words))))
-      kept
+  worded-goes : (r : Reading) → Kept (length words) r → (s : Span) → Inside (length words) s → (command : Option Command) (w : Option Waiting)
+      → IfSome w (λ (x : Waiting). Inside (length words) x.option) → Goes (length words) (worded_by words r command w s)
+  unfolding worded_by commanded unended optioned ascii
+  worded-goes r kept s i None w o = commanded-goes r kept s i (command_named (part words s))
+  worded-goes r kept s i (Some command) (Some w) o = valued-goes (length words) words r kept w s o i
+  worded-goes r kept s i (Some command) None o =
+      either r.ended (operand-goes (length words) words r kept s i)
+      (either (same (part words s) (ascii "--")) (on (ended-kept (length words) r kept))
+      (either (is_option (part words s))
+      (optioned-goes (length words) words r kept (option_named command (part words (name_span words s))) (name_span words s) s.end (name-inside words s i) i.within)
+      (operand-goes (length words) words r kept s i)))
+
+  stepped-goes : (r : Reading) → Kept (length words) r → (s : Span) → Inside (length words) s → Goes (length words) (stepped words r s)
+  unfolding stepped worded refused
+  stepped-goes r kept s i =
+      let more = counted-kept (length words) r kept in
+      either (ltb r.count 64) (worded-goes (counted r) more s i (counted r).command (counted r).waiting more.waits) (record { goes = record { word = tt; slots = kept.slots } })
 
   -- the words of what is left
-  folded-kept : (rest : List ℕ) (start at : ℕ) (r : Reading) → Kept (length words) r → start ≤ at → at + length rest ≤ length words
-      → Kept (length words) (folded words r (words_from start at rest))
+  folded-goes : (rest : List ℕ) (start at : ℕ) (r : Result Reading Refused) → Goes (length words) r → start ≤ at → at + length rest ≤ length words
+      → Goes (length words) (folded words r (words_from start at rest))
   unfolding folded words_from
-  folded-kept [] start at r kept h k = kept
-  folded-kept (b ∷ bs) start at r kept h k =
+  folded-goes [] start at r goes h k = goes
+  folded-goes (b ∷ bs) start at (Err e) goes h k =
+      by-test (eqb b 0) (λ t. rw t goes) (λ t. rw t (folded-goes bs start (suc at) (Err e) goes (omega (arith, h)) (omega (arith, k))))
+  folded-goes (b ∷ bs) start at (Ok r) goes h k =
       by-test (eqb b 0)
-      (λ t. rw t (folded-kept bs (suc at) (suc at) (stepped words r (span start at))
-      (stepped_kept r kept (span start at) (record { ordered = h; within = omega (arith, k) })) (omega arith) (omega (arith, k))))
-      (λ t. rw t (folded-kept bs start (suc at) r kept (omega (arith, h)) (omega (arith, k))))
+      (λ t. rw t (folded-goes bs (suc at) (suc at) (stepped words r (span start at))
+      (stepped-goes r goes.goes (span start at) (record { ordered = h; within = omega (arith, k) })) (omega arith) (omega (arith, k))))
+      (λ t. rw t (folded-goes bs start (suc at) (Ok r) goes (omega (arith, h)) (omega (arith, k))))
 
-zero-at : (n k : ℕ) → ◌≡◌ {A = ℕ} (get_or (replicate n 0) k 0) 0
-zero-at zero k = refl
-zero-at (suc n) zero = refl
-zero-at (suc n) (suc k) = zero-at n k
+none-at : (n k : ℕ) → ◌≡◌ {A = Option Span} (get_or (replicate n None) k None) None
+none-at zero k = refl
+none-at (suc n) zero = refl
+none-at (suc n) (suc k) = none-at n k
 
 begun_kept : (size : ℕ) → Kept size begun
 unfolding begun
-begun_kept size = record { word = nothing-inside size; long = refl; slots = λ k. rw (zero-at slot_count k) (nothing-inside size) }
+begun_kept size = record { waits = tt; slots = λ k. rw (none-at slot_count k) tt }
 
 -- ---- after the last word
 
-at_slot : (size : ℕ) (r : Reading) → Kept size r → (slot : ℕ) → Inside size (span_at r slot)
-unfolding span_at
-at_slot size r kept slot =
-    by-test (ltb slot slot_count) (λ t. rw t (kept.slots slot)) (λ t. rw t (nothing-inside size))
+of-inside : (size : ℕ) (name mhz : Option Span) → InsideIf size name → InsideIf size mhz → IfSome (of_both name mhz) (BothInside size)
+unfolding of_both
+of-inside size None mhz n m = tt
+of-inside size (Some name) None n m = tt
+of-inside size (Some name) (Some mhz) n m = record { name = n; mhz = m }
 
-tested-kept : (size : ℕ) (words : List ℕ) (r : Reading) → Kept size r → Kept size (tested words r)
-unfolding tested is_filed
-tested-kept size words r kept =
-    either {y = r} r.good
-    (either (eqb r.count 0) (wronged-kept size r kept _ no_span (nothing-inside size))
-    (either (ltb r.waiting slot_count) (wronged-kept size r kept (lack_of r.waiting) r.word kept.word)
-    (either (is_taken r file_slot) (either {y = r} (both_standard words r) (wronged-kept size r kept _ (span_at r file_slot) (at_slot size r kept file_slot)) kept)
-    (wronged-kept size r kept _ no_span (nothing-inside size)))))
-    kept
+module _ (size : ℕ) (words : List ℕ) (r : Reading) (kept : Kept size r) where
+  at_slot : (slot : Slot) → InsideIf size (taken_at r slot)
+  unfolding taken_at
+  at_slot slot = kept.slots (number_of slot)
 
-told-within : (size : ℕ) (words : List ℕ) (r : Reading) → Kept size r → SpansWithin size (told words r)
-unfolding told word_of
-told-within size words r kept =
-    record {
-      word = by-test r.good (λ t. rw t (nothing-inside size)) (λ t. rw t kept.word);
-      since = at_slot size r kept since_option;
-      name = at_slot size r kept of_option;
-      mhz = at_slot size r kept mhz_slot;
-      list = at_slot size r kept write_option;
-      file = at_slot size r kept file_slot;
-    }
+  asked-within : (command : Command) (file : Span) → Inside size file → SpansWithin size (asked_by words r command file)
+  unfolding asked_by
+  asked-within command file i =
+      record {
+        since = at_slot slots.Since;
+        of = of-inside size (taken_at r slots.Of) (taken_at r slots.Mhz) (at_slot slots.Of) (at_slot slots.Mhz);
+        list = at_slot slots.Write;
+        file = i;
+      }
 
-within-either : {size : ℕ} {x y : Asked} (b : Bool) → SpansWithin size x → SpansWithin size y → SpansWithin size (cond b x y)
+  told-within : (command : Option Command) (w : Option Waiting) (file : Option Span) → IfSome w (λ (x : Waiting). Inside size x.option) → InsideIf size file
+      → AllWithin size (told_by words r command w file)
+  unfolding told_by refused
+  told-within None w file o i = record { within = record { word = tt; slots = kept.slots } }
+  told-within (Some command) (Some w) file o i = record { within = record { word = o; slots = kept.slots } }
+  told-within (Some command) None None o i = record { within = record { word = tt; slots = kept.slots } }
+  told-within (Some command) None (Some file) o i =
+      chosen_within (both_standard words (taken_at r slots.Since) file)
+    where
+      chosen_within : (b : Bool) → AllWithin size (cond b (Err (refused r BothStandardInput (Some file))) (Ok (asked_by words r command file)))
+      chosen_within true = record { within = record { word = i; slots = kept.slots } }
+      chosen_within false = record { within = asked-within command file i }
+
+within-either : {size : ℕ} {x y : Result Asked Refused} (b : Bool) → AllWithin size x → AllWithin size y → AllWithin size (cond b x y)
 within-either true k l = k
 within-either false k l = l
 
+told-of-within : (words : List ℕ) (r : Result Reading Refused) → Goes (length words) r → AllWithin (length words) (told_of words r)
+unfolding told_of told
+told-of-within words (Err e) goes = record { within = goes.goes }
+told-of-within words (Ok r) goes =
+    let kept = goes.goes in
+    told-within (length words) words r kept r.command r.waiting (taken_at r slots.Operand) kept.waits (at_slot (length words) words r kept slots.Operand)
+
 -- the theorem
-pub spans-within : (words : List ℕ) → SpansWithin (length words) (asked words)
-unfolding asked read_words
+pub spans-within : (words : List ℕ) → AllWithin (length words) (asked words)
+unfolding asked read_words refused
 spans-within words =
-    let size = length words in
     within-either (is_whole words)
-    (told-within size words (tested words (read_words words))
-    (tested-kept size words (read_words words) (folded-kept words words 0 0 begun (begun_kept size) (omega arith) (omega arith))))
-    (told-within size words (wronged begun TooLong no_span) (wronged-kept size begun (begun_kept size) TooLong no_span (nothing-inside size)))
+    (told-of-within words (read_words words) (folded-goes words words 0 0 (Ok begun) (on (begun_kept (length words))) (omega arith) (omega arith)))
+    (record { within = record { word = tt; slots = Kept.slots (begun_kept (length words)) } })

@@ -4,7 +4,6 @@ pub mod Slots
 pub mod Steps
 pub mod Inputs
 pub mod Asking
-pub mod Passing
 pub mod Within
 pub mod Lines
 pub mod Messages

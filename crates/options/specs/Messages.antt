@@ -1,42 +1,35 @@
 -- What is said of wrong words, in one line. In a message a % stands for the command's name, and a @ for the wrong word.
 -- Assumes nothing.
-use Rattle.std.specs.Prelude.{ℕ, cond, List, [], ◌∷◌, ◌++◌, eqb}
+use Rattle.std.specs.Prelude.{ℕ, cond, List, [], ◌∷◌, ◌++◌, Option, Some, None, eqb}
 use Rattle.file.specs.Readers.{ascii}
 use Rattle.text.specs.Text.{newline}
-use Rattle.options.specs.declared.types.Asked.{Asked}
 use Rattle.options.specs.declared.types.Command.{Command}
-use Rattle.options.specs.declared.types.Command.TheVariants.{Replay, Snapshot, Geometry, Modeline, Clocks, Portable, Explain, Bytes}
+use Rattle.options.specs.declared.types.Refused.{Refused}
 use Rattle.options.specs.declared.types.Wrong.{Wrong}
-use Rattle.options.specs.declared.types.Wrong.TheVariants.{Fine, NoCommand, UnknownCommand, UnknownOption, NoValue}
+use Rattle.options.specs.declared.types.Wrong.TheVariants.{NoCommand, UnknownCommand, UnknownOption, NoValue}
 use Rattle.options.specs.declared.types.Wrong.TheVariants.{NoTwoValues, NoSuchChip, NoSuchEngine, NotWithValue}
 use Rattle.options.specs.declared.types.Wrong.TheVariants.{Twice, WideWithOf, NoFile, OneFileMore}
 use Rattle.options.specs.declared.types.Wrong.TheVariants.{EmptyName, BothStandardInput, TooManyWords, TooLong}
-use Rattle.options.specs.Words.{part}
+use Rattle.options.specs.Words.{word_at}
+use Rattle.options.specs.Table.{command_name}
 use Rattle.options.specs.Lines.{shown}
 
-unfoldable pub command_name : Command → List ℕ
-unfolding ascii
-command_name Replay = ascii "replay"
-command_name Snapshot = ascii "snapshot"
-command_name Geometry = ascii "geometry"
-command_name Modeline = ascii "modeline"
-command_name Clocks = ascii "clocks"
-command_name Portable = ascii "portable"
-command_name Explain = ascii "explain"
-command_name Bytes = ascii "bytes"
+-- a command's name, if there is a command
+unfoldable pub name_of : Option Command → List ℕ
+name_of None = []
+name_of (Some command) = command_name command
 
 -- what a byte of a message stands for
-unfoldable pub piece_of : Asked → List ℕ → ℕ → List ℕ
-piece_of asked words b =
-    cond (eqb b 0x25) (command_name asked.command) (cond (eqb b 0x40) (shown (part words asked.word)) (b ∷ []))
+unfoldable pub piece_of : Refused → List ℕ → ℕ → List ℕ
+piece_of refused words b =
+    cond (eqb b 0x25) (name_of refused.command) (cond (eqb b 0x40) (shown (word_at words refused.word)) (b ∷ []))
 
-unfoldable pub filled : Asked → List ℕ → List ℕ → List ℕ
-filled asked words [] = []
-filled asked words (b ∷ bs) = piece_of asked words b ++ filled asked words bs
+unfoldable pub filled : Refused → List ℕ → List ℕ → List ℕ
+filled refused words [] = []
+filled refused words (b ∷ bs) = piece_of refused words b ++ filled refused words bs
 
 unfoldable pub message : Wrong → List ℕ
 unfolding ascii
-message Fine = ascii "nothing is wrong"
 message NoCommand = ascii "no command; 'sedgecoil help' lists them"
 message UnknownCommand = ascii "no command '@'; 'sedgecoil help' lists them"
 message UnknownOption = ascii "% has no option '@'; 'sedgecoil % --help' lists them"
@@ -55,10 +48,10 @@ message TooManyWords = ascii "more than 64 words"
 message TooLong = ascii "the words are too long"
 
 -- the program's name, a message, and a newline
-unfoldable pub message_by : Asked → List ℕ → List ℕ → List ℕ
+unfoldable pub message_by : Refused → List ℕ → List ℕ → List ℕ
 unfolding ascii
-message_by asked words said = ascii "sedgecoil: " ++ filled asked words said ++ newline
+message_by refused words said = ascii "sedgecoil: " ++ filled refused words said ++ newline
 
 -- the line for what is wrong
-unfoldable pub wrong_line : Asked → List ℕ → List ℕ
-wrong_line asked words = message_by asked words (message asked.wrong)
+unfoldable pub wrong_line : Refused → List ℕ → List ℕ
+wrong_line refused words = message_by refused words (message refused.wrong)

@@ -1,138 +1,58 @@
--- How far the words are read. What they give fills slots: one for each option by its number, one more for the second value of --of, and one for FILE.
+-- How far the words are read. What they give fills slots: one for each option, one more for the second value of --of, and one for FILE.
 -- Assumes nothing.
-use Rattle.std.specs.Prelude.{ℕ, ◌+◌, Bool, true, false, cond, ltb, get_or, set, replicate}
+use Rattle.std.specs.Prelude.{ℕ, ◌+◌, true, false, Option, Some, None, get_or, set, replicate}
+use Rattle.options.specs.declared.types.Command.{Command}
 use Rattle.options.specs.declared.types.Reading.{Reading}
+use Rattle.options.specs.declared.types.Refused.{Refused}
+use Rattle.options.specs.declared.types.Slot.{Slot}
+use Rattle.options.specs.declared.types.Slot.TheVariants.{Hex, Quiet, Chip, Engine, Since, Wide, Write, Summary, Of, Mhz, Operand}
 use Rattle.options.specs.declared.types.Span.{Span}
+use Rattle.options.specs.declared.types.Waiting.{Waiting}
 use Rattle.options.specs.declared.types.Wrong.{Wrong}
-use Rattle.options.specs.declared.types.Wrong.TheVariants.{Fine}
-use Rattle.options.specs.Words.{span}
 
-abbrev pub mhz_slot : ℕ
-mhz_slot = 9
+-- the place of a slot among them
+unfoldable pub number_of : Slot → ℕ
+number_of Hex = 0
+number_of Quiet = 1
+number_of Chip = 2
+number_of Engine = 3
+number_of Since = 4
+number_of Wide = 5
+number_of Write = 6
+number_of Summary = 7
+number_of Of = 8
+number_of Mhz = 9
+number_of Operand = 10
 
-abbrev pub file_slot : ℕ
-file_slot = 10
-
--- how many there are; a number that is none of them
+-- how many there are
 abbrev pub slot_count : ℕ
 slot_count = 11
 
-abbrev pub no_span : Span
-no_span = span 0 0
-
 -- before the first word
 unfoldable pub begun : Reading
-begun =
-    record {
-      good = true;
-      wrong = Fine;
-      word = no_span;
-      count = 0;
-      command = 8;
-      ended = false;
-      waiting = slot_count;
-      taken = replicate slot_count false;
-      starts = replicate slot_count 0;
-      ends = replicate slot_count 0;
-    }
+begun = record { count = 0; command = None; ended = false; waiting = None; filled = replicate slot_count None }
 
-unfoldable pub wronged : Reading → Wrong → Span → Reading
-wronged r wrong word =
-    record {
-      good = false;
-      wrong = wrong;
-      word = word;
-      count = r.count;
-      command = r.command;
-      ended = r.ended;
-      waiting = r.waiting;
-      taken = r.taken;
-      starts = r.starts;
-      ends = r.ends;
-    }
+-- the words are refused
+unfoldable pub refused : Reading → Wrong → Option Span → Refused
+refused r wrong word = record { wrong = wrong; word = word; command = r.command; reading = r }
 
 unfoldable pub counted : Reading → Reading
-counted r =
-    record {
-      good = r.good;
-      wrong = r.wrong;
-      word = r.word;
-      count = r.count + 1;
-      command = r.command;
-      ended = r.ended;
-      waiting = r.waiting;
-      taken = r.taken;
-      starts = r.starts;
-      ends = r.ends;
-    }
+counted r = record { count = r.count + 1; command = r.command; ended = r.ended; waiting = r.waiting; filled = r.filled }
 
-unfoldable pub named : Reading → ℕ → Reading
-named r command =
-    record {
-      good = r.good;
-      wrong = r.wrong;
-      word = r.word;
-      count = r.count;
-      command = command;
-      ended = r.ended;
-      waiting = r.waiting;
-      taken = r.taken;
-      starts = r.starts;
-      ends = r.ends;
-    }
+unfoldable pub command_read : Reading → Command → Reading
+command_read r command = record { count = r.count; command = Some command; ended = r.ended; waiting = r.waiting; filled = r.filled }
 
 -- after --
-unfoldable pub ended_options : Reading → Reading
-ended_options r =
-    record {
-      good = r.good;
-      wrong = r.wrong;
-      word = r.word;
-      count = r.count;
-      command = r.command;
-      ended = true;
-      waiting = r.waiting;
-      taken = r.taken;
-      starts = r.starts;
-      ends = r.ends;
-    }
+unfoldable pub options_ended : Reading → Reading
+options_ended r = record { count = r.count; command = r.command; ended = true; waiting = r.waiting; filled = r.filled }
 
--- the next word is the value of a slot, for an option
-unfoldable pub awaiting : Reading → ℕ → Span → Reading
-awaiting r slot option =
-    record {
-      good = r.good;
-      wrong = r.wrong;
-      word = option;
-      count = r.count;
-      command = r.command;
-      ended = r.ended;
-      waiting = slot;
-      taken = r.taken;
-      starts = r.starts;
-      ends = r.ends;
-    }
+-- what the next word is the value of
+unfoldable pub awaiting : Reading → Option Waiting → Reading
+awaiting r waiting = record { count = r.count; command = r.command; ended = r.ended; waiting = waiting; filled = r.filled }
 
-unfoldable pub is_taken : Reading → ℕ → Bool
-is_taken r slot = cond (ltb slot slot_count) (get_or r.taken slot false) false
+unfoldable pub taken_at : Reading → Slot → Option Span
+taken_at r slot = get_or r.filled (number_of slot) None
 
-unfoldable pub span_at : Reading → ℕ → Span
-span_at r slot = cond (ltb slot slot_count) (span (get_or r.starts slot 0) (get_or r.ends slot 0)) no_span
-
-unfoldable pub filled : Reading → ℕ → Span → Reading
+unfoldable pub filled : Reading → Slot → Span → Reading
 filled r slot s =
-    record {
-      good = r.good;
-      wrong = r.wrong;
-      word = r.word;
-      count = r.count;
-      command = r.command;
-      ended = r.ended;
-      waiting = r.waiting;
-      taken = set r.taken slot true;
-      starts = set r.starts slot s.start;
-      ends = set r.ends slot s.end;
-    }
-
-unfoldable pub put_slot : Reading → ℕ → Span → Reading
-put_slot r slot s = cond (ltb slot slot_count) (filled r slot s) r
+    record { count = r.count; command = r.command; ended = r.ended; waiting = r.waiting; filled = set r.filled (number_of slot) (Some s) }

@@ -1,97 +1,75 @@
 -- The commands and their options: one table.
 -- Assumes nothing.
-use Rattle.std.specs.Prelude.{ℕ, suc, Bool, false, cond, ◌&&◌, ◌||◌, List, [], ◌∷◌, eqb, ltb, get_or}
-use Prim.Native.String.{String}
+use Rattle.std.specs.Prelude.{ℕ, cond, List, [], ◌∷◌, Option, Some, None}
 use Rattle.file.specs.Readers.{ascii, same}
 use Rattle.options.specs.declared.types.Command.{Command}
 use Rattle.options.specs.declared.types.Command.TheVariants.{Replay, Snapshot, Geometry, Modeline, Clocks, Portable, Explain, Bytes}
+use Rattle.options.specs.declared.types.Slot.{Slot}
+use Rattle.options.specs.declared.types.Slot.TheVariants.{Hex, Quiet, Chip, Engine, Since, Wide, Write, Summary, Of, Mhz, Operand}
 
--- a command's name, and those of its options
-pub record Row : Type 0 where
-  pub name : String
-  pub options : List String
+unfoldable pub commands : List Command
+commands = Replay ∷ Snapshot ∷ Geometry ∷ Modeline ∷ Clocks ∷ Portable ∷ Explain ∷ Bytes ∷ []
 
-abbrev row : String → List String → Row
-row name options = record { name = name; options = options }
+unfoldable pub command_name : Command → List ℕ
+unfolding ascii
+command_name Replay = ascii "replay"
+command_name Snapshot = ascii "snapshot"
+command_name Geometry = ascii "geometry"
+command_name Modeline = ascii "modeline"
+command_name Clocks = ascii "clocks"
+command_name Portable = ascii "portable"
+command_name Explain = ascii "explain"
+command_name Bytes = ascii "bytes"
 
 -- each command takes one FILE, and these options
-unfoldable pub table : List Row
-table =
-    row "replay" ("--hex" ∷ "--quiet" ∷ "--chip" ∷ "--engine" ∷ [])
-    ∷ row "snapshot" ("--hex" ∷ "--chip" ∷ "--engine" ∷ "--since" ∷ [])
-    ∷ row "geometry" ("--hex" ∷ "--chip" ∷ "--engine" ∷ [])
-    ∷ row "modeline" ("--hex" ∷ "--wide" ∷ "--of" ∷ [])
-    ∷ row "clocks" ("--hex" ∷ [])
-    ∷ row "portable" ("--hex" ∷ "--write" ∷ [])
-    ∷ row "explain" ("--hex" ∷ "--quiet" ∷ "--summary" ∷ "--chip" ∷ [])
-    ∷ row "bytes" ("--hex" ∷ [])
-    ∷ []
+unfoldable pub options_of : Command → List Slot
+options_of Replay = Hex ∷ Quiet ∷ Chip ∷ Engine ∷ []
+options_of Snapshot = Hex ∷ Chip ∷ Engine ∷ Since ∷ []
+options_of Geometry = Hex ∷ Chip ∷ Engine ∷ []
+options_of Modeline = Hex ∷ Wide ∷ Of ∷ []
+options_of Clocks = Hex ∷ []
+options_of Portable = Hex ∷ Write ∷ []
+options_of Explain = Hex ∷ Quiet ∷ Summary ∷ Chip ∷ []
+options_of Bytes = Hex ∷ []
 
--- the options by their numbers
-unfoldable pub option_names : List String
-option_names = "--hex" ∷ "--quiet" ∷ "--chip" ∷ "--engine" ∷ "--since" ∷ "--wide" ∷ "--write" ∷ "--summary" ∷ "--of" ∷ []
-
--- the numbers of those that the rules name
-abbrev pub chip_option : ℕ
-chip_option = 2
-
-abbrev pub engine_option : ℕ
-engine_option = 3
-
-abbrev pub since_option : ℕ
-since_option = 4
-
-abbrev pub wide_option : ℕ
-wide_option = 5
-
-abbrev pub write_option : ℕ
-write_option = 6
-
-abbrev pub of_option : ℕ
-of_option = 8
+-- an option's name; the second value of --of and FILE have none
+unfoldable pub option_name : Slot → List ℕ
+unfolding ascii
+option_name Hex = ascii "--hex"
+option_name Quiet = ascii "--quiet"
+option_name Chip = ascii "--chip"
+option_name Engine = ascii "--engine"
+option_name Since = ascii "--since"
+option_name Wide = ascii "--wide"
+option_name Write = ascii "--write"
+option_name Summary = ascii "--summary"
+option_name Of = ascii "--of"
+option_name Mhz = []
+option_name Operand = []
 
 -- how many words an option takes as its values
-unfoldable pub value_count : ℕ → ℕ
-value_count option =
-    cond (eqb option chip_option) 1
-    (cond (eqb option engine_option) 1 (cond (eqb option since_option) 1 (cond (eqb option write_option) 1 (cond (eqb option of_option) 2 0))))
+unfoldable pub value_count : Slot → ℕ
+value_count Hex = 0
+value_count Quiet = 0
+value_count Chip = 1
+value_count Engine = 1
+value_count Since = 1
+value_count Wide = 0
+value_count Write = 1
+value_count Summary = 0
+value_count Of = 2
+value_count Mhz = 0
+value_count Operand = 0
 
--- a word among names, by its number from a number on; the number after the last where it is none of them
-unfoldable pub number_from : ℕ → List String → List ℕ → ℕ
-unfolding ascii
-number_from k [] word = k
-number_from k (name ∷ names) word = cond (same word (ascii name)) k (number_from (suc k) names word)
+-- the first of some things that a word is the name of
+unfoldable pub named_among : {A : Type 0} → (A → List ℕ) → List A → List ℕ → Option A
+named_among name [] word = None
+named_among name (x ∷ xs) word = cond (same word (name x)) (Some x) (named_among name xs word)
 
-unfoldable pub names_of : List Row → List String
-names_of [] = []
-names_of (r ∷ rows) = r.name ∷ names_of rows
+-- the command that a word names
+unfoldable pub command_named : List ℕ → Option Command
+command_named word = named_among command_name commands word
 
--- the number of the command that a word names
-unfoldable pub command_word : List ℕ → ℕ
-unfolding number_from names_of table
-command_word word = number_from 0 (names_of table) word
-
--- the number of the option that a word names
-unfoldable pub option_word : List ℕ → ℕ
-unfolding number_from option_names
-option_word word = number_from 0 option_names word
-
--- a name is among some
-unfoldable pub is_among : String → List String → Bool
-unfolding ascii
-is_among name [] = false
-is_among name (other ∷ others) = same (ascii name) (ascii other) || is_among name others
-
--- the command of a number has the option of a number
-unfoldable pub has_option : ℕ → ℕ → Bool
-unfolding table option_names is_among
-has_option command option =
-    ltb command 8 && ltb option 9 && is_among (get_or option_names option "") (get_or table command (row "" [])).options
-
--- the commands by their numbers
-unfoldable pub command_numbered : ℕ → Command
-command_numbered k =
-    cond (eqb k 0) Replay
-    (cond (eqb k 1) Snapshot
-    (cond (eqb k 2) Geometry
-    (cond (eqb k 3) Modeline (cond (eqb k 4) Clocks (cond (eqb k 5) Portable (cond (eqb k 6) Explain Bytes))))))
+-- the option of a command that a word names
+unfoldable pub option_named : Command → List ℕ → Option Slot
+option_named command word = named_among option_name (options_of command) word

@@ -1,6 +1,6 @@
 -- The words of the slice, with their places, and what is looked at in a word.
 -- Assumes nothing.
-use Rattle.std.specs.Prelude.{ℕ, suc, ◌+◌, ◌-◌, Bool, cond, ◌&&◌, List, [], ◌∷◌, ◌++◌, eqb, ltb, length, take, drop, get_or}
+use Rattle.std.specs.Prelude.{ℕ, suc, ◌+◌, ◌-◌, Bool, cond, ◌&&◌, List, [], ◌∷◌, ◌++◌, Option, Some, None, eqb, ltb, length, take, drop, get_or}
 use Rattle.file.specs.Readers.{ascii, same}
 use Rattle.options.specs.declared.types.Span.{Span}
 
@@ -10,6 +10,11 @@ span start end = record { start = start; end = end }
 -- the bytes of a span
 unfoldable pub part : List ℕ → Span → List ℕ
 part words s = take (s.end - s.start) (drop s.start words)
+
+-- those of a word that there may be
+unfoldable pub word_at : List ℕ → Option Span → List ℕ
+word_at words None = []
+word_at words (Some s) = part words s
 
 -- the words of bytes that stand from a place on, the first of which began at a start: each is ended by a zero byte
 unfoldable pub words_from : ℕ → ℕ → List ℕ → List Span

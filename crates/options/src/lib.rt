@@ -15,5 +15,5 @@ mod words;
 pub use inputs::{is_standard_input, is_text};
 pub use message::{WRONG_LINE_MOST, wrong_line};
 pub use reading::read_options;
-pub use types::{Asked, Command, Span, Wrong};
-pub use words::part;
+pub use types::{Asked, Command, Of, Reading, Refused, Slot, Span, Waiting, Wrong};
+pub use words::{part, word_at};

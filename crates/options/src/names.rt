@@ -1,110 +1,105 @@
-// The commands and the options, by their names and by their numbers.
-ghost use Rattle.std.specs.Prelude.{◌≡◌, cond, ◌<◌};
-ghost use Rattle.file.specs.Readers.{same as sameAs};
-ghost use Rattle.options.specs.Table.{command_numbered, command_word, has_option, option_word, value_count};
+// The commands and the options, by their names.
+ghost use Rattle.std.specs.Prelude.{◌≡◌};
+ghost use Rattle.options.specs.Table.{command_name, command_named, option_name, option_named, options_of, value_count};
 
-use crate::types::Command;
-use crate::words::is_same;
+use crate::types::{Command, Slot};
 
-// Gives `k` where `word` is `name`, and else `other`.
-fn pick(word: &[u8], name: &[u8], k: usize, other: usize) -> usize
-    ensures { result ≡ cond (sameAs word.now name.now) k other }
+const COMMANDS: [Command; 8] = [
+    Command::Replay,
+    Command::Snapshot,
+    Command::Geometry,
+    Command::Modeline,
+    Command::Clocks,
+    Command::Portable,
+    Command::Explain,
+    Command::Bytes,
+];
+
+// Gives the name of `command`.
+#[tactic(auto, unfolding(crate::specs::Table::command_name, file::specs::Readers::ascii))]
+pub fn command_name(command: Command) -> &'static [u8]
+    ensures { result.now ≡ command_name command }
 {
-    if is_same(word, name) { k } else { other }
+    match command {
+        Command::Replay => b"replay",
+        Command::Snapshot => b"snapshot",
+        Command::Geometry => b"geometry",
+        Command::Modeline => b"modeline",
+        Command::Clocks => b"clocks",
+        Command::Portable => b"portable",
+        Command::Explain => b"explain",
+        Command::Bytes => b"bytes",
+    }
 }
 
-// Gives the number of the command that `word` names; 8 where there is none.
-pub fn command_number(word: &[u8]) -> usize
-    ensures { result ≡ command_word word.now }
+// Gives the command that `word` names.
+pub fn command_named(word: &[u8]) -> Option<Command>
+    ensures { result ≡ command_named word.now }
 {
-    let k = pick(word, b"bytes", 7, 8);
-    let k = pick(word, b"explain", 6, k);
-    let k = pick(word, b"portable", 5, k);
-    let k = pick(word, b"clocks", 4, k);
-    let k = pick(word, b"modeline", 3, k);
-    let k = pick(word, b"geometry", 2, k);
-    let k = pick(word, b"snapshot", 1, k);
-    pick(word, b"replay", 0, k)
+    for command in COMMANDS {
+        if word == command_name(command) {
+            return Some(command);
+        }
+    }
+    None
 }
 
-// Gives the number of the option that `word` names; 9 where there is none.
-pub fn option_number(word: &[u8]) -> usize
-    ensures { result ≡ option_word word.now }
+// Gives the name of the option of `slot`; the two other slots have none.
+#[tactic(auto, unfolding(crate::specs::Table::option_name, file::specs::Readers::ascii))]
+fn option_name(slot: Slot) -> &'static [u8]
+    ensures { result.now ≡ option_name slot }
 {
-    let k = pick(word, b"--of", 8, 9);
-    let k = pick(word, b"--summary", 7, k);
-    let k = pick(word, b"--write", 6, k);
-    let k = pick(word, b"--wide", 5, k);
-    let k = pick(word, b"--since", 4, k);
-    let k = pick(word, b"--engine", 3, k);
-    let k = pick(word, b"--chip", 2, k);
-    let k = pick(word, b"--quiet", 1, k);
-    pick(word, b"--hex", 0, k)
+    match slot {
+        Slot::Hex => b"--hex",
+        Slot::Quiet => b"--quiet",
+        Slot::Chip => b"--chip",
+        Slot::Engine => b"--engine",
+        Slot::Since => b"--since",
+        Slot::Wide => b"--wide",
+        Slot::Write => b"--write",
+        Slot::Summary => b"--summary",
+        Slot::Of => b"--of",
+        Slot::Mhz | Slot::Operand => b"",
+    }
 }
 
-// Which options each command has: a row for each command, and in it an x at the number of each option that it has.
-const HAS: [u8; 72] = *b"\
-    xxxx.....\
-    x.xxx....\
-    x.xx.....\
-    x....x..x\
-    x........\
-    x.....x..\
-    xxx....x.\
-    x........";
-
-// Tells whether the command of the number `command` has the option of the number `option`.
-pub fn has_option(command: usize, option: usize) -> bool
-    ensures { result ≡ has_option command option }
+// Gives the options of `command`.
+#[tactic(auto, unfolding(crate::specs::Table::options_of))]
+fn options_of(command: Command) -> &'static [Slot]
+    ensures { result.now ≡ options_of command }
 {
-    if command >= 8 {
-        return false;
+    match command {
+        Command::Replay => &[Slot::Hex, Slot::Quiet, Slot::Chip, Slot::Engine],
+        Command::Snapshot => &[Slot::Hex, Slot::Chip, Slot::Engine, Slot::Since],
+        Command::Geometry => &[Slot::Hex, Slot::Chip, Slot::Engine],
+        Command::Modeline => &[Slot::Hex, Slot::Wide, Slot::Of],
+        Command::Clocks => &[Slot::Hex],
+        Command::Portable => &[Slot::Hex, Slot::Write],
+        Command::Explain => &[Slot::Hex, Slot::Quiet, Slot::Summary, Slot::Chip],
+        Command::Bytes => &[Slot::Hex],
     }
-    if option >= 9 {
-        return false;
-    }
-    let has = HAS;
-    has[9 * command + option] == b'x'
 }
 
-// Counts the words that the option of the number `option` takes as its values.
-pub fn value_count(option: usize) -> usize
-    ensures { result ≡ value_count option }
+// Gives the option of `command` that `word` names.
+pub fn option_named(command: Command, word: &[u8]) -> Option<Slot>
+    ensures { result ≡ option_named command word.now }
 {
-    if option == 2 {
-        return 1;
+    for option in options_of(command) {
+        if word == option_name(*option) {
+            return Some(*option);
+        }
     }
-    if option == 3 {
-        return 1;
-    }
-    if option == 4 {
-        return 1;
-    }
-    if option == 6 {
-        return 1;
-    }
-    if option == 8 {
-        return 2;
-    }
-    0
+    None
 }
 
-// Gives `x` where `chosen`, and else `y`.
-fn choose(chosen: bool, x: Command, y: Command) -> Command
-    ensures { result ≡ cond chosen x y }
+// Counts the words that the option of `slot` takes as its values.
+#[tactic(auto, unfolding(crate::specs::Table::value_count))]
+pub fn value_count(slot: Slot) -> usize
+    ensures { result ≡ value_count slot }
 {
-    if chosen { x } else { y }
-}
-
-// Gives the command of the number `k`; the last, where there is none.
-pub fn command_numbered(k: usize) -> Command
-    ensures { result ≡ command_numbered k }
-{
-    let command = choose(k == 6, Command::Explain, Command::Bytes);
-    let command = choose(k == 5, Command::Portable, command);
-    let command = choose(k == 4, Command::Clocks, command);
-    let command = choose(k == 3, Command::Modeline, command);
-    let command = choose(k == 2, Command::Geometry, command);
-    let command = choose(k == 1, Command::Snapshot, command);
-    choose(k == 0, Command::Replay, command)
+    match slot {
+        Slot::Chip | Slot::Engine | Slot::Since | Slot::Write => 1,
+        Slot::Of => 2,
+        _ => 0,
+    }
 }

@@ -1,210 +1,233 @@
 // One word further.
 ghost use Rattle.std.specs.Prelude.{◌≡◌, ◌<◌};
 ghost use Rattle.options.specs.Steps.{allowed as allowedIn, alone as aloneIn, equalled as equalledIn, is_excluded, optioned as optionedIn};
-ghost use Rattle.options.specs.Steps.{cause_of, is_bad, is_neither, next_slot, operand as operandIn, value_taken, valued as valuedIn};
+ghost use Rattle.options.specs.Steps.{cause_of, is_bad, is_neither, next_waiting, operand as operandIn, value_taken, valued as valuedIn};
 ghost use Rattle.options.specs.Steps.{commanded as commandedIn, stepped as steppedIn, unended as unendedIn, worded as wordedIn};
 
-use crate::names::{command_number, has_option, option_number, value_count};
-use crate::slots::{
-    FILE, MHZ, SLOTS, awaiting, counted, is_taken, named, no_span, options_ended, put_slot, wronged,
-};
-use crate::types::{Reading, Span, Wrong};
-use crate::words::{is_option, is_same, name_span, part};
+use crate::names::{command_named, option_named, value_count};
+use crate::types::{Command, Reading, Refused, Slot, Span, Waiting, Wrong};
+use crate::words::{is_option, name_span, part};
 
 // Tells whether `word` is neither `a` nor `b`.
 fn is_neither(word: &[u8], a: &[u8], b: &[u8]) -> bool
     ensures { result ≡ is_neither word.now a.now b.now }
 {
-    if is_same(word, a) {
-        return false;
-    }
-    !is_same(word, b)
+    word != a && word != b
 }
 
 // Tells whether `word` is no value of `slot`: a chip or an engine that there isn't, or an empty name.
-fn is_bad(slot: usize, word: &[u8]) -> bool
+#[tactic(auto, unfolding(crate::specs::Steps::is_bad, file::specs::Readers::ascii))]
+fn is_bad(slot: Slot, word: &[u8]) -> bool
     ensures { result ≡ is_bad slot word.now }
 {
-    if slot == 2 {
-        return is_neither(word, b"5462", b"5464");
+    match slot {
+        Slot::Chip => is_neither(word, b"5462", b"5464"),
+        Slot::Engine => is_neither(word, b"quick", b"plain"),
+        Slot::Since => word.is_empty(),
+        _ => false,
     }
-    if slot == 3 {
-        return is_neither(word, b"quick", b"plain");
-    }
-    if slot == 4 {
-        return is_same(word, b"");
-    }
-    false
 }
 
 // Gives what is wrong with a bad value of `slot`.
-fn cause_of(slot: usize) -> Wrong
+#[tactic(auto, unfolding(crate::specs::Steps::cause_of))]
+fn cause_of(slot: Slot) -> Wrong
     ensures { result ≡ cause_of slot }
 {
-    if slot == 2 {
-        return Wrong::NoSuchChip;
+    match slot {
+        Slot::Chip => Wrong::NoSuchChip,
+        Slot::Engine => Wrong::NoSuchEngine,
+        _ => Wrong::EmptyName,
     }
-    if slot == 3 {
-        return Wrong::NoSuchEngine;
+}
+
+// Gives what waits for the next word after `waiting` has its value: --of takes two.
+#[tactic(auto, unfolding(crate::specs::Steps::next_waiting, crate::specs::Steps::waits_next))]
+fn next_waiting(waiting: Waiting) -> Option<Waiting>
+    ensures { result ≡ next_waiting waiting }
+{
+    match waiting.slot {
+        Slot::Of => Some(Waiting {
+            slot: Slot::Mhz,
+            option: waiting.option,
+        }),
+        _ => None,
     }
-    Wrong::EmptyName
 }
 
-// Gives the slot that is filled after `slot`: --of takes two values.
-fn next_slot(slot: usize) -> usize
-    ensures { result ≡ next_slot slot }
+// Takes `span` as the value that `waiting` waits for.
+#[tactic(auto, unfolding(crate::specs::Steps::value_taken))]
+fn value_taken(reading: Reading, waiting: Waiting, span: Span) -> Reading
+    ensures { result ≡ value_taken reading waiting span }
 {
-    if slot == 8 { MHZ } else { SLOTS }
+    let after = reading.filled(waiting.slot, span);
+    after.awaiting(next_waiting(waiting))
 }
 
-// Gives `reading` with `span` as the value of the slot that waits for one.
-fn value_taken(reading: Reading, span: Span) -> Reading
-    ensures { result ≡ value_taken reading span }
+// Reads `span` as the value that `waiting` waits for.
+#[tactic(auto, unfolding(crate::specs::Steps::valued))]
+fn valued(words: &[u8], reading: Reading, waiting: Waiting, span: Span) -> Result<Reading, Refused>
+    ensures { result ≡ valuedIn words.now reading waiting span }
 {
-    let slot = reading.waiting;
-    let after = put_slot(reading, slot, span);
-    awaiting(after, next_slot(slot), reading.word)
-}
-
-// Reads `span` as the value of the slot that waits for one.
-fn valued(words: &[u8], reading: Reading, span: Span) -> Reading
-    ensures { result ≡ valuedIn words.now reading span }
-{
-    let slot = reading.waiting;
+    let slot = waiting.slot;
     if is_bad(slot, part(words, span)) {
-        return wronged(reading, cause_of(slot), span);
+        return Err(reading.refused(cause_of(slot), Some(span)));
     }
-    value_taken(reading, span)
+    Ok(value_taken(reading, waiting, span))
 }
 
 // Reads `span` as an operand, of which there is one.
-fn operand(words: &[u8], reading: Reading, span: Span) -> Reading
+fn operand(words: &[u8], reading: Reading, span: Span) -> Result<Reading, Refused>
     ensures { result ≡ operandIn words.now reading span }
 {
-    if is_taken(reading, FILE) {
-        return wronged(reading, Wrong::OneFileMore, span);
+    if reading.taken(Slot::Operand).is_some() {
+        return Err(reading.refused(Wrong::OneFileMore, Some(span)));
     }
-    if is_same(part(words, span), b"") {
-        return wronged(reading, Wrong::EmptyName, span);
+    if part(words, span).is_empty() {
+        return Err(reading.refused(Wrong::EmptyName, Some(span)));
     }
-    put_slot(reading, FILE, span)
+    Ok(reading.filled(Slot::Operand, span))
 }
 
-// Reads the option of the number `option`, whose name is `name`, with the value after its '=' up to `end`.
-fn equalled(words: &[u8], reading: Reading, option: usize, name: Span, end: usize) -> Reading
+// Reads `option`, whose name is `name`, with the value after its '=' up to `end`.
+#[tactic(auto, unfolding(crate::specs::Steps::equalled))]
+fn equalled(
+    words: &[u8],
+    reading: Reading,
+    option: Slot,
+    name: Span,
+    end: usize,
+) -> Result<Reading, Refused>
     requires { name.end < end }
     ensures { result ≡ equalledIn words.now reading option name end }
 {
     if value_count(option) != 1 {
-        return wronged(reading, Wrong::NotWithValue, name);
+        return Err(reading.refused(Wrong::NotWithValue, Some(name)));
     }
     let value = Span {
         start: name.end + 1,
         end,
     };
-    valued(words, awaiting(reading, option, name), value)
+    valued(
+        words,
+        reading,
+        Waiting {
+            slot: option,
+            option: name,
+        },
+        value,
+    )
 }
 
-// Reads the option of the number `option`, whose name is `name`, without an '='.
-fn alone(reading: Reading, option: usize, name: Span) -> Reading
+// Reads `option`, whose name is `name`, without an '='.
+#[tactic(auto, unfolding(crate::specs::Steps::alone))]
+fn alone(reading: Reading, option: Slot, name: Span) -> Reading
     ensures { result ≡ aloneIn reading option name }
 {
     if value_count(option) == 0 {
-        return put_slot(reading, option, name);
+        return reading.filled(option, name);
     }
-    awaiting(reading, option, name)
+    reading.awaiting(Some(Waiting {
+        slot: option,
+        option: name,
+    }))
 }
 
-// Tells whether the option of the number `option` can't stand beside one that was given: --wide and --of.
-fn is_excluded(reading: Reading, option: usize) -> bool
+// Tells whether `option` can't stand beside one that was given: --wide and --of.
+#[tactic(auto, unfolding(crate::specs::Steps::is_excluded))]
+fn is_excluded(reading: Reading, option: Slot) -> bool
     ensures { result ≡ is_excluded reading option }
 {
-    if option == 5 {
-        return is_taken(reading, 8);
+    match option {
+        Slot::Wide => reading.taken(Slot::Of).is_some(),
+        Slot::Of => reading.taken(Slot::Wide).is_some(),
+        _ => false,
     }
-    if option == 8 {
-        return is_taken(reading, 5);
-    }
-    false
 }
 
-// Reads the option of the number `option`, which the command has, up to `end`; its name is `name`.
-fn allowed(words: &[u8], reading: Reading, option: usize, name: Span, end: usize) -> Reading
+// Reads `option`, which the command has, up to `end`; its name is `name`.
+#[tactic(auto, unfolding(crate::specs::Steps::allowed))]
+fn allowed(
+    words: &[u8],
+    reading: Reading,
+    option: Slot,
+    name: Span,
+    end: usize,
+) -> Result<Reading, Refused>
     ensures { result ≡ allowedIn words.now reading option name end }
 {
-    if is_taken(reading, option) {
-        return wronged(reading, Wrong::Twice, name);
+    if reading.taken(option).is_some() {
+        return Err(reading.refused(Wrong::Twice, Some(name)));
     }
     if is_excluded(reading, option) {
-        return wronged(reading, Wrong::WideWithOf, name);
+        return Err(reading.refused(Wrong::WideWithOf, Some(name)));
     }
     if name.end < end {
         return equalled(words, reading, option, name, end);
     }
-    alone(reading, option, name)
+    Ok(alone(reading, option, name))
 }
 
-// Reads `span` as an option.
-fn optioned(words: &[u8], reading: Reading, span: Span) -> Reading
-    ensures { result ≡ optionedIn words.now reading span }
+// Reads `span` as an option of `command`.
+#[tactic(auto, unfolding(crate::specs::Steps::optioned, crate::specs::Steps::optioned_by))]
+fn optioned(
+    words: &[u8],
+    reading: Reading,
+    command: Command,
+    span: Span,
+) -> Result<Reading, Refused>
+    ensures { result ≡ optionedIn words.now reading command span }
 {
     let name = name_span(words, span);
-    let option = option_number(part(words, name));
-    if has_option(reading.command, option) {
-        return allowed(words, reading, option, name, span.end);
+    match option_named(command, part(words, name)) {
+        Some(option) => allowed(words, reading, option, name, span.end),
+        None => Err(reading.refused(Wrong::UnknownOption, Some(name))),
     }
-    wronged(reading, Wrong::UnknownOption, name)
 }
 
 // Reads `span` as the command.
-fn commanded(words: &[u8], reading: Reading, span: Span) -> Reading
+#[tactic(auto, unfolding(crate::specs::Steps::commanded, crate::specs::Steps::commanded_by))]
+fn commanded(words: &[u8], reading: Reading, span: Span) -> Result<Reading, Refused>
     ensures { result ≡ commandedIn words.now reading span }
 {
-    let command = command_number(part(words, span));
-    if command == 8 {
-        return wronged(reading, Wrong::UnknownCommand, span);
+    match command_named(part(words, span)) {
+        Some(command) => Ok(reading.with_command(command)),
+        None => Err(reading.refused(Wrong::UnknownCommand, Some(span))),
     }
-    named(reading, command)
 }
 
-// Reads `span` where no `--` stands before it.
-fn unended(words: &[u8], reading: Reading, span: Span) -> Reading
-    ensures { result ≡ unendedIn words.now reading span }
+// Reads `span`, a word behind `command`, where no `--` stands before it.
+fn unended(words: &[u8], reading: Reading, command: Command, span: Span) -> Result<Reading, Refused>
+    ensures { result ≡ unendedIn words.now reading command span }
 {
-    if is_same(part(words, span), b"--") {
-        return options_ended(reading);
+    if part(words, span) == b"--".as_slice() {
+        return Ok(reading.options_ended());
     }
     if is_option(part(words, span)) {
-        return optioned(words, reading, span);
+        return optioned(words, reading, command, span);
     }
     operand(words, reading, span)
 }
 
 // Reads `span`, the word that `reading` counts last.
-fn worded(words: &[u8], reading: Reading, span: Span) -> Reading
+#[tactic(auto, unfolding(crate::specs::Steps::worded, crate::specs::Steps::worded_by))]
+fn worded(words: &[u8], reading: Reading, span: Span) -> Result<Reading, Refused>
     ensures { result ≡ wordedIn words.now reading span }
 {
-    if reading.count == 1 {
-        return commanded(words, reading, span);
+    match (reading.command, reading.waiting) {
+        (None, _) => commanded(words, reading, span),
+        (Some(_), Some(waiting)) => valued(words, reading, waiting, span),
+        (Some(_), None) if reading.ended => operand(words, reading, span),
+        (Some(command), None) => unended(words, reading, command, span),
     }
-    if reading.waiting < SLOTS {
-        return valued(words, reading, span);
-    }
-    if reading.ended {
-        return operand(words, reading, span);
-    }
-    unended(words, reading, span)
 }
 
-// Reads one word more, `span`; after a wrong one, and after 64 of them, none.
-pub fn stepped(words: &[u8], reading: Reading, span: Span) -> Reading
+// Reads one word more, `span`; after 64 of them, none.
+#[tactic(auto, unfolding(crate::specs::Steps::stepped))]
+pub fn stepped(words: &[u8], reading: Reading, span: Span) -> Result<Reading, Refused>
     ensures { result ≡ steppedIn words.now reading span }
 {
-    if !reading.good {
-        return reading;
-    }
     if reading.count >= 64 {
-        return wronged(reading, Wrong::TooManyWords, no_span());
+        return Err(reading.refused(Wrong::TooManyWords, None));
     }
-    worded(words, counted(reading), span)
+    worded(words, reading.counted(), span)
 }

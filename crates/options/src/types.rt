@@ -2,7 +2,7 @@
 use file::Chip;
 
 // The commands, in the order of their table.
-#[derive(Clone, Copy)]
+#[derive(Clone, Copy, Debug, PartialEq, Eq)]
 pub enum Command {
     Replay,
     Snapshot,
@@ -14,6 +14,22 @@ pub enum Command {
     Bytes,
 }
 
+// What the words fill: a slot for each option, one more for the second value of --of, and one for FILE.
+#[derive(Clone, Copy, Debug, PartialEq, Eq)]
+pub enum Slot {
+    Hex,
+    Quiet,
+    Chip,
+    Engine,
+    Since,
+    Wide,
+    Write,
+    Summary,
+    Of,
+    Mhz,
+    Operand,
+}
+
 // A word, or a part of one: its bytes stand from `start` to before `end` in the slice of the words.
 #[derive(Clone, Copy)]
 pub struct Span {
@@ -21,10 +37,9 @@ pub struct Span {
     pub end: usize,
 }
 
-// What is wrong with the words; nothing, where they are Fine.
-#[derive(Clone, Copy)]
+// What is wrong with the words.
+#[derive(Clone, Copy, Debug, PartialEq, Eq)]
 pub enum Wrong {
-    Fine,
     NoCommand,
     UnknownCommand,
     UnknownOption,
@@ -43,11 +58,25 @@ pub enum Wrong {
     TooLong,
 }
 
-// What the words ask for. Where they are wrong, `word` is the wrong word, if there is one, and the rest is what was read before it.
+// Words that are refused: what is wrong with them, the wrong word, if there is one, the command, if it was read, and how far the words were read until then.
+#[derive(Clone, Copy)]
+pub struct Refused {
+    pub wrong: Wrong,
+    pub word: Option<Span>,
+    pub command: Option<Command>,
+    pub reading: Reading,
+}
+
+// The two values of --of.
+#[derive(Clone, Copy)]
+pub struct Of {
+    pub name: Span,
+    pub mhz: Span,
+}
+
+// What the words ask for.
 #[derive(Clone, Copy)]
 pub struct Asked {
-    pub wrong: Wrong,
-    pub word: Span,
     pub command: Command,
     pub chip: Chip,
     pub plain: bool,
@@ -55,28 +84,25 @@ pub struct Asked {
     pub quiet: bool,
     pub wide: bool,
     pub summary: bool,
-    pub has_since: bool,
-    pub since: Span,
-    pub has_of: bool,
-    pub name: Span,
-    pub mhz: Span,
-    pub has_write: bool,
-    pub list: Span,
+    pub since: Option<Span>,
+    pub of: Option<Of>,
+    pub list: Option<Span>,
     pub file: Span,
 }
 
-// How far the words are read: whether none was wrong, else what is and which; how many there were; the command's number; whether `--` ended the options;
-// the slot that the next word is the value of, and in `word` the option that it is of; and of each slot whether it was given, and where.
+// The slot that the next word is the value of, and the option that it is of.
+#[derive(Clone, Copy)]
+pub struct Waiting {
+    pub slot: Slot,
+    pub option: Span,
+}
+
+// How far the words are read: how many there were, the command, whether `--` ended the options, what waits for a value, and what fills each slot.
 #[derive(Clone, Copy)]
 pub struct Reading {
-    pub good: bool,
-    pub wrong: Wrong,
-    pub word: Span,
     pub count: usize,
-    pub command: usize,
+    pub command: Option<Command>,
     pub ended: bool,
-    pub waiting: usize,
-    pub taken: [bool; 11],
-    pub starts: [usize; 11],
-    pub ends: [usize; 11],
+    pub waiting: Option<Waiting>,
+    pub filled: [Option<Span>; 11],
 }

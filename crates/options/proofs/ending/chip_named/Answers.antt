@@ -1,12 +1,17 @@
 -- `ending::chip_named` meets its contract. Assumes nothing.
-use mathlib.Core.Path.{sym, ◌∙◌}
+use Rattle.std.proofs.Common.{refl}
 use Rattle.options.specs.Asking.{chip_named}
+use Rattle.options.proofs.SameTexts.{told-same}
 use Rattle.options.proofs.ending.chip_named.Goals as goal
 
-pub returns-then-is_same : goal.returns-then-is_same
+pub returns-in-Some : goal.returns-in-Some
 unfolding chip_named
-returns-then-is_same c = rw (sym c.is_same.ensures ∙ c.if-is_same.true)
+returns-in-Some c = rw (c.in-Some.is, told-same _ _ (rw (c.part.ensures, c.as_slice.ensures) at c.eq.ensures) c.if-eq.true) refl
 
-pub returns-else-is_same : goal.returns-else-is_same
+pub returns-in_default : goal.returns-in_default
 unfolding chip_named
-returns-else-is_same c = rw (sym c.is_same.ensures ∙ c.if-is_same.false)
+returns-in_default c = rw (c.in-Some.is, told-same _ _ (rw (c.part.ensures, c.as_slice.ensures) at c.eq.ensures) c.if-eq.false) refl
+
+pub returns-in_default-2 : goal.returns-in_default-2
+unfolding chip_named
+returns-in_default-2 c = rw c.in_default.is refl

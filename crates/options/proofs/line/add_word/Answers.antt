@@ -13,7 +13,7 @@ unfolding shown ascii
 returns-then-word-gt64 c =
     let word = c.args.word.now in
     rw (lt-ltb 64 (length word) c.if-word-gt64.true) (then-added _ (escaped_text (take 64 word)) (ascii "..")
-    c.add_escaped-after.ensures c.add_text.ensures)
+    c.add_escaped-after.ensures c.with_text.ensures)
 
 pub returns : goal.returns
 unfolding shown ascii

@@ -1,19 +1,18 @@
 -- `message::add_piece` meets its contract. Assumes nothing.
-use borrow.Author.Tests.{eq-eqb, ne_eqb}
-use Rattle.options.specs.Lines.{text_added}
+use Rattle.std.proofs.Common.{arith}
+use borrow.Author.Tests.{ne_eqb}
 use Rattle.options.specs.Messages.{piece_of}
+use Rattle.text.specs.Fixed.{behind}
 use Rattle.options.proofs.message.add_piece.Goals as goal
 
-pub returns-then-b-eq37 : goal.returns-then-b-eq37
-unfolding piece_of text_added
-returns-then-b-eq37 c = rw (eq-eqb _ _ c.if-b-eq37.true) c.add_command.ensures
+pub returns-in-37 : goal.returns-in-37
+unfolding piece_of
+returns-in-37 c = rw c.in-37.is (rw c.name_of.ensures at c.with_text.ensures)
 
-pub returns-then-b-eq64 : goal.returns-then-b-eq64
-unfolding piece_of text_added
-returns-then-b-eq64 c =
-    rw (ne_eqb _ _ c.if-b-eq37.false, eq-eqb _ _ c.if-b-eq64.true)
-    (rw c.part.ensures at c.add_word.ensures)
+pub returns-in-64 : goal.returns-in-64
+unfolding piece_of
+returns-in-64 c = rw c.in-64.is (rw c.word_at.ensures at c.add_word.ensures)
 
-pub returns : goal.returns
-unfolding piece_of text_added
-returns c = rw (ne_eqb _ _ c.if-b-eq37.false, ne_eqb _ _ c.if-b-eq64.false) c.add_byte.ensures
+pub returns-in_default : goal.returns-in_default
+unfolding piece_of behind
+returns-in_default c = rw (ne_eqb c.args.b 37 (λ e. omega arith), ne_eqb c.args.b 64 (λ e. omega arith)) c.with_byte.ensures

@@ -1,26 +1,27 @@
 -- `stepping::operand` meets its contract. Assumes nothing.
-use mathlib.Core.Path.{sym, ◌∙◌}
+use Rattle.std.proofs.Common.{refl, sym, ◌∙◌}
 use Rattle.options.specs.Steps.{operand}
+use Rattle.options.proofs.SameTexts.{told-empty}
 use Rattle.options.proofs.stepping.operand.Goals as goal
 
-pub returns-then-is_taken : goal.returns-then-is_taken
+pub returns-then-is_some : goal.returns-then-is_some
 unfolding operand
-returns-then-is_taken c = rw (sym c.is_taken.ensures ∙ c.if-is_taken.true) c.wronged.ensures
+returns-then-is_some c = rw (sym (rw c.taken.ensures at c.is_some.ensures) ∙ c.if-is_some.true, c.refused.ensures) refl
 
-pub returns-then-is_same : goal.returns-then-is_same
+pub returns-then-is_empty : goal.returns-then-is_empty
 unfolding operand
-returns-then-is_same c =
+returns-then-is_empty c =
     rw (
-      sym c.is_taken.ensures ∙ c.if-is_taken.false,
-      sym (rw c.part.ensures at c.is_same.ensures) ∙ c.if-is_same.true,
-    )
-    c.wronged-then-is_same.ensures
+      sym (rw c.taken.ensures at c.is_some.ensures) ∙ c.if-is_some.false,
+      told-empty _ (rw c.part.ensures at c.is_empty.ensures) c.if-is_empty.true,
+      c.refused-then-is_empty.ensures,
+    ) refl
 
 pub returns : goal.returns
 unfolding operand
 returns c =
     rw (
-      sym c.is_taken.ensures ∙ c.if-is_taken.false,
-      sym (rw c.part.ensures at c.is_same.ensures) ∙ c.if-is_same.false,
-    )
-    c.put_slot.ensures
+      sym (rw c.taken.ensures at c.is_some.ensures) ∙ c.if-is_some.false,
+      told-empty _ (rw c.part.ensures at c.is_empty.ensures) c.if-is_empty.false,
+      c.filled.ensures,
+    ) refl

@@ -1,12 +1,7 @@
 -- `words::name_size` meets its contract: what is left of the word has what is left of the name. Assumes nothing.
-use Prim.Native.Nat.{◌+◌, ◌-◌, ◌≤◌}
-use mathlib.Core.Path.{◌≡◌}
-use lib.ListN.{length, drop}
+use Rattle.std.proofs.Common.{◌≡◌, ◌+◌, length, drop}
 use Rattle.options.specs.Words.{name_in}
 use Rattle.options.proofs.words.name_size.Given as goal
 
 abbrev pub invariant-loop-i : goal.invariant-loop-i
-invariant-loop-i l = (length (name_in l.word) ≡ l.i + length (name_in (drop l.i l.word))) × (l.i ≤ length l.word)
-
-abbrev pub decreases-loop-i : goal.decreases-loop-i
-decreases-loop-i l = length l.word - l.i
+invariant-loop-i l = length (name_in l.word) ≡ l.i + length (name_in (drop l.i l.word))

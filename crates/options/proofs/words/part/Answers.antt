@@ -5,4 +5,4 @@ use Rattle.options.proofs.words.part.Goals as goal
 
 pub returns : goal.returns
 unfolding part
-returns c = clipped _ _ _ _ _ c.least-to.ensures c.least-from.ensures
+returns c = clipped _ _ _ _ _ c.min-to.ensures c.min-from.ensures
