@@ -1,6 +1,6 @@
 -- However a text, or an input, is cut into parts, the bytes that are put are those of the whole. Assumes nothing.
 use Prim.Native.Nat.{ℕ}
-use mathlib.Core.Bool.{Bool, true, false}
+use mathlib.Core.Bool.{true}
 use mathlib.Core.List.{List, [], ◌∷◌, ◌++◌, append_assoc}
 use mathlib.Core.Path.{◌≡◌, refl, sym, ap, ◌∙◌}
 use lib.Dec.{T}
@@ -8,6 +8,7 @@ use Rattle.feeding.specs.Feeding.{Additive, Parts}
 use Rattle.feeding.proofs.AsTheWhole.{parts-after, parts-told}
 use Rattle.hex_text.specs.declared.state.HexText.{HexText}
 use Rattle.hex_text.specs.declared.source.Source.{Source}
+use Rattle.hex_text.specs.declared.source.Source.TheVariants.{Bytes, Text}
 use Rattle.hex_text.specs.Machine.{after, told, stepped, given_by}
 use Rattle.hex_text.specs.Source.{source_after, source_told}
 
@@ -41,39 +42,35 @@ text-additive =
 
 -- ---- an input
 
-module _ (text : HexText) (a b : List ℕ) where
-  source-after-parts : (textual : Bool) → source_after (record { textual = textual; text = text }) (a ++ b)
-      ≡ source_after (source_after (record { textual = textual; text = text }) a) b
-  unfolding source_after
-  source-after-parts true = ap (λ (t : HexText). record { textual = true; text = t }) (after-parts text a b)
-  source-after-parts false = refl
+source-after-parts : (s : Source) (a b : List ℕ) → source_after s (a ++ b) ≡ source_after (source_after s a) b
+unfolding source_after
+source-after-parts Bytes a b = refl
+source-after-parts (Text text) a b = ap Text (after-parts text a b)
 
-  source-told-parts : (textual : Bool) → source_told (record { textual = textual; text = text }) (a ++ b)
-      ≡ source_told (record { textual = textual; text = text }) a ++ source_told (source_after (record { textual = textual; text = text }) a) b
-  unfolding source_after source_told
-  source-told-parts true = told-parts text a b
-  source-told-parts false = refl
+source-told-parts : (s : Source) (a b : List ℕ) → source_told s (a ++ b) ≡ source_told s a ++ source_told (source_after s a) b
+unfolding source_after source_told
+source-told-parts Bytes a b = refl
+source-told-parts (Text text) a b = told-parts text a b
 
-module _ (text : HexText) where
-  source-after-none : (textual : Bool) → source_after (record { textual = textual; text = text }) [] ≡ record { textual = textual; text = text }
-  unfolding source_after after
-  source-after-none true = refl
-  source-after-none false = refl
+source-after-none : (s : Source) → source_after s [] ≡ s
+unfolding source_after after
+source-after-none Bytes = refl
+source-after-none (Text text) = refl
 
-  source-told-none : (textual : Bool) → source_told (record { textual = textual; text = text }) [] ≡ []
-  unfolding source_told told
-  source-told-none true = refl
-  source-told-none false = refl
+source-told-none : (s : Source) → source_told s [] ≡ []
+unfolding source_told told
+source-told-none Bytes = refl
+source-told-none (Text text) = refl
 
 pub source-additive : Additive Any source_after source_told
 source-additive =
     record {
       whole-none = tt;
       whole_parts = λ a b p q. tt;
-      after_none = λ s. source-after-none s.text s.textual;
-      told_none = λ s. source-told-none s.text s.textual;
-      after-parts = λ s a b p. source-after-parts s.text a b s.textual;
-      told-parts = λ s a b p. source-told-parts s.text a b s.textual;
+      after_none = source-after-none;
+      told_none = source-told-none;
+      after-parts = λ s a b p. source-after-parts s a b;
+      told-parts = λ s a b p. source-told-parts s a b;
     }
 
 -- an input in parts, however it is cut: what is put of them is what is put of the whole, and the input is the one after the whole

@@ -14,10 +14,11 @@ use Rattle.hex_text.specs.declared.state.Stand.{Stand}
 use Rattle.hex_text.specs.declared.state.Stand.TheVariants.{Between, Digit, Byte, ByteReturn, Return, Comment, Bad}
 use Rattle.hex_text.specs.Text.{lines_from, Word, line_words, words_of, good, byte_of, Meaning, nothing, bad_at, with_bytes, meant, meaning}
 use Rattle.hex_text.specs.Machine.{held, largest, begun, new_line, standing, stepped, stepped_by, separated_by, ends_word, given_by, line_over}
-use Rattle.hex_text.specs.Machine.{ended, ended_by, end_given, after, told, is_bad, bad_line, bad_column}
+use Rattle.hex_text.specs.Machine.{ended, ended_by, end_given, after, told, is_bad, bad_place}
 use Rattle.hex_text.specs.Text.{digit, digit_value, between, blank}
 use Rattle.hex_text.specs.declared.source.Source.{Source}
-use Rattle.hex_text.specs.Promises.{TellsMeaning}
+use Rattle.hex_text.specs.declared.source.Source.TheVariants.{Bytes, Text}
+use Rattle.hex_text.specs.Promises.{TellsMeaning, place_of}
 use Rattle.hex_text.specs.Source.{source_after, source_told, source_last, source_ended}
 use Rattle.hex_text.proofs.InParts.{Any, after-parts, told-parts, text-additive, source-parts}
 use Rattle.hex_text.proofs.WordsRead.{at, end_of, Gives, NoFeed, bytes_in, stand_of, digits, bad-gives, held_moved, line_gives}
@@ -39,7 +40,7 @@ meant-after (w ∷ a) b e =
     by-test (good w.bytes) (λ g. rw g (ap (with_bytes (byte_of w.bytes ∷ [])) (meant-after a b (rw g at e)))) (λ g. absurd (true≢false (rw g at e)))
 
 -- no bad word, no place
-no_place : (words : List Word) → (meant words).bad ≡ false → ((meant words).line ≡ 0) × ((meant words).column ≡ 0)
+pub no_place : (words : List Word) → (meant words).bad ≡ false → ((meant words).line ≡ 0) × ((meant words).column ≡ 0)
 unfolding meant nothing bad_at with_bytes
 no_place [] e = (refl, refl)
 no_place (w ∷ words) e = by-test (good w.bytes) (λ g. rw g (no_place words (rw g at e))) (λ g. absurd (true≢false (rw g at e)))
@@ -182,13 +183,9 @@ module _ (line : ℕ) (words : List Word) where
   unfolding end_of at is_bad
   tells-bad = by-test (meant words).bad (λ e. rw e) (λ e. rw e)
 
-  tells-line : bad_line (end_of line (meant words)) ≡ held (meant words).line
-  unfolding end_of at is_bad bad_line held largest
-  tells-line = by-test (meant words).bad (λ e. rw e) (λ e. rw (e, (no_place words e).0))
-
-  tells-column : bad_column (end_of line (meant words)) ≡ held (meant words).column
-  unfolding end_of at is_bad bad_column held largest
-  tells-column = by-test (meant words).bad (λ e. rw e) (λ e. rw (e, (no_place words e).1))
+  tells-place : bad_place (end_of line (meant words)) ≡ place_of (meant words)
+  unfolding end_of at is_bad bad_place place_of
+  tells-place = by-test (meant words).bad (λ e. rw e) (λ e. rw e)
 
 -- the whole text at once
 pub text-meant : (text : List ℕ) → TellsMeaning text (told begun text ++ end_given (after begun text).stand) (ended (after begun text))
@@ -197,8 +194,7 @@ text-meant text =
     record {
       bytes = all.gives.bytes;
       bad = ap (λ (s : HexText). is_bad s.stand) all.gives.state ∙ tells-bad all.last words;
-      line = ap bad_line all.gives.state ∙ tells-line all.last words;
-      column = ap bad_column all.gives.state ∙ tells-column all.last words;
+      place = ap bad_place all.gives.state ∙ tells-place all.last words;
     }
   where
     words : List Word
@@ -215,17 +211,18 @@ parts-meant {text} {put} {s} parts =
     (sym (parts-told text-additive parts)) (text-meant text))
 
 -- an input that is a text, in parts, however it is cut
-pub textual-input-meant : {text put : List ℕ} {s : Source} → Parts Any source_after source_told (record { textual = true; text = begun }) text put s
-    → TellsMeaning text (put ++ source_last s) (source_ended s).text
+pub textual-input-meant : {text put : List ℕ} {s : Source} → Parts Any source_after source_told (Text begun) text put s
+    → (over : HexText) × (source_ended s ≡ Text over) × TellsMeaning text (put ++ source_last s) over
 unfolding source_after source_told source_last source_ended
-textual-input-meant {text} {put} {s} parts =
-    subst (λ (t : Source). TellsMeaning text (put ++ source_last t) (source_ended t).text) (sym (source-parts parts).1)
-    (subst (λ (bytes : List ℕ). TellsMeaning text (bytes ++ end_given (after begun text).stand) (ended (after begun text)))
-    (sym (source-parts parts).0) (text-meant text))
+textual-input-meant {text} {put} {s} parts = (
+  ended (after begun text),
+  ap source_ended (source-parts parts).1,
+  subst (λ (t : Source). TellsMeaning text (put ++ source_last t) (ended (after begun text))) (sym (source-parts parts).1)
+      (subst (λ (bytes : List ℕ). TellsMeaning text (bytes ++ end_given (after begun text).stand) (ended (after begun text)))
+      (sym (source-parts parts).0) (text-meant text)),
+)
 
 -- an input of bytes: they are put as they are
-pub bytes-input-put : {start : HexText} {bytes put : List ℕ} {s : Source}
-    → Parts Any source_after source_told (record { textual = false; text = start }) bytes put s
-    → put ≡ bytes
+pub bytes-input-put : {bytes put : List ℕ} {s : Source} → Parts Any source_after source_told Bytes bytes put s → put ≡ bytes
 unfolding source_told
 bytes-input-put parts = (source-parts parts).0

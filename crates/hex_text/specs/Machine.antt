@@ -1,6 +1,7 @@
 -- How the code goes through a text, byte by byte; no part of what a text is. Assumes nothing.
 use Rattle.std.specs.Prelude.{ℕ, ◌+◌, ◌*◌, ◌%◌, min, Bool, true, false, cond, ◌||◌, List, [], ◌∷◌, ◌++◌, eqb, Option, Some, None}
 use Rattle.hex_text.specs.declared.state.HexText.{HexText}
+use Rattle.hex_text.specs.declared.state.Place.{Place}
 use Rattle.hex_text.specs.declared.state.Stand.{Stand}
 use Rattle.hex_text.specs.declared.state.Stand.TheVariants.{Between, Digit, Byte, ByteReturn, Return, Comment, Bad}
 use Rattle.hex_text.specs.Text.{digit_value, digit, blank}
@@ -109,8 +110,5 @@ is_bad Return = false
 is_bad Comment = false
 is_bad Bad = true
 
-unfoldable pub bad_line : HexText → ℕ
-bad_line s = cond (is_bad s.stand) s.line 0
-
-unfoldable pub bad_column : HexText → ℕ
-bad_column s = cond (is_bad s.stand) s.column 0
+unfoldable pub bad_place : HexText → Option Place
+bad_place s = cond (is_bad s.stand) (Some (record { line = s.line; column = s.column })) None

@@ -5,6 +5,6 @@ mod reading;
 mod source;
 mod state;
 
-pub use reading::{TextRead, end_text, read_text};
-pub use source::{Source, TakenIn, end_source, looks_like_text, take_in};
-pub use state::{HexText, Stand, begin};
+pub use reading::{TextOver, TextRead, end_text, read_text};
+pub use source::{Source, SourceOver, TakenIn, end_source, looks_like_text, take_in};
+pub use state::{HexText, Place, Stand, begin};

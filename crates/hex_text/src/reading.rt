@@ -13,6 +13,13 @@ pub struct TextRead {
     pub end: usize,
 }
 
+// The text after its end, and where its bytes end in the buffer.
+#[derive(Clone, Copy)]
+pub struct TextOver {
+    pub text: HexText,
+    pub end: usize,
+}
+
 // Puts the byte that is given, if there is one, at a place of the buffer, and gives the place after it.
 fn put(one: Option<u8>, buffer: &mut [u8], at: usize) -> usize
     requires { at < length buffer.old }
@@ -68,21 +75,16 @@ pub fn read_text(before: HexText, text: &[u8], buffer: &mut [u8], at: usize) -> 
     read_part(before, &text[..count], buffer, at)
 }
 
-// Ends a text: the word at hand is ended by it. Nothing is done, and `used` is 0, where the buffer has no room at `at`; else `used` is 1.
-pub fn end_text(before: HexText, buffer: &mut [u8], at: usize) -> TextRead
+// Ends a text: the word at hand is ended by it. Nothing is done where the buffer has no room at `at`.
+pub fn end_text(before: HexText, buffer: &mut [u8], at: usize) -> Option<TextOver>
     ensures { TextEnded before buffer.old buffer.new at result }
 {
     if at >= buffer.len() {
-        return TextRead {
-            text: before,
-            used: 0,
-            end: at,
-        };
+        return None;
     }
     let end = put(end_given(before), buffer, at);
-    TextRead {
+    Some(TextOver {
         text: ended(before),
-        used: 1,
         end,
-    }
+    })
 }

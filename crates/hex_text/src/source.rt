@@ -32,11 +32,11 @@ pub fn looks_like_text(bytes: &[u8]) -> bool
     all_printable(&bytes[..bytes.len().min(64)])
 }
 
-// An input: whether it is a text, and how far that is read.
+// An input: the bytes themselves, or a text and how far that is read.
 #[derive(Clone, Copy)]
-pub struct Source {
-    pub textual: bool,
-    pub text: HexText,
+pub enum Source {
+    Bytes,
+    Text(HexText),
 }
 
 // The input after a part of it, how many bytes of the part were used, and where the bytes that are held end in the buffer.
@@ -44,6 +44,13 @@ pub struct Source {
 pub struct TakenIn {
     pub source: Source,
     pub used: usize,
+    pub held: usize,
+}
+
+// The input after its end, and where the bytes that are held end in the buffer.
+#[derive(Clone, Copy)]
+pub struct SourceOver {
+    pub source: Source,
     pub held: usize,
 }
 
@@ -64,47 +71,41 @@ fn copy_fitting(bytes: &[u8], buffer: &mut [u8], at: usize) -> usize
 pub fn take_in(before: Source, raw: &[u8], input: &mut [u8], held: usize) -> TakenIn
     ensures { SourceTaken before raw.now input.old input.new held result }
 {
-    if !before.textual {
-        let count = copy_fitting(raw, input, held);
-        return TakenIn {
-            source: before,
-            used: count,
-            held: held + count,
-        };
-    }
-    let text = before.text;
-    let read = read_text(text, raw, input, held);
-    let text = read.text;
-    TakenIn {
-        source: Source {
-            textual: true,
-            text,
-        },
-        used: read.used,
-        held: read.end,
+    match before {
+        Source::Bytes => {
+            let count = copy_fitting(raw, input, held);
+            TakenIn {
+                source: before,
+                used: count,
+                held: held + count,
+            }
+        }
+        Source::Text(text) => {
+            let read = read_text(text, raw, input, held);
+            TakenIn {
+                source: Source::Text(read.text),
+                used: read.used,
+                held: read.end,
+            }
+        }
     }
 }
 
-// Ends an input: a text as `end_text` does; of bytes nothing is left to do, and `used` is 1.
-pub fn end_source(before: Source, input: &mut [u8], held: usize) -> TakenIn
+// Ends an input: a text as `end_text` does, with nothing done where there is no room; of bytes nothing is left to do.
+pub fn end_source(before: Source, input: &mut [u8], held: usize) -> Option<SourceOver>
     ensures { SourceEnded before input.old input.new held result }
 {
-    if !before.textual {
-        return TakenIn {
+    match before {
+        Source::Bytes => Some(SourceOver {
             source: before,
-            used: 1,
             held,
-        };
-    }
-    let text = before.text;
-    let read = end_text(text, input, held);
-    let text = read.text;
-    TakenIn {
-        source: Source {
-            textual: true,
-            text,
-        },
-        used: read.used,
-        held: read.end,
+        }),
+        Source::Text(text) => {
+            let over = end_text(text, input, held)?;
+            Some(SourceOver {
+                source: Source::Text(over.text),
+                held: over.end,
+            })
+        }
     }
 }

@@ -2,7 +2,7 @@
 ghost use Rattle.std.specs.Prelude.{◌≡◌, cond, eqb, [], ◌∷◌, Some, None};
 ghost use Rattle.hex_text.specs.Text.{digit, digit_value, blank as isBlank};
 ghost use Rattle.hex_text.specs.Machine.{begun, moved_by, standing, new_line, separated_by, stepped_by, line_over};
-ghost use Rattle.hex_text.specs.Machine.{ends_word, bytes_of, given_by, end_given, is_bad, bad_line, bad_column, stepped as steppedText, ended as endedText};
+ghost use Rattle.hex_text.specs.Machine.{ends_word, bytes_of, given_by, end_given, is_bad, bad_place, stepped as steppedText, ended as endedText};
 
 // Where a text stands: between words, after a digit that began a word, after a word of two digits with its byte, after a CR that follows such a word, after
 // a CR that follows none, in a comment, or after a bad word.
@@ -22,6 +22,13 @@ pub enum Stand {
 #[derive(Clone, Copy)]
 pub struct HexText {
     pub stand: Stand,
+    pub line: u64,
+    pub column: u64,
+}
+
+// Where a word stands: its line, and the column of its first byte.
+#[derive(Clone, Copy)]
+pub struct Place {
     pub line: u64,
     pub column: u64,
 }
@@ -229,17 +236,18 @@ impl HexText {
         matches!(self.stand, Stand::Bad)
     }
 
-    // Gives the line of the bad word; 0 where there is none.
-    pub fn line(self) -> u64
-        ensures { result ≡ bad_line self }
+    // Gives the place of the bad word, if there is one.
+    #[tactic(auto, unfolding(crate::specs::Machine::bad_place))]
+    pub fn bad_place(self) -> Option<Place>
+        ensures { result ≡ bad_place self }
     {
-        if self.is_bad() { self.line } else { 0 }
-    }
-
-    // Gives the column of the first byte of the bad word; 0 where there is none.
-    pub fn column(self) -> u64
-        ensures { result ≡ bad_column self }
-    {
-        if self.is_bad() { self.column } else { 0 }
+        if self.is_bad() {
+            Some(Place {
+                line: self.line,
+                column: self.column,
+            })
+        } else {
+            None
+        }
     }
 }

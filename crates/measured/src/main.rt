@@ -63,11 +63,21 @@ fn run_input(rt: &impl Input, engine: Engine) -> io::Result<Course> {
     Ok(course)
 }
 
+// What the first word asks for.
+#[derive(Clone, Copy)]
+enum Act {
+    Read,
+    Flat,
+    Write,
+    Plan,
+    Restore,
+}
+
 // The timing read, a plan made, or the file restored.
-fn look(what: u8, file: File, buffer: &mut [u8; 8192]) -> u64 {
-    match what {
-        b'p' => plan::plan(file, buffer).map_or(0, |count| count as u64),
-        b's' => {
+fn look(act: Act, file: File, buffer: &mut [u8; 8192]) -> u64 {
+    match act {
+        Act::Plan => plan::plan(file, buffer).map_or(0, |count| count as u64),
+        Act::Restore => {
             let restored = restoring::restore(File::power_on(Chip::Gd5464), file, buffer);
             restored.count.map_or(0, |count| count as u64)
         }
@@ -75,11 +85,11 @@ fn look(what: u8, file: File, buffer: &mut [u8; 8192]) -> u64 {
     }
 }
 
-fn look_many(what: u8, file: File, times: u64) -> u64 {
+fn look_many(act: Act, file: File, times: u64) -> u64 {
     let mut buffer = [0u8; 8192];
     let mut sum = 0;
     for _ in 0..times {
-        sum = mix(sum, look(what, file, &mut buffer));
+        sum = mix(sum, look(act, file, &mut buffer));
     }
     let at = (sum % 8192) as usize;
     mix(sum, u64::from(buffer[at]))
@@ -103,22 +113,32 @@ fn letter(rt: &impl Env, place: usize) -> u8 {
     if word[2] == b's' { word[2] } else { word[0] }
 }
 
-fn engine_for(what: u8) -> Engine {
-    match what {
-        b'f' => Engine::Plain,
+// What the letter of a word stands for; `run` reads too.
+fn act_of(letter: u8) -> Act {
+    match letter {
+        b'f' => Act::Flat,
+        b'w' => Act::Write,
+        b'p' => Act::Plan,
+        b's' => Act::Restore,
+        _ => Act::Read,
+    }
+}
+
+fn engine_for(act: Act) -> Engine {
+    match act {
+        Act::Flat => Engine::Plain,
         _ => Engine::Quick,
     }
 }
 
 fn main(rt: HostRuntime) -> io::Result<()> {
-    let what = letter(&rt, 1);
-    let course = run_input(&rt, engine_for(what))?;
+    let act = act_of(letter(&rt, 1));
+    let course = run_input(&rt, engine_for(act))?;
     let file = course.file;
     let times = u64::from(letter(&rt, 2)) % 16 * 100;
-    let done = if what == b'w' {
-        write_many(file, read_timing(file).timing, times)
-    } else {
-        look_many(what, file, times)
+    let done = match act {
+        Act::Write => write_many(file, read_timing(file).timing, times),
+        _ => look_many(act, file, times),
     };
     rt.println(mix(course.sum, done))
 }

@@ -7,7 +7,8 @@ use mode_lines::{keep, line_of};
 use shell::{nothing_handed, run_input, write_out};
 use std::rt::Env;
 
-// A refusal in words, with its code.
+// A refusal in words, with its code. The line of job_modeline begins in another way and goes into a buffer, with a promise of each byte; what is left in common
+// is two phrases, and handing these over would be no plainer.
 fn tell_refusal(err: &impl Print, verdict: Verdict) {
     let _ = err.write_all(b"modeline: no line, code ");
     let _ = err.print(verdict.code());

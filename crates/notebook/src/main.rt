@@ -12,7 +12,8 @@ use program_input::{count_args, read_arg, read_full};
 use std::io;
 use std::rt::Env;
 
-// What goes wrong, as a line: a program has no exit status.
+// What goes wrong, as a line: a program has no exit status. Crate shell has `tell`, `tell_failure` and `write_out` too, for programs that run a trace and take
+// the program's name: this one runs none and doesn't stand on it.
 fn tell(err: &impl Print, what: &[u8]) {
     let _ = err.write_all(b"portable: ");
     let _ = err.write_all(what);
@@ -26,7 +27,8 @@ fn tell_failure(err: &impl Print, what: &[u8], why: io::Error) {
     let _ = err.println(why);
 }
 
-// A refusal in words, with its code.
+// A refusal in words, with its code. The line of job_portable begins in another way and goes into a buffer, with a promise of each byte; what is left in common
+// is three phrases, and handing these over would be no plainer.
 fn tell_refusal(err: &impl Print, answer: Answer) {
     let _ = err.write_all(b"portable: nothing is written, code ");
     let _ = err.print(answer.code());

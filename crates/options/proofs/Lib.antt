@@ -1,5 +1,4 @@
 pub mod SameTexts
-pub mod Among
 pub mod Numbers
 pub mod Parts
 pub mod Added

@@ -6,6 +6,9 @@ use native.Mathlib.Numerals.{add-one}
 use native.Mathlib.Omega.{arith}
 use borrow.Author.Tests.{eq-eqb, ne_eqb, leb-true, leb-false, ltb-true, ltb-false}
 use lib.Dec.{eqb, leb, ltb}
+use Rattle.std.proofs.Common.{cond, Some, None}
+use Rattle.std.specs.List.{position, position_or_len}
+use Rattle.std.specs.Option.{unwrap_or}
 use lib.ListN.{length, take, drop, get_or, length-take, length-drop, drop_of_length-le}
 use lib.Seq.{drop-cons, take_all}
 use Rattle.bits.proofs.Test.{by-test}
@@ -47,25 +50,23 @@ clipped words start end from to e f =
 
 -- ---- a name
 
-module _ (word : List ℕ) (i : ℕ) (h : i < length word) where
-  -- an '=' ends it
-  pub name-ends : get_or word i 0 ≡ 0x3D → length (name_in (drop i word)) ≡ 0
-  unfolding name_in
-  name-ends e = rw (drop-cons word i 0 h, eq-eqb (get_or word i 0) 0x3D e)
-
-  pub name-next : (get_or word i 0 ≡ 0x3D → ⊥) → length (name_in (drop i word)) ≡ suc (length (name_in (drop (i + 1) word)))
-  unfolding name_in
-  name-next n = rw (drop-cons word i 0 h, add-one, ne_eqb (get_or word i 0) 0x3D n)
-
--- and so does the end of the word
-pub name-over : (word : List ℕ) (i : ℕ) → length word ≤ i → length (name_in (drop i word)) ≡ 0
-unfolding name_in
-name-over word i h = rw (drop_of_length-le word h)
-
 name-short : (word : List ℕ) → length (name_in word) ≤ length word
 unfolding name_in
 name-short [] = omega arith
 name-short (b ∷ bs) = by-test (eqb b 0x3D) (λ e. rw e (omega arith)) (λ e. rw e (omega (arith, name-short bs)))
+
+-- it ends before the first '=', or at the end of the word
+sign-at : (word : List ℕ) → position_or_len (λ b. eqb b 0x3D) word ≡ length (name_in word)
+unfolding name_in
+sign-at [] = refl
+sign-at (b ∷ word) = by-test (eqb b 0x3D) (λ e. rw e refl) (λ e. rw e (omega (arith, sign-at word)))
+
+first-or-all : (k n : ℕ) → k ≤ n → unwrap_or (cond (ltb k n) (Some k) None) n ≡ k
+first-or-all k n h = by-test (ltb k n) (λ t. rw t refl) (λ t. rw t (omega (arith, h, ltb-false k n t)))
+
+pub name-ends : (word : List ℕ) → unwrap_or (position (λ b. eqb b 0x3D) word) (length word) ≡ length (name_in word)
+name-ends word =
+    first-or-all (position_or_len (λ b. eqb b 0x3D) word) (length word) (omega (arith, sign-at word, name-short word)) ∙ sign-at word
 
 -- it is within the word, and within the words
 pub name-within : (words : List ℕ) (s : Span) → length (name_in (part words s)) ≤ min (s.end - s.start) (length words - s.start)

@@ -1,6 +1,7 @@
 -- The commands and their options: one table.
 -- Assumes nothing.
-use Rattle.std.specs.Prelude.{ℕ, cond, List, [], ◌∷◌, Option, Some, None}
+use Rattle.std.specs.Prelude.{ℕ, List, [], ◌∷◌, Option}
+use Rattle.std.specs.List.{find}
 use Rattle.file.specs.Readers.{ascii, same}
 use Rattle.options.specs.declared.types.Command.{Command}
 use Rattle.options.specs.declared.types.Command.TheVariants.{Replay, Snapshot, Geometry, Modeline, Clocks, Portable, Explain, Bytes}
@@ -63,8 +64,7 @@ value_count Operand = 0
 
 -- the first of some things that a word is the name of
 unfoldable pub named_among : {A : Type 0} → (A → List ℕ) → List A → List ℕ → Option A
-named_among name [] word = None
-named_among name (x ∷ xs) word = cond (same word (name x)) (Some x) (named_among name xs word)
+named_among name xs word = find (λ x. same word (name x)) xs
 
 -- the command that a word names
 unfoldable pub command_named : List ℕ → Option Command

@@ -1,5 +1,6 @@
 // The commands and the options, by their names.
 ghost use Rattle.std.specs.Prelude.{◌≡◌};
+ghost use Rattle.file.specs.Readers.{same};
 ghost use Rattle.options.specs.Table.{command_name, command_named, option_name, option_named, options_of, value_count};
 
 use crate::types::{Command, Slot};
@@ -32,16 +33,23 @@ pub fn command_name(command: Command) -> &'static [u8]
     }
 }
 
+// Tells whether `word` is `name`.
+#[tactic(auto, unfolding(file::specs::Readers::same))]
+fn names(word: &[u8], name: &[u8]) -> bool
+    ensures { result ≡ same word.now name.now }
+{
+    word == name
+}
+
 // Gives the command that `word` names.
+#[tactic(auto, unfolding(crate::specs::Table::command_named, crate::specs::Table::named_among, crate::specs::Table::commands))]
 pub fn command_named(word: &[u8]) -> Option<Command>
     ensures { result ≡ command_named word.now }
 {
-    for command in COMMANDS {
-        if word == command_name(command) {
-            return Some(command);
-        }
-    }
-    None
+    COMMANDS
+        .iter()
+        .copied()
+        .find(|command| names(word, command_name(*command)))
 }
 
 // Gives the name of the option of `slot`; the two other slots have none.
@@ -81,15 +89,14 @@ fn options_of(command: Command) -> &'static [Slot]
 }
 
 // Gives the option of `command` that `word` names.
+#[tactic(auto, unfolding(crate::specs::Table::option_named, crate::specs::Table::named_among))]
 pub fn option_named(command: Command, word: &[u8]) -> Option<Slot>
     ensures { result ≡ option_named command word.now }
 {
-    for option in options_of(command) {
-        if word == option_name(*option) {
-            return Some(*option);
-        }
-    }
-    None
+    options_of(command)
+        .iter()
+        .copied()
+        .find(|option| names(word, option_name(*option)))
 }
 
 // Counts the words that the option of `slot` takes as its values.

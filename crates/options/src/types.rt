@@ -74,7 +74,7 @@ pub struct Of {
     pub mhz: Span,
 }
 
-// What the words ask for.
+// What the words ask for; `plain` is no `Engine`, as the crate engines, which has that, isn't below this one.
 #[derive(Clone, Copy)]
 pub struct Asked {
     pub command: Command,

@@ -1,5 +1,6 @@
 // A word's bytes, and what is looked at in them.
-ghost use Rattle.std.specs.Prelude.{◌≡◌, length};
+ghost use Rattle.std.specs.Prelude.{◌≡◌, eqb, length};
+ghost use Rattle.std.specs.List.{position};
 ghost use Rattle.options.specs.Words.{ends_in_hex, is_option, name_in, name_span, part as part_of, word_at};
 
 use crate::types::Span;
@@ -31,16 +32,18 @@ pub fn is_option(word: &[u8]) -> bool
     word.len() > 1 && word[0] == b'-'
 }
 
+// Gives the place of the first '=' in `word`, if it has one.
+fn equals_sign(word: &[u8]) -> Option<usize>
+    ensures { result ≡ position (λ b. eqb b 0x3D) word.now }
+{
+    word.iter().position(|byte| *byte == b'=')
+}
+
 // Counts the bytes of `word` before its first '='; all of them where it has none.
 fn name_size(word: &[u8]) -> usize
     ensures { result ≡ length (name_in word.now) }
 {
-    for (i, byte) in word.iter().enumerate() {
-        if *byte == b'=' {
-            return i;
-        }
-    }
-    word.len()
+    equals_sign(word).unwrap_or(word.len())
 }
 
 // Gives the part of the option `span` that is its name, up to the first '='.

@@ -2,4 +2,3 @@ pub mod RepliesCounted
 pub mod CountedOneByOne
 pub mod Lengths
 pub mod Telling
-pub mod Typed

@@ -7,8 +7,8 @@ use native.Mathlib.Numerals.{add-one}
 use native.Mathlib.Omega.{arith}
 use borrow.Author.Tests.{eqb-true}
 use lib.Dec.{eqb}
-use lib.ListN.{length, get_or, drop, length-append, drop_of_length-le}
-use lib.Seq.{drop-cons}
+use lib.ListN.{length, get_or, take, drop, length-append, length-drop, drop_of_length-le}
+use lib.Seq.{drop-cons, take_all}
 use Rattle.bits.proofs.Test.{by-test}
 use Rattle.file.specs.Readers.{ascii}
 use Rattle.text.specs.Text.{decimal, decimal_places, newline, space}
@@ -16,16 +16,21 @@ use Rattle.refusals.specs.Counted.{most_count}
 use Rattle.refusals.proofs.Lengths.{line-length}
 use Rattle.refusals.specs.Said.{code_told, codes_text, head_text, refused_sum, refused_text, start_text, summed_up, times_text, total}
 
-module _ (first : Bool) (counts : List ℕ) (code : ℕ) (h : code < length counts) where
-  -- the next code, and the rest
-  pub next-code : code_told first code (get_or counts code 0) ++ codes_text (first && eqb (get_or counts code 0) 0) (code + 1) (drop (code + 1) counts)
-      ≡ codes_text first code (drop code counts)
-  unfolding codes_text
-  next-code = rw (drop-cons counts code 0 h, add-one) refl
+-- of 23 counts, the 21 from the second on are all those from there on
+pub from-two : (counts : List ℕ) → length counts ≡ 23 → take 21 (drop 2 counts) ≡ drop 2 counts
+from-two counts e = take_all 21 (drop 2 counts) (omega (arith, e, length-drop 2 counts))
 
-  pub next-code-length : length (code_told first code (get_or counts code 0))
-      + length (codes_text (first && eqb (get_or counts code 0) 0) (code + 1) (drop (code + 1) counts))
-      ≡ length (codes_text first code (drop code counts))
+-- of counts that begin with that of code 2, the one at a place
+module _ (first : Bool) (counts : List ℕ) (i : ℕ) (h : i < length counts) where
+  -- the next code, and the rest
+  pub next-code : code_told first (i + 2) (get_or counts i 0) ++ codes_text (first && eqb (get_or counts i 0) 0) (i + 1 + 2) (drop (i + 1) counts)
+      ≡ codes_text first (i + 2) (drop i counts)
+  unfolding codes_text
+  next-code = let next : i + 1 + 2 ≡ suc (i + 2) = omega arith in rw (next, drop-cons counts i 0 h, add-one) refl
+
+  pub next-code-length : length (code_told first (i + 2) (get_or counts i 0))
+      + length (codes_text (first && eqb (get_or counts i 0) 0) (i + 1 + 2) (drop (i + 1) counts))
+      ≡ length (codes_text first (i + 2) (drop i counts))
   next-code-length = rw (← next-code, length-append) refl
 
 -- the sum so far, and the next count
@@ -35,9 +40,9 @@ unfolding total summed_up
 next-sum counts code sum h = rw (drop-cons counts code 0 h, add-one) (omega arith)
 
 -- none is left at the end
-pub no-code-left : (first : Bool) (counts : List ℕ) (code : ℕ) → length counts ≤ code → codes_text first code (drop code counts) ≡ []
+pub no-code-left : (first : Bool) (counts : List ℕ) (code i : ℕ) → length counts ≤ i → codes_text first code (drop i counts) ≡ []
 unfolding codes_text
-no-code-left first counts code h = rw (drop_of_length-le counts h) refl
+no-code-left first counts code i h = rw (drop_of_length-le counts h) refl
 
 pub no-sum-left : (counts : List ℕ) (code : ℕ) → length counts ≤ code → total (drop code counts) ≡ 0
 unfolding total

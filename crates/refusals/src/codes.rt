@@ -3,7 +3,7 @@ ghost use Rattle.std.specs.Prelude.{◌≡◌};
 ghost use Rattle.refusals.specs.Counted.{counted_at, counting_of, none_counted, replies_counted};
 
 // The codes from 0 to 22.
-const CODES: usize = 23;
+pub const CODES: usize = 23;
 
 // How many answers had each code.
 #[derive(Clone, Copy)]

@@ -3,7 +3,7 @@ ghost use Rattle.std.specs.Prelude.{◌≡◌, ◌≤◌, length};
 ghost use Rattle.text.specs.Lent.{Wrote};
 ghost use Rattle.refusals.specs.Said.{RefusedLined, refused_sum as refusedSumOf, refused_text};
 
-use crate::codes::Refusals;
+use crate::codes::{CODES, Refusals};
 use crate::put::{put_codes, put_head};
 use text::{Placed, plain_text, put};
 
@@ -11,18 +11,18 @@ use text::{Placed, plain_text, put};
 pub const REFUSED_MOST: usize = 830;
 
 // Counts the refused records: those with a code from 2 up; a sum beyond 64 bits is the largest count.
-fn refused_sum(counts: &[u64]) -> u64
+fn refused_sum(counts: &[u64; CODES]) -> u64
     ensures { result ≡ refusedSumOf counts.now }
 {
     let mut sum: u64 = 0;
-    for code in 2..counts.len() {
-        sum = sum.saturating_add(counts[code]);
+    for count in &counts[2..] {
+        sum = sum.saturating_add(*count);
     }
     sum
 }
 
 // Stores the line of `number` records and their `counts` from the start of a buffer that has room for it on; nothing where none was refused.
-fn put_line(number: u64, counts: &[u64], buffer: &mut [u8]) -> usize
+fn put_line(number: u64, counts: &[u64; CODES], buffer: &mut [u8]) -> usize
     requires { length (refused_text number counts.now) ≤ length buffer.old }
     ensures { Wrote buffer.old 0 (refused_text number counts.now) buffer.new result }
 {
@@ -36,8 +36,7 @@ fn put_line(number: u64, counts: &[u64], buffer: &mut [u8]) -> usize
 }
 
 // Puts the line of counts of 23 codes, made in a buffer of its own first.
-fn counts_line(buffer: &mut [u8], at: usize, number: u64, counts: &[u64]) -> Placed
-    requires { length counts.now ≤ 23 }
+fn counts_line(buffer: &mut [u8], at: usize, number: u64, counts: &[u64; CODES]) -> Placed
     ensures { RefusedLined at number counts.now buffer.old buffer.new result }
 {
     let mut line = [0u8; REFUSED_MOST];

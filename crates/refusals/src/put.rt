@@ -3,6 +3,7 @@ ghost use Rattle.std.specs.Prelude.{true, ◌+◌, ◌≤◌, drop, length};
 ghost use Rattle.text.specs.Lent.{Wrote};
 ghost use Rattle.refusals.specs.Said.{code_told, codes_text, head_text, start_text, times_text};
 
+use crate::codes::CODES;
 use text::{put, put_behind};
 
 // Stores what the line says before its codes: how many of how many records were refused.
@@ -51,16 +52,15 @@ fn put_code(first: bool, code: u64, times: u64, buffer: &mut [u8], at: usize) ->
 }
 
 // Stores each code from 2 up that has a count in `counts`, in order, with its count.
-pub fn put_codes(counts: &[u64], buffer: &mut [u8], at: usize) -> usize
+pub fn put_codes(counts: &[u64; CODES], buffer: &mut [u8], at: usize) -> usize
     requires { at + length (codes_text true 2 (drop 2 counts.now)) ≤ length buffer.old }
     ensures { Wrote buffer.old at (codes_text true 2 (drop 2 counts.now)) buffer.new result }
 {
     let mut at = at;
     let mut first = true;
-    for code in 2..counts.len() {
-        let times = counts[code];
-        at = put_code(first, code as u64, times, buffer, at);
-        first &= times == 0;
+    for (i, times) in counts[2..].iter().enumerate() {
+        at = put_code(first, i as u64 + 2, *times, buffer, at);
+        first &= *times == 0;
     }
     at
 }

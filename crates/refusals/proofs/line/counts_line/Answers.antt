@@ -11,8 +11,8 @@ use Rattle.refusals.proofs.line.counts_line.Goals as goal
 -- the buffer of its own has room
 short : (c : goal.After-line-1) → length (refused_text c.args.number c.args.counts.now) ≤ refused_most
 short c =
-    refused-most c.args.number c.args.counts.now (omega arith) c.requires
-    (λ k. omega (arith, c.shared_slice_known-1.given k))
+    refused-most c.args.number c.args.counts.now (omega arith) (omega (arith, c.told-counts))
+    (λ k. omega (arith, c.fits-counts k))
 
 pub put_line-end-requires : goal.put_line-end-requires
 unfolding refused_most
@@ -21,8 +21,8 @@ put_line-end-requires c = short c
 -- the buffer of its own has room
 short-2 : (c : goal.After-plain_text-arg-1) → length (refused_text c.args.number c.args.counts.now) ≤ refused_most
 short-2 c =
-    refused-most c.args.number c.args.counts.now (omega arith) c.requires
-    (λ k. omega (arith, c.shared_slice_known-1.given k))
+    refused-most c.args.number c.args.counts.now (omega arith) (omega (arith, c.told-counts))
+    (λ k. omega (arith, c.fits-counts k))
 
 pub slice_bounds-line-end : goal.slice_bounds-line-end
 unfolding refused_most
@@ -31,8 +31,8 @@ slice_bounds-line-end c = (stored-text c.put_line-end.ensures (short-2 c)).1.0
 -- the buffer of its own has room
 short-3 : (c : goal.After-line-3-1) → length (refused_text c.args.number c.args.counts.now) ≤ refused_most
 short-3 c =
-    refused-most c.args.number c.args.counts.now (omega arith) c.requires
-    (λ k. omega (arith, c.shared_slice_known-1.given k))
+    refused-most c.args.number c.args.counts.now (omega arith) (omega (arith, c.told-counts))
+    (λ k. omega (arith, c.fits-counts k))
 
 pub slice_bounds-plain_text-end : goal.slice_bounds-plain_text-end
 unfolding refused_most
@@ -43,8 +43,8 @@ slice_bounds-plain_text-end c =
 -- the buffer of its own has room
 short-4 : (c : goal.After-slice_known-2-1) → length (refused_text c.args.number c.args.counts.now) ≤ refused_most
 short-4 c =
-    refused-most c.args.number c.args.counts.now (omega arith) c.requires
-    (λ k. omega (arith, c.shared_slice_known-1.given k))
+    refused-most c.args.number c.args.counts.now (omega arith) (omega (arith, c.told-counts))
+    (λ k. omega (arith, c.fits-counts k))
 
 pub returns : goal.returns
 unfolding refused_most

@@ -6,5 +6,5 @@ use Rattle.refusals.specs.Counted.{most_count}
 use Rattle.refusals.specs.Said.{refused_sum, total}
 use Rattle.refusals.proofs.line.refused_sum.Given as goal
 
-abbrev pub invariant-loop-code : goal.invariant-loop-code
-invariant-loop-code l = (min (l.sum + total (drop l.code l.counts)) most_count ≡ refused_sum l.counts) × (l.sum ≤ most_count)
+abbrev pub invariant-loop-count : goal.invariant-loop-count
+invariant-loop-count l = (min (l.sum + total (drop l.count-index l.count-items)) most_count ≡ refused_sum l.counts) × (l.sum ≤ most_count)

@@ -7,8 +7,8 @@ use lib.Seq.{sets}
 use Rattle.refusals.specs.Said.{codes_text}
 use Rattle.refusals.proofs.put.put_codes.Given as goal
 
-abbrev pub invariant-loop-code : goal.invariant-loop-code
-invariant-loop-code l =
-    (sets l.buffer l.at (codes_text l.first l.code (drop l.code l.counts)) ≡ sets l.initial.buffer l.at-2 (codes_text true 2 (drop 2 l.counts)))
-    × (l.at + length (codes_text l.first l.code (drop l.code l.counts)) ≡ l.at-2 + length (codes_text true 2 (drop 2 l.counts)))
+abbrev pub invariant-loop-i : goal.invariant-loop-i
+invariant-loop-i l =
+    (sets l.buffer l.at (codes_text l.first (l.i + 2) (drop l.i l.times-items)) ≡ sets l.initial.buffer l.at-2 (codes_text true 2 (drop 2 l.counts)))
+    × (l.at + length (codes_text l.first (l.i + 2) (drop l.i l.times-items)) ≡ l.at-2 + length (codes_text true 2 (drop 2 l.counts)))
     × (length l.buffer ≡ length l.initial.buffer)
