@@ -6,6 +6,14 @@ use Rattle.std.specs.Prelude.{ℕ, ◌+◌, ◌*◌, ◌-◌, ◌/◌, min, Bool
 unfoldable pub units_in : ℕ → Bool → List ℕ → ℕ
 units_in unit last part = cond last ((length part + (unit - 1)) / unit) (length part / unit)
 
+-- the largest number of 64 bits, which is the last one that a record has
+abbrev pub number_most : ℕ
+number_most = 0xFFFFFFFFFFFFFFFF
+
+-- how many numbers are left behind one
+abbrev pub numbers_left : ℕ → ℕ
+numbers_left number = number_most - number
+
 -- how many bytes of a part so many units are; a fragment has as many as there are
 unfoldable pub bytes_of : ℕ → ℕ → List ℕ → ℕ
 bytes_of unit units part = min (unit * units) (length part)

@@ -17,8 +17,7 @@ use Rattle.clock_text.specs.Parts.{counts_fit}
 use Rattle.clock_text.specs.Report.{clock_lines, report, summary}
 use Rattle.clock_text.specs.Sets.{no_tally, set_clocks, tallied}
 use Rattle.clock_text.proofs.InParts.{lines-in-parts, sets-in-parts, tally-in-parts}
-use Rattle.job_clocks.specs.declared.ClocksFed.{ClocksFed}
-use Rattle.job_clocks.specs.Clocks.{ClocksStep, WholeSets, bytes_taken, lines_told, set_bytes, sets_roomed, tally_after}
+use Rattle.job_clocks.specs.Clocks.{ClocksFed, ClocksStep, WholeSets, bytes_taken, lines_told, set_bytes, sets_roomed, tally_after}
 use Rattle.job_clocks.proofs.Step.{bytes-within, whole_by}
 
 pub clocks-additive : Additive WholeSets tally_after lines_told
@@ -58,11 +57,11 @@ module _ {input text : List ℕ} {before : Tally} (fed : Parts WholeSets tally_a
   used = ap (λ (k : ℕ). take k part) step.taken
 
   pub clocks-next : (last ≡ false) ⊎ (r.used < length part)
-      → Parts WholeSets tally_after lines_told no_tally (input ++ take r.used part) (text ++ take r.end out) r.tally
+      → Parts WholeSets tally_after lines_told no_tally (input ++ take r.used part) (text ++ take r.end out) r.job
   clocks-next h =
       rw (used, shown, step.become) (then Bytes fed (step-whole before last part (length out₀) (rw step.taken at h)))
 
-  pub clocks-last : WholeInput WholeSets tally_after lines_told no_tally (input ++ take r.used part) (text ++ take r.end out) r.tally
+  pub clocks-last : WholeInput WholeSets tally_after lines_told no_tally (input ++ take r.used part) (text ++ take r.end out) r.job
   clocks-last = rw (used, shown, step.become) (ending Bytes fed)
 
 -- the theorem of the command: the text of the parts, and what closing puts out, is what the command prints of the whole input

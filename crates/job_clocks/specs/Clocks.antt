@@ -1,12 +1,16 @@
 -- The job of the command `clocks`: what is counted and told of some bytes, and how many of a part one step takes.
 -- Assumes nothing.
 use Rattle.std.specs.Prelude.{ℕ, ◌/◌, ◌%◌, min, Bool, cond, List, ◌≡◌, length}
+use Rattle.feeding.specs.declared.step.Fed.{Fed as FedOf}
 use Rattle.feeding.specs.Feeding.{Fed, bytes_of, units_in}
 use Rattle.clock_text.specs.declared.tally.Tally.{Tally}
 use Rattle.clock_text.specs.Parts.{counts_fit}
 use Rattle.clock_text.specs.Report.{clock_lines}
 use Rattle.clock_text.specs.Sets.{set_clocks, tallied}
-use Rattle.job_clocks.specs.declared.ClocksFed.{ClocksFed}
+
+-- what was counted after a part, how many bytes of the part were used, and where their lines end
+abbrev pub ClocksFed : Type 0
+ClocksFed = FedOf Tally
 
 -- the bytes are whole sets
 abbrev pub WholeSets : List ℕ → Type 0
@@ -35,4 +39,4 @@ bytes_taken before last part room = cond (counts_fit before (sets_roomed last pa
 -- one step of the job
 abbrev pub ClocksStep : Tally → List ℕ → Bool → List ℕ → List ℕ → ClocksFed → Type 0
 ClocksStep before part last out₀ out r =
-    Fed tally_after lines_told (bytes_taken before last part (length out₀)) before part out₀ out r.tally r.used r.end
+    Fed tally_after lines_told (bytes_taken before last part (length out₀)) before part out₀ out r.job r.used r.end

@@ -4,36 +4,19 @@
 ghost use Rattle.std.specs.Prelude.{◌≡◌};
 ghost use Rattle.io.specs.Counts.{IsPrefixLen};
 ghost use Rattle.text.specs.Lent.{Lined};
-ghost use Rattle.feeding.specs.Feeding.{units_in};
 ghost use Rattle.clock_text.specs.Parts.{summary_answer};
 ghost use Rattle.clock_text.specs.Report.{summary};
 ghost use Rattle.job_clocks.specs.Clocks.{ClocksStep, set_bytes};
 
 use clock_text::{Tally, report_part, summary_lines};
+use feeding::{Fed, units_in};
 use text::Placed;
 
 // The most bytes that the line of a set has.
 const LINE_MOST: usize = 15;
 
 // What was counted after a part, how many bytes of the part were used, and where their lines end.
-#[derive(Clone, Copy)]
-pub struct ClocksFed {
-    pub tally: Tally,
-    pub used: usize,
-    pub end: usize,
-}
-
-// Counts the sets of `part`: the whole ones, and in the `last` part of an input a fragment too.
-#[tactic(auto, unfolding(feeding::specs::Feeding::units_in))]
-fn sets_in(part: &[u8], last: bool) -> usize
-    ensures { result ≡ units_in 3 last part.now }
-{
-    if last {
-        part.len().div_ceil(3)
-    } else {
-        part.len() / 3
-    }
-}
+pub type ClocksFed = Fed<Tally>;
 
 // Tells how many bytes of `part` the sets have whose lines fit into `room` bytes.
 #[tactic(auto, unfolding(crate::specs::Clocks::set_bytes, crate::specs::Clocks::sets_roomed, feeding::specs::Feeding::bytes_of))]
@@ -41,7 +24,7 @@ fn set_bytes(part: &[u8], last: bool, room: usize) -> usize
     ensures value { result ≡ set_bytes last part.now room }
     ensures prefix_len { IsPrefixLen result part.now }
 {
-    let sets = sets_in(part, last).min(room / LINE_MOST);
+    let sets = units_in(part, 3, last).min(room / LINE_MOST);
     part.len().min(3 * sets)
 }
 
@@ -52,13 +35,13 @@ pub fn feed(before: Tally, part: &[u8], last: bool, out: &mut [u8]) -> ClocksFed
 {
     let size = set_bytes(part, last, out.len());
     match report_part(before, &part[..size], out) {
-        Ok(told) => ClocksFed {
-            tally: told.tally,
+        Ok(told) => Fed {
+            job: told.tally,
             used: size,
             end: told.end,
         },
-        Err(_) => ClocksFed {
-            tally: before,
+        Err(_) => Fed {
+            job: before,
             used: 0,
             end: 0,
         },

@@ -12,11 +12,11 @@ use Rattle.trace.specs.Records.{item_count, item_of}
 use Rattle.text.specs.Lent.{Wrote}
 use Rattle.text.proofs.Stores.{then-text}
 use Rattle.explaining.specs.Explained.{record_most}
-use Rattle.feeding.specs.Feeding.{Fed, bytes_of}
+use Rattle.feeding.specs.Feeding.{Fed, bytes_of, number_most}
 use Rattle.job_explain.specs.declared.job.ExplainJob.{ExplainJob}
 use Rattle.job_explain.specs.declared.turn.Turn.{Turn}
 use Rattle.summing.specs.Told.{record_told}
-use Rattle.job_explain.specs.Job.{Turned, WholeRecords, after_bytes, bytes_taken, job_told, number_most, records_taken}
+use Rattle.job_explain.specs.Job.{Turned, WholeRecords, after_bytes, bytes_taken, job_told, records_taken}
 use Rattle.job_explain.proofs.JobInParts.{job-none, job-parts, job-told-parts, nothing-told, one-job, one-job-told}
 use Rattle.job_explain.proofs.RecordsShort.{record-short}
 

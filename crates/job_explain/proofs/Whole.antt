@@ -12,11 +12,11 @@ use Rattle.file.specs.File.{power_on}
 use Rattle.trace.specs.Records.{item_count, items}
 use Rattle.explaining.specs.Explained.{record_most}
 use Rattle.summing.specs.Summed.{begun, summed}
-use Rattle.feeding.specs.Feeding.{WholeInput, bytes_of, units_in}
+use Rattle.feeding.specs.Feeding.{WholeInput, bytes_of, number_most, units_in}
 use Rattle.feeding.proofs.AsTheWhole.{input-after, input-told}
 use Rattle.job_explain.specs.declared.job.ExplainJob.{ExplainJob}
 use Rattle.summing.specs.Told.{closing, part_summed, part_told, trace_told}
-use Rattle.job_explain.specs.Job.{WholeExplained, WholeRecords, after_bytes, bytes_taken, job_told, number_most, records_taken, starting}
+use Rattle.job_explain.specs.Job.{WholeExplained, WholeRecords, after_bytes, bytes_taken, job_told, records_taken, starting}
 use Rattle.job_explain.proofs.JobInParts.{additive}
 
 -- what a step that isn't given the last part takes is whole records

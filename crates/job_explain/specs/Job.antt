@@ -1,6 +1,6 @@
 -- 'Explain' as a job: what it starts from, what a record and a part of a trace make of it, and what it puts at the end.
 -- Assumes nothing.
-use Rattle.std.specs.Prelude.{ℕ, ◌+◌, ◌-◌, ◌/◌, ◌%◌, min, Bool, cond, List, ◌++◌, ◌≡◌, length}
+use Rattle.std.specs.Prelude.{ℕ, ◌+◌, ◌/◌, ◌%◌, min, Bool, cond, List, ◌++◌, ◌≡◌, length}
 use Rattle.file.specs.declared.answer.Answer.{Answer}
 use Rattle.file.specs.declared.answer.Answer.TheVariants.{Done}
 use Rattle.file.specs.declared.chip.Chip.{Chip}
@@ -15,11 +15,15 @@ use Rattle.explaining.specs.Explained.{record_most}
 use Rattle.summing.specs.Closing.{summary_answer}
 use Rattle.summing.specs.Summed.{begun}
 use Rattle.refusals.specs.Counted.{counted_part, counting_of, none_counted}
-use Rattle.feeding.specs.Feeding.{Fed, bytes_of, units_in}
+use Rattle.feeding.specs.declared.step.Fed.{Fed as FedOf}
+use Rattle.feeding.specs.Feeding.{Fed, bytes_of, numbers_left, units_in}
 use Rattle.job_explain.specs.declared.job.ExplainJob.{ExplainJob}
-use Rattle.job_explain.specs.declared.part.ExplainFed.{ExplainFed}
 use Rattle.job_explain.specs.declared.turn.Turn.{Turn}
 use Rattle.summing.specs.Told.{closing, part_summed, part_told, record_summed, record_told, trace_told}
+
+-- the job after some bytes of a part, how many those are, and where their text ends
+abbrev pub ExplainFed : Type 0
+ExplainFed = FedOf ExplainJob
 
 -- from a chip's power-on, with the number 0
 unfoldable pub starting : Chip → ExplainJob
@@ -54,13 +58,9 @@ after_bytes sums j bytes =
 unfoldable pub job_told : Bool → ExplainJob → List ℕ → List ℕ
 job_told sums j bytes = part_told sums j.number j.file bytes
 
--- the largest number of 64 bits
-abbrev pub number_most : ℕ
-number_most = 0xFFFFFFFFFFFFFFFF
-
 -- how many records of a part a step takes, by the number of the first: as many as there are, as have room and as have numbers
 unfoldable pub records_taken : ℕ → Bool → List ℕ → ℕ → ℕ
-records_taken number last part room = min (units_in 8 last part) (min (room / record_most) (number_most - number))
+records_taken number last part room = min (units_in 8 last part) (min (room / record_most) (numbers_left number))
 
 -- how many bytes those are
 unfoldable pub bytes_taken : ℕ → Bool → List ℕ → ℕ → ℕ

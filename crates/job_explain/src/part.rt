@@ -1,44 +1,22 @@
 // A part of a trace: as many of its records as there are, as have room and as have numbers.
-ghost use Rattle.std.specs.Prelude.{◌≡◌, ◌-◌};
-ghost use Rattle.feeding.specs.Feeding.{units_in};
-ghost use Rattle.job_explain.specs.Job.{PartExplained, bytes_taken, number_most};
+ghost use Rattle.std.specs.Prelude.{◌≡◌};
+ghost use Rattle.job_explain.specs.Job.{PartExplained, bytes_taken};
 
 use crate::job::ExplainJob;
 use crate::turn::explain_record;
+use feeding::{Fed, numbers_left, units_in};
 
 // The most bytes that a record's lines have.
 const RECORD_MOST: usize = 3360;
 
 // The job after some bytes of a part, how many those are, and where their text ends.
-#[derive(Clone, Copy)]
-pub struct ExplainFed {
-    pub job: ExplainJob,
-    pub used: usize,
-    pub end: usize,
-}
-
-// Counts the records of `part`; where it is the last part, a fragment at its end is one too.
-fn records_in(part: &[u8], last: bool) -> usize
-    ensures { result ≡ units_in 8 last part.now }
-{
-    if last {
-        return (part.len() + 7) / 8;
-    }
-    part.len() / 8
-}
-
-// Counts the numbers above `number`.
-fn numbers_left(number: u64) -> usize
-    ensures { result ≡ number_most - number }
-{
-    (u64::MAX - number) as usize
-}
+pub type ExplainFed = Fed<ExplainJob>;
 
 // Counts the bytes of `part` that a step takes, of which the first record has the number `number`, with `room` bytes for their text.
 fn bytes_taken(number: u64, part: &[u8], last: bool, room: usize) -> usize
     ensures { result ≡ bytes_taken number last part.now room }
 {
-    let there = records_in(part, last);
+    let there = units_in(part, 8, last);
     let numbered = numbers_left(number);
     let records = there.min((room / RECORD_MOST).min(numbered));
     (8 * records).min(part.len())
@@ -57,7 +35,7 @@ pub fn feed(sums: bool, before: ExplainJob, part: &[u8], last: bool, out: &mut [
         end = turn.end;
         job = turn.job;
     }
-    ExplainFed {
+    Fed {
         job,
         used: bytes,
         end,

@@ -5,7 +5,7 @@ ghost use Rattle.text.specs.Lent.{Lined, Wrote};
 ghost use Rattle.job_geometry.specs.GeometryText.{geometry_answer, geometry_most, geometry_text};
 
 use crate::lines::{put_capture, put_cursor, put_window};
-use file::{Answer, File};
+use file::File;
 use geometry::{Geometry, read_geometry};
 use text::Placed;
 
@@ -26,15 +26,9 @@ pub fn geometry_end(file: File, out: &mut [u8]) -> Placed
     ensures { Lined (geometry_answer out.old) 0 (geometry_text (read_geometry file)) out.old out.new result }
 {
     if out.len() < 256 {
-        return Placed {
-            answer: Answer::ShortBuffer,
-            end: 0,
-        };
+        return Placed::no_room(0);
     }
     let read = read_geometry(file);
     let end = put_lines(read, out);
-    Placed {
-        answer: Answer::Done(0),
-        end,
-    }
+    Placed::stored(end)
 }

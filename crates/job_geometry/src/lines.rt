@@ -1,17 +1,10 @@
 // The lines of the cursor, of window 2 and of the capture window, each from a place of a lent buffer on; code 11 where a line has no room.
-ghost use Rattle.std.specs.Prelude.{◌≡◌, ◌≤◌, length};
+ghost use Rattle.std.specs.Prelude.{◌≤◌, length};
 ghost use Rattle.text.specs.Lent.{Lined, room_answer};
-ghost use Rattle.job_geometry.specs.GeometryText.{below_zero, capture_text, cursor_text, window_text};
+ghost use Rattle.job_geometry.specs.GeometryText.{capture_text, cursor_text, window_text};
 
 use geometry::{Capture, Cursor, Window, magnitude};
 use text::{Placed, capture_line, cursor_line, window2_line};
-
-// Asks whether `n` has a minus before it.
-fn is_below_zero(n: i16) -> bool
-    ensures { result ≡ below_zero n }
-{
-    n < 0
-}
 
 // Puts the line of `cursor`: enabled, left, top, width, height and address.
 pub fn put_cursor(cursor: Cursor, lines: &mut [u8], at: usize) -> Placed
@@ -28,7 +21,7 @@ pub fn put_cursor(cursor: Cursor, lines: &mut [u8], at: usize) -> Placed
         u32::from(cursor.height.0),
         cursor.address,
     ];
-    cursor_line(lines, at, is_below_zero(left), is_below_zero(top), numbers)
+    cursor_line(lines, at, left < 0, top < 0, numbers)
 }
 
 // Puts the line of `window`: enabled, video, left, top, right, bottom, empty, fault, start and stop.

@@ -21,8 +21,7 @@ use Rattle.portable.specs.Timing.{read_timing, readable, timing_answer}
 use Rattle.portable_text.specs.Line.{line_of}
 use Rattle.portable_text.specs.Numbers.{listed_in}
 use Rattle.portable_text.specs.declared.writing.NotWritten.{NotWritten}
-use Rattle.job_portable.specs.declared.ending.PortableEnded.{PortableEnded}
-use Rattle.job_portable.specs.Ended.{LineEnded, NumbersEnded, numbers_result, numbers_stored, with_answer}
+use Rattle.job_portable.specs.Ended.{LineEnded, NumbersEnded, PortableEnded, numbers_result, numbers_stored, with_answer}
 use Rattle.job_portable.specs.Kept.{AnyBytes, PortableJob, begun, held, job_after, nothing_told}
 use Rattle.job_portable.proofs.FirstBytes.{after-parts, first-bytes}
 

@@ -10,8 +10,12 @@ use Rattle.portable_text.specs.declared.writing.NotWritten.{NotWritten}
 use Rattle.portable_text.specs.declared.writing.NotWritten.TheVariants.{NoList, Refused}
 use Rattle.portable_text.specs.Line.{line_of}
 use Rattle.portable_text.specs.Numbers.{listed_in}
+use Rattle.text.specs.declared.placed.Placed.{Placed}
 use Rattle.text.specs.Lent.{fits, room_answer}
-use Rattle.job_portable.specs.declared.ending.PortableEnded.{PortableEnded}
+
+-- the reader's answer, and where its line ends; with 12 there is a line too
+abbrev pub PortableEnded : Type 0
+PortableEnded = Placed
 
 -- the line of the bytes is asked for: the reader's answer, with the line from the buffer's start on; or 11 where it has no room, and then nothing is put
 pub record LineEnded (bytes out₀ out : List ℕ) (r : PortableEnded) : Type 0 where

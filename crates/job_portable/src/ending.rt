@@ -6,27 +6,22 @@ use crate::keeping::PortableJob;
 use file::Answer;
 use portable::read_timing;
 use portable_text::{NotWritten, timing_line, write_list};
-use text::{plain_text, put};
+use text::{Placed, plain_text, put};
 
-// The reader's answer, and where its line ends in the buffer. No `Result`: with 12 there is a line too, of all numbers 0.
-#[derive(Clone, Copy)]
-pub struct PortableEnded {
-    pub answer: Answer,
-    pub end: usize,
-}
+// The reader's answer, and where its line ends in the buffer. No `Result`: with 12 there is a line too, of all numbers 0, so its end isn't the place given.
+pub type PortableEnded = Placed;
 
 // Puts the line of `bytes` into `out`, from its start on.
 fn line_end(bytes: &[u8], out: &mut [u8]) -> PortableEnded
     ensures { LineEnded bytes.now out.old out.new result }
 {
     let placed = timing_line(out, 0, bytes);
-    let end = placed.end;
     match placed.answer {
-        Answer::Done(_) => PortableEnded {
+        Answer::Done(_) => Placed {
             answer: read_timing(bytes).answer,
-            end,
+            end: placed.end,
         },
-        answer => PortableEnded { answer, end },
+        _ => placed,
     }
 }
 

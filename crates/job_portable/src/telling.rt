@@ -8,10 +8,9 @@ use text::{Placed, plain_text};
 pub fn not_read_line(buffer: &mut [u8], at: usize, code: u8) -> Placed
     ensures { Told (not_read_line code) at buffer.old buffer.new result }
 {
-    if code == 12 {
-        plain_text(buffer, at, b"sedgecoil: code 12: there aren't 28 bytes\n")
-    } else {
-        plain_text(buffer, at, b"sedgecoil: code 11: the line has no room\n")
+    match code {
+        12 => plain_text(buffer, at, b"sedgecoil: code 12: there aren't 28 bytes\n"),
+        _ => plain_text(buffer, at, b"sedgecoil: code 11: the line has no room\n"),
     }
 }
 
@@ -19,32 +18,13 @@ pub fn not_read_line(buffer: &mut [u8], at: usize, code: u8) -> Placed
 fn refusal_line(buffer: &mut [u8], at: usize, code: u8) -> Placed
     ensures { Told (refusal_line code) at buffer.old buffer.new result }
 {
-    if code == 8 {
-        return plain_text(
-            buffer,
-            at,
-            b"sedgecoil: nothing is written, code 8: CR11[7] locks the bytes\n",
-        );
-    }
-    if code == 10 {
-        return plain_text(
-            buffer,
-            at,
-            b"sedgecoil: nothing is written, code 10: a number is out of its range\n",
-        );
-    }
-    if code == 12 {
-        return plain_text(
-            buffer,
-            at,
-            b"sedgecoil: nothing is written, code 12: there aren't 28 bytes\n",
-        );
-    }
-    plain_text(
-        buffer,
-        at,
-        b"sedgecoil: nothing is written, code 11: the bytes have no room\n",
-    )
+    let text: &[u8] = match code {
+        8 => b"sedgecoil: nothing is written, code 8: CR11[7] locks the bytes\n",
+        10 => b"sedgecoil: nothing is written, code 10: a number is out of its range\n",
+        12 => b"sedgecoil: nothing is written, code 12: there aren't 28 bytes\n",
+        _ => b"sedgecoil: nothing is written, code 11: the bytes have no room\n",
+    };
+    plain_text(buffer, at, text)
 }
 
 // Puts the line that tells why nothing was written into `buffer`, from `at` on: the `code` of a list that there was, or else that the text was no list.

@@ -14,14 +14,9 @@ use Rattle.trace.specs.Records.{items, item_count}
 use Rattle.trace.specs.Run.{file_after}
 use Rattle.refusals.specs.Counted.{counted_items, counted_part}
 use Rattle.replaying.specs.Replay.{after_part, part_lines, record_lines}
-use Rattle.feeding.specs.Feeding.{Fed, bytes_of, units_in}
-use Rattle.job_replay.specs.declared.job.TraceFed.{TraceFed}
+use Rattle.feeding.specs.Feeding.{Fed, bytes_of, number_most, units_in}
 use Rattle.job_replay.specs.declared.job.TraceJob.{TraceJob}
-use Rattle.job_replay.specs.Job.{Stepped, WholeRecords, after_bytes, bytes_taken, number_most, records_taken, room_for, step_most, told_of}
-
--- a fragment is a record of the last part
-pub last-units : (length : ℕ) → length / 8 + (length % 8 + 7) / 8 ≡ (length + 7) / 8
-last-units length = omega arith
+use Rattle.job_replay.specs.Job.{Stepped, TraceFed, WholeRecords, after_bytes, bytes_taken, records_taken, room_for, step_most, told_of}
 
 -- so many units have at most a fragment more than their bytes
 units-within : (last : Bool) (part : List ℕ) → 8 * units_in 8 last part ≤ length part + 7

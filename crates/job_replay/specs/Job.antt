@@ -1,17 +1,21 @@
 -- The command `replay` as a job: a trace that is run from power-on, fed in parts, with a line for each record where lines are asked for.
 -- Assumes nothing.
-use Rattle.std.specs.Prelude.{ℕ, ◌+◌, ◌-◌, ◌/◌, ◌%◌, min, Bool, cond, List, [], ◌++◌, ◌≡◌, length, drop}
+use Rattle.std.specs.Prelude.{ℕ, ◌+◌, ◌/◌, ◌%◌, min, Bool, cond, List, [], ◌++◌, ◌≡◌, length, drop}
 use Rattle.file.specs.declared.chip.Chip.{Chip}
 use Rattle.file.specs.File.{power_on}
 use Rattle.file.specs.Sound.{sound}
 use Rattle.timing.specs.Timing.{read_timing}
 use Rattle.trace.specs.Records.{item_count}
 use Rattle.text.specs.Text.{timing_line}
-use Rattle.feeding.specs.Feeding.{Fed, bytes_of, units_in}
+use Rattle.feeding.specs.declared.step.Fed.{Fed as FedOf}
+use Rattle.feeding.specs.Feeding.{Fed, bytes_of, numbers_left, units_in}
 use Rattle.refusals.specs.Counted.{counted_part, none_counted}
 use Rattle.replaying.specs.Replay.{after_part, part_lines}
-use Rattle.job_replay.specs.declared.job.TraceFed.{TraceFed}
 use Rattle.job_replay.specs.declared.job.TraceJob.{TraceJob}
+
+-- what one step leaves: the job after it, how many bytes of the part it used, and where its lines end
+abbrev pub TraceFed : Type 0
+TraceFed = FedOf TraceJob
 
 -- 01, 'It reads a trace on standard input from power-on'; 02, 6/13: of a chip
 unfoldable pub started : Chip → TraceJob
@@ -38,10 +42,6 @@ closing_line job = timing_line (read_timing job.file).timing
 abbrev pub step_most : ℕ
 step_most = 1024
 
--- the largest number that a record has
-abbrev pub number_most : ℕ
-number_most = 0xFFFFFFFFFFFFFFFF
-
 -- how many records' lines have room: a line has at most 30 bytes
 unfoldable pub room_for : Bool → ℕ → ℕ
 room_for prints room = cond prints (room / 30) step_most
@@ -49,7 +49,7 @@ room_for prints room = cond prints (room / 30) step_most
 -- how many records of a part a step takes
 unfoldable pub records_taken : Bool → Bool → TraceJob → List ℕ → ℕ → ℕ
 records_taken prints last job part room =
-    cond (sound job.file) (min (min (units_in 8 last part) step_most) (min (room_for prints room) (number_most - job.number))) 0
+    cond (sound job.file) (min (min (units_in 8 last part) step_most) (min (room_for prints room) (numbers_left job.number))) 0
 
 -- how many bytes
 unfoldable pub bytes_taken : Bool → Bool → TraceJob → List ℕ → List ℕ → ℕ

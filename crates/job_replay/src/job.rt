@@ -3,6 +3,7 @@ ghost use Rattle.std.specs.Prelude.{◌≡◌};
 ghost use Rattle.text.specs.Lent.{Lined, room_answer};
 ghost use Rattle.job_replay.specs.Job.{closing_line, started};
 
+use feeding::Fed;
 use file::{Chip, File};
 use refusals::Refusals;
 use text::{Placed, timing_line};
@@ -17,12 +18,7 @@ pub struct TraceJob {
 }
 
 // What one step leaves: the job after it, how many bytes of the part it used, and where its lines end.
-#[derive(Clone, Copy)]
-pub struct TraceFed {
-    pub job: TraceJob,
-    pub used: usize,
-    pub end: usize,
-}
+pub type TraceFed = Fed<TraceJob>;
 
 // Starts a trace from the power-on of `chip`.
 pub fn start(chip: Chip) -> TraceJob

@@ -7,6 +7,7 @@ ghost use Rattle.job_replay.specs.Job.{Stepped, TraceStep};
 use crate::job::{TraceFed, TraceJob};
 use crate::taking::records_taken;
 use engines::Engine;
+use feeding::Fed;
 use refusals::counting_replies;
 use replaying::run_part;
 
@@ -25,7 +26,7 @@ fn run_some(engine: Engine, prints: bool, before: TraceJob, part: &[u8], out: &m
     let size = 8 * count;
     let refusals = counting_replies(before.refusals, &replies[..size]);
     let file = ran.file;
-    TraceFed {
+    Fed {
         job: TraceJob {
             number: number + count as u64,
             file,
@@ -50,7 +51,7 @@ pub fn feed(
 {
     let records = records_taken(prints, last, before, part, out.len());
     if records == 0 {
-        return TraceFed {
+        return Fed {
             job: before,
             used: 0,
             end: 0,

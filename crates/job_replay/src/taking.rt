@@ -1,20 +1,10 @@
 // How many records of a part one step takes.
-ghost use Rattle.std.specs.Prelude.{◌≡◌, ◌-◌};
-ghost use Rattle.feeding.specs.Feeding.{units_in};
-ghost use Rattle.job_replay.specs.Job.{number_most, records_taken, room_for};
+ghost use Rattle.std.specs.Prelude.{◌≡◌};
+ghost use Rattle.job_replay.specs.Job.{records_taken, room_for};
 
 use crate::job::TraceJob;
+use feeding::{numbers_left, units_in};
 use file::is_sound;
-
-// Counts the whole records of `part`, and in the last part a fragment too.
-fn records_in(part: &[u8], last: bool) -> usize
-    ensures { result ≡ units_in 8 last part.now }
-{
-    if last {
-        return part.len() / 8 + (part.len() % 8 + 7) / 8;
-    }
-    part.len() / 8
-}
 
 // Counts the records whose lines have room in `room` bytes; without lines, as many as one step takes.
 fn room_for(prints: bool, room: usize) -> usize
@@ -26,13 +16,6 @@ fn room_for(prints: bool, room: usize) -> usize
     1024
 }
 
-// Counts the numbers that are left after `number`.
-fn numbers_left(number: u64) -> usize
-    ensures { result ≡ number_most - number }
-{
-    (u64::MAX - number) as usize
-}
-
 // Counts the records that a step takes: of those in `part` at most 1,024, as many as have room and numbers, and none where the file isn't sound.
 pub fn records_taken(prints: bool, last: bool, job: TraceJob, part: &[u8], room: usize) -> usize
     ensures { result ≡ records_taken prints last job part.now room }
@@ -41,7 +24,7 @@ pub fn records_taken(prints: bool, last: bool, job: TraceJob, part: &[u8], room:
         return 0;
     }
     let number = job.number;
-    let records = records_in(part, last).min(1024);
+    let records = units_in(part, 8, last).min(1024);
     let fit = room_for(prints, room).min(numbers_left(number));
     records.min(fit)
 }

@@ -6,7 +6,7 @@ use Rattle.job_geometry.proofs.LinesPut.{lines-placed, lines-refused}
 use Rattle.job_geometry.proofs.ending.geometry_end.Goals as goal
 
 pub returns-then-out-lt256 : goal.returns-then-out-lt256
-returns-then-out-lt256 c = lines-refused (geometry_text (read_geometry c.args.file)) c.args.out.now c.if-out-lt256.true
+returns-then-out-lt256 c = rw c.no_room.ensures (lines-refused (geometry_text (read_geometry c.args.file)) c.args.out.now c.if-out-lt256.true)
 
 pub put_lines-end-requires : goal.put_lines-end-requires
 unfolding geometry_most
@@ -14,6 +14,6 @@ put_lines-end-requires c = omega arith
 
 pub returns : goal.returns
 returns c =
-    rw c.read_geometry-read.ensures at
+    rw c.stored.ensures (rw c.read_geometry-read.ensures at
     (lines-placed (geometry_text c.read_geometry-read.result) c.args.out.now c.if-out-lt256.false c.put_lines-end.ensures.read_len_bound
-    c.put_lines-end.ensures.wrote)
+    c.put_lines-end.ensures.wrote))

@@ -22,13 +22,13 @@ top-fits : (c : goal.After-slice_known-2-1) → SFits w16 c.args.cursor.top.0
 top-fits c = search rules
 
 pub returns : goal.returns
-unfolding cursor_text
+unfolding cursor_text below_zero
 returns c =
     let args = c.args in
     let across = to_z-of_z w16 _ (left-fits c) in
     let down = to_z-of_z w16 _ (top-fits c) in
     let same =
-    same-cursor (c.is_below_zero.ensures ∙ ap below_zero across) (c.is_below_zero-2.ensures ∙ ap below_zero down)
+    same-cursor (ap below_zero across) (ap below_zero down)
     (λ i. (c.from.ensures ∙ as-one _) i
     ∷ (c.magnitude.ensures ∙ ap nat_abs across) i
     ∷ (c.magnitude-2.ensures ∙ ap nat_abs down) i

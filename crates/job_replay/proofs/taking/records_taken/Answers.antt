@@ -11,7 +11,7 @@ returns-then-not-is_sound c = rw (sym c.is_sound.ensures ∙ c.if-not-is_sound.t
 pub returns : goal.returns
 unfolding records_taken
 returns c =
-    let records = c.min-records.ensures ∙ ap (λ (k : ℕ). min k step_most) c.records_in.ensures in
+    let records = c.min-records.ensures ∙ ap (λ (k : ℕ). min k step_most) c.units_in.ensures in
     let fit = c.min-fit.ensures ∙ ap₂ min c.room_for.ensures c.numbers_left.ensures in
     let so = sym c.is_sound.ensures ∙ c.if-not-is_sound.false in
     rw so (c.min.ensures ∙ ap₂ min records fit)
