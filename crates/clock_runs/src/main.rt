@@ -20,7 +20,7 @@ fn file_of(set: [u8; 9]) -> File {
     file
 }
 
-// Only a number has bits here; no rate is another.
+// A rate's bits in hex. `f64::to_bits` takes no NaN: the test keeps one out, though `clock` gives none.
 fn print_bits(rt: &impl Print, hertz: f64) -> io::Result<()> {
     if hertz >= 0.0 {
         let bits = f64::to_bits(hertz);

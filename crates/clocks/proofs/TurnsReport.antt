@@ -2,7 +2,7 @@
 -- Assumes nothing.
 use Rattle.std.specs.Prelude.{Result, Ok}
 use Prim.Native.Nat.{ℕ, ◌+◌, ◌*◌, ◌%◌, ◌^◌, ◌≤◌}
-use mathlib.Core.Bool.{Bool, true, false, true≢false}
+use mathlib.Core.Bool.{true, false, true≢false}
 use mathlib.Core.List.{List, ◌++◌}
 use mathlib.Core.Logic.{◌⊎◌, inl, inr}
 use mathlib.Core.Path.{◌≡◌, refl, sym, ap, ◌∙◌}
@@ -23,12 +23,15 @@ use Rattle.clock_text.specs.declared.tally.Tally.{Tally}
 use Rattle.clock_text.specs.Parts.{Countable, PartReported, counts_fit, part_answer, part_left, sets_fit, summary_answer, summary_most}
 use Rattle.clock_text.specs.Report.{clock_lines, report, summary}
 use Rattle.clock_text.specs.Sets.{no_tally, set_clocks, set_count, tallied}
+use Rattle.bits.proofs.Test.{by-test}
 use Rattle.clock_text.proofs.InParts.{lines-in-parts, sets-in-parts, tally-in-parts}
 use Rattle.shell.specs.Parts.{counted}
 use Rattle.shell.proofs.Bounds.{counts}
 use Rattle.clocks.specs.declared.course.Course.{Course}
+use Rattle.clocks.specs.declared.course.Going.{Going}
+use Rattle.clocks.specs.declared.course.Going.TheVariants.{More, Ended, Failed}
 use Rattle.clocks.specs.declared.course.Turn.{Turn}
-use Rattle.clocks.specs.Turns.{Came, Turned, Turns, beginning, course_after, course_of, failed_after, sets_of, turn_lines}
+use Rattle.clocks.specs.Turns.{Came, Turned, Turns, beginning, course_after, course_of, failed_after, going_behind, has_failed, has_more, sets_of, turn_lines}
 use Rattle.clocks.specs.Turns.Turns.{none, then, uncounted, unread, unwritten}
 use Rattle.clocks.proofs.Bounds.{part-within}
 
@@ -64,10 +67,10 @@ module _ (before : Course) (part lines₀ lines : List ℕ) (r : Result SetsPart
     unfolding part_left
     ended = ap (λ (x : SetsPart). x.end) parts
 
-    pub turn-done : (more : Bool) → more ≡ eqb (length part) 6144
-        → Turned before part lines₀ lines (record { end = p.end; course = record { tally = p.tally; more = more; failed = false; read = before.read; handed = before.handed } })
+    pub turn-done : (going : Going) → going ≡ going_behind (length part)
+        → Turned before part lines₀ lines (record { end = p.end; course = record { tally = p.tally; going = going; read = before.read; handed = before.handed } })
     unfolding course_after turn_lines placed_by refused code_of part_left
-    turn-done more full =
+    turn-done going full =
         record {
           end = ended;
           course = rw (parts, full) refl;
@@ -85,11 +88,24 @@ pub lines-within : {before : Course} {part lines₀ lines : List ℕ} {r : Turn}
 lines-within {before} {part} {lines₀} {lines} {r} t =
     counts lines r.end (omega (arith, t.end, ap length t.printed ∙ length-append (turn_lines part) (drop r.end lines₀)))
 
+-- a part behind which there is more to read is a whole buffer, one behind which there isn't is none, and neither has failed
+pub behind-more : (size : ℕ) → has_more (going_behind size) ≡ true → size ≡ 6144
+unfolding has_more going_behind
+behind-more size more = by-test (eqb size 6144) (λ e. eqb-true size 6144 e) (λ e. absurd (true≢false (sym (rw e at more))))
+
+behind-last : (size : ℕ) → has_more (going_behind size) ≡ false → size ≡ 6144 → ⊥
+unfolding has_more going_behind
+behind-last size last = by-test (eqb size 6144) (λ e. absurd (true≢false (rw e at last))) (λ e. eqb-false size 6144 e)
+
+behind_unfailed : (size : ℕ) → has_failed (going_behind size) ≡ false
+unfolding has_failed going_behind
+behind_unfailed size = by-test (eqb size 6144) (λ e. rw e refl) (λ e. rw e refl)
+
 -- a course with more to read has not failed
-pub more-unfailed : {input text : List ℕ} {r : Course} → Turns input text r → r.more ≡ true → r.failed ≡ false
-unfolding beginning course_after failed_after
+pub more-unfailed : {input text : List ℕ} {r : Course} → Turns input text r → has_more r.going ≡ true → has_failed r.going ≡ false
+unfolding beginning course_after failed_after has_more has_failed
 more-unfailed none more = refl
-more-unfailed (then part read handed turns brought on) more = refl
+more-unfailed (then part read handed turns brought on) more = behind_unfailed (length part)
 more-unfailed (unread part read turns brought) more = absurd (true≢false (sym more))
 more-unfailed (unwritten part read handed turns brought on) more = absurd (true≢false (sym more))
 more-unfailed (uncounted turns goes many) more = absurd (true≢false (sym more))
@@ -98,11 +114,11 @@ more-unfailed (uncounted turns goes many) more = absurd (true≢false (sym more)
 pub record Stands (input text : List ℕ) (r : Course) : Type 0 where
   pub tally : r.tally ≡ tallied no_tally (set_clocks input)
   pub printed : text ≡ clock_lines (set_clocks input)
-  pub whole : r.more ≡ true → length input % 6144 ≡ 0
-  pub last : r.more ≡ false → r.read.count ≡ length input % 6144
+  pub whole : has_more r.going ≡ true → length input % 6144 ≡ 0
+  pub last : has_more r.going ≡ false → r.read.count ≡ length input % 6144
 
-pub turns-stand : {input text : List ℕ} {r : Course} → Turns input text r → r.failed ≡ false → Stands input text r
-unfolding beginning course_after failed_after turn_lines set_clocks clock_lines tallied
+pub turns-stand : {input text : List ℕ} {r : Course} → Turns input text r → has_failed r.going ≡ false → Stands input text r
+unfolding beginning course_after failed_after has_more has_failed turn_lines set_clocks clock_lines tallied
 turns-stand (unread part read turns brought) e = absurd (true≢false e)
 turns-stand (unwritten part read handed turns brought on) e = absurd (true≢false e)
 turns-stand (uncounted turns goes many) e = absurd (true≢false e)
@@ -119,15 +135,15 @@ turns-stand (then {input} {text} {before} part read handed turns brought on) e =
           ap (λ (l : List ℕ). l ++ clock_lines (set_clocks part)) held.printed
           ∙ sym (lines-in-parts (set_clocks input) (set_clocks part)) ∙ ap clock_lines (sym both);
       whole =
-          λ more. let full : length part ≡ 6144 = eqb-true _ _ more in
+          λ more. let full : length part ≡ 6144 = behind-more (length part) more in
           rw length-append (omega (arith, parts, full));
       last =
-          λ more. let short : length part ≡ 6144 → ⊥ = eqb-false _ _ more in
+          λ more. let short : length part ≡ 6144 → ⊥ = behind-last (length part) more in
           rw length-append (omega (arith, parts, short, brought.within, brought.count));
     }
 
 -- 02, 12/13: 'prints a line for each .., then the counts .., and the largest and smallest rate'
-pub turns-report : {input text : List ℕ} {r : Course} → Turns input text r → r.failed ≡ false → text ++ summary r.tally ≡ report input
+pub turns-report : {input text : List ℕ} {r : Course} → Turns input text r → has_failed r.going ≡ false → text ++ summary r.tally ≡ report input
 unfolding report
 turns-report turns e =
     let held = turns-stand turns e in
@@ -150,26 +166,33 @@ turns-counted (unwritten {input} {text} part read handed turns brought on) =
 turns-counted (uncounted turns goes many) = turns-counted turns
 
 -- a course that has failed has a read or a write that failed, or as many sets that 64 bits have no number for a buffer of them more
-pub turns-failed : {input text : List ℕ} {r : Course} → Turns input text r → r.failed ≡ true
+pub turns-failed : {input text : List ℕ} {r : Course} → Turns input text r → has_failed r.going ≡ true
     → (r.read.failed ≡ true) ⊎ ((r.handed.failed ≡ true) ⊎ (2 ^ 64 ≤ sets_of r.tally + 2048))
-unfolding beginning course_after failed_after
+unfolding beginning course_after failed_after has_failed
 turns-failed none e = absurd (true≢false (sym e))
-turns-failed (then part read handed turns brought on) e = absurd (true≢false (sym e))
+turns-failed (then part read handed turns brought on) e = absurd (true≢false (sym e ∙ behind_unfailed (length part)))
 turns-failed (unread part read turns brought) e = inl brought.so
 turns-failed (unwritten part read handed turns brought on) e = inr (inl on.so)
 turns-failed (uncounted turns goes many) e = inr (inr many)
 
 -- and where nothing failed, no read and no write did
-pub turns-unfailed : {input text : List ℕ} {r : Course} → Turns input text r → r.failed ≡ false → (r.read.failed ≡ false) × (r.handed.failed ≡ false)
-unfolding beginning course_after failed_after
+pub turns-unfailed : {input text : List ℕ} {r : Course} → Turns input text r → has_failed r.going ≡ false → (r.read.failed ≡ false) × (r.handed.failed ≡ false)
+unfolding beginning course_after failed_after has_failed
 turns-unfailed none e = (refl, refl)
 turns-unfailed (then part read handed turns brought on) e = (brought.so, on.so)
 turns-unfailed (unread part read turns brought) e = absurd (true≢false e)
 turns-unfailed (unwritten part read handed turns brought on) e = absurd (true≢false e)
 turns-unfailed (uncounted turns goes many) e = absurd (true≢false e)
 
+-- a course with no more to read that has not failed has ended
+has-ended : (going : Going) → has_more going ≡ false → has_failed going ≡ false → going ≡ Ended
+unfolding has_more has_failed
+has-ended More more failed = absurd (true≢false more)
+has-ended Ended more failed = refl
+has-ended Failed more failed = absurd (true≢false failed)
+
 -- a course that came to its end without a failure is a function of the input that was read
-pub course-of : {r : Course} (c : Came r) → r.failed ≡ false → r ≡ course_of c.input
+pub course-of : {r : Course} (c : Came r) → has_failed r.going ≡ false → r ≡ course_of c.input
 unfolding course_of
 course-of {r} c e =
     let held = turns-stand c.turns e in
@@ -177,8 +200,7 @@ course-of {r} c e =
     let good = turns-unfailed c.turns e in
     λ i. record {
       tally = held.tally i;
-      more = c.ended i;
-      failed = e i;
+      going = has-ended r.going c.ended e i;
       read = record { count = held.last c.ended i; failed = good.0 i; all = all.0 i };
       handed = record { all = (all.1 ∙ ap (λ (l : List ℕ). length l % 2 ^ 64) held.printed) i; failed = good.1 i };
     }

@@ -8,28 +8,45 @@ use Rattle.clock_text.specs.declared.tally.Tally.{Tally}
 use Rattle.clock_text.specs.Report.{clock_lines}
 use Rattle.clock_text.specs.Sets.{no_tally, set_clocks, tallied}
 use Rattle.clocks.specs.declared.course.Course.{Course}
+use Rattle.clocks.specs.declared.course.Going.{Going}
+use Rattle.clocks.specs.declared.course.Going.TheVariants.{More, Ended, Failed}
 use Rattle.clocks.specs.declared.course.Turn.{Turn}
+
+-- there is more to read; something failed
+unfoldable pub has_more : Going → Bool
+has_more More = true
+has_more Ended = false
+has_more Failed = false
+
+unfoldable pub has_failed : Going → Bool
+has_failed More = false
+has_failed Ended = false
+has_failed Failed = true
+
+-- a part that is no whole buffer is the last
+unfoldable pub going_behind : ℕ → Going
+going_behind size = cond (eqb size 6144) More Ended
 
 -- what fails ends the course and leaves the rest of it
 unfoldable pub failed_after : Course → Course
-failed_after before = record { tally = before.tally; more = false; failed = true; read = before.read; handed = before.handed }
+failed_after before = record { tally = before.tally; going = Failed; read = before.read; handed = before.handed }
 
 -- where there is more to read and no turn is left, the course fails
 unfoldable pub over_after : Course → Course
-over_after before = cond before.more (failed_after before) before
+over_after before = cond (has_more before.going) (failed_after before) before
 
 -- the course with what was read
 abbrev pub with_read : Filled → Course → Course
-with_read read c = record { tally = c.tally; more = c.more; failed = c.failed; read = read; handed = c.handed }
+with_read read c = record { tally = c.tally; going = c.going; read = read; handed = c.handed }
 
 -- the lines that a turn makes of the part that was read
 unfoldable pub turn_lines : List ℕ → List ℕ
 turn_lines part = clock_lines (set_clocks part)
 
--- the course after it, with what was read and what was handed to be written; a part that is not a whole buffer is the last
+-- the course after it, with what was read and what was handed to be written
 unfoldable pub course_after : Filled → Handed → Course → List ℕ → Course
 course_after read handed before part =
-    record { tally = tallied before.tally (set_clocks part); more = eqb (length part) 6144; failed = false; read = read; handed = handed }
+    record { tally = tallied before.tally (set_clocks part); going = going_behind (length part); read = read; handed = handed }
 
 -- one turn, a function of the course before, the part that was read and the buffer: where its lines end, the course after it, and every byte
 -- of the buffer. It neither reads nor writes
@@ -42,15 +59,14 @@ unfoldable pub beginning : Course
 beginning =
     record {
       tally = no_tally;
-      more = true;
-      failed = false;
+      going = More;
       read = record { count = 0; failed = false; all = 0 };
       handed = record { all = 0; failed = false };
     }
 
 -- the part of a turn was read, from a course with more to read, or reading failed behind it: what came back counts it
 pub record Brought (failed : Bool) (before : Course) (part : List ℕ) (read : Filled) : Type 0 where
-  pub goes : before.more ≡ true
+  pub goes : has_more before.going ≡ true
   pub count : read.count ≡ length part
   pub within : length part ≤ 6144
   pub all : read.all ≡ counted before.read.all (length part)
@@ -78,7 +94,7 @@ pub data Turns : List ℕ → List ℕ → Course → Type 0 where
   unwritten : {input text : List ℕ} {before : Course} (part : List ℕ) (read : Filled) (handed : Handed) → Turns input text before
       → Brought false before part read → HandedOn true before part handed
       → Turns (input ++ part) (text ++ turn_lines part) (failed_after (course_after read handed before part))
-  uncounted : {input text : List ℕ} {before : Course} → Turns input text before → before.more ≡ true → 2 ^ 64 ≤ sets_of before.tally + 2048
+  uncounted : {input text : List ℕ} {before : Course} → Turns input text before → has_more before.going ≡ true → 2 ^ 64 ≤ sets_of before.tally + 2048
       → Turns input text (failed_after before)
 
 -- the course that a run comes to: by some turns, until there is no more to read. Which bytes the system reads and writes no contract says
@@ -86,15 +102,14 @@ pub record Came (r : Course) : Type 0 where
   pub input : List ℕ
   pub text : List ℕ
   pub turns : Turns input text r
-  pub ended : r.more ≡ false
+  pub ended : has_more r.going ≡ false
 
 -- the course that a whole input leads to if nothing fails
 unfoldable pub course_of : List ℕ → Course
 course_of input =
     record {
       tally = tallied no_tally (set_clocks input);
-      more = false;
-      failed = false;
+      going = Ended;
       read = record { count = length input % 6144; failed = false; all = length input % 2 ^ 64 };
       handed = record { all = length (clock_lines (set_clocks input)) % 2 ^ 64; failed = false };
     }

@@ -4,7 +4,7 @@ ghost use Rattle.io.specs.Counts.{IsPrefixLen};
 ghost use Rattle.shell.specs.Parts.{counted};
 ghost use Rattle.clock_text.specs.Parts.{Countable, summary_most};
 ghost use Rattle.clock_text.specs.Report.{summary};
-ghost use Rattle.clocks.specs.Turns.{Came, Turned, beginning, failed_after, over_after};
+ghost use Rattle.clocks.specs.Turns.{Came, Turned, beginning, failed_after, going_behind, has_failed, has_more, over_after};
 
 use clock_text::{Tally, report_part, summary_lines};
 use shell::{Filled, Handed, fill, nothing_handed, nothing_read, tell, write_out};
@@ -13,15 +13,40 @@ use std::io::Read;
 // So many buffers of 2,048 sets a count of 64 bits has numbers for.
 const TURNS: u64 = u64::MAX / 2048;
 
-// How far a run has come: what was counted, whether there is more to read, whether something failed, what was read and what was handed to
-// be written. No `Result`: of a course that failed too `turns-counted` promises what was read and handed on.
+// How a course goes on: there is more to read, the input has ended, or something failed.
+#[derive(Clone, Copy)]
+pub enum Going {
+    More,
+    Ended,
+    Failed,
+}
+
+// How far a run has come: what was counted, how it goes on, what was read and what was handed to be written. No `Result`: of a course that
+// failed too `turns-counted` promises what was read and handed on.
 #[derive(Clone, Copy)]
 pub struct Course {
     pub tally: Tally,
-    pub more: bool,
-    pub failed: bool,
+    pub going: Going,
     pub read: Filled,
     pub handed: Handed,
+}
+
+impl Course {
+    // Whether there is more to read.
+    #[tactic(auto, unfolding(crate::specs::Turns::has_more))]
+    fn has_more(self) -> bool
+        ensures { result ≡ has_more self.going }
+    {
+        matches!(self.going, Going::More)
+    }
+
+    // Whether something failed.
+    #[tactic(auto, unfolding(crate::specs::Turns::has_failed))]
+    fn has_failed(self) -> bool
+        ensures { result ≡ has_failed self.going }
+    {
+        matches!(self.going, Going::Failed)
+    }
 }
 
 // One turn: where its lines end, and the course after it.
@@ -37,8 +62,7 @@ fn begin() -> Course
 {
     Course {
         tally: Tally::none(),
-        more: true,
-        failed: false,
+        going: Going::More,
         read: nothing_read(),
         handed: nothing_handed(),
     }
@@ -49,8 +73,7 @@ fn failed(before: Course) -> Course
     ensures { result ≡ failed_after before }
 {
     Course {
-        more: false,
-        failed: true,
+        going: Going::Failed,
         ..before
     }
 }
@@ -59,7 +82,7 @@ fn failed(before: Course) -> Course
 fn over(err: &impl Print, before: Course) -> Course
     ensures { result ≡ over_after before }
 {
-    if before.more {
+    if before.has_more() {
         tell(err, b"clocks", b": more sets than there are numbers");
         return failed(before);
     }
@@ -80,6 +103,18 @@ fn read_some<I: Read>(
     fill(from, err, b"clocks", before, input)
 }
 
+// How a course goes on behind so many bytes: fewer than a buffer has are the last.
+#[tactic(auto, unfolding(crate::specs::Turns::going_behind))]
+fn going_behind(size: usize) -> Going
+    ensures { result ≡ going_behind size }
+{
+    if size == 6144 {
+        Going::More
+    } else {
+        Going::Ended
+    }
+}
+
 // One turn, a function of the bytes that were read: their sets are counted, and their lines stand from the start of a buffer on.
 fn count_some(before: Course, input: &[u8], lines: &mut [u8; 30720]) -> Turn
     requires input_len_bound { length input.now ≤ 6144 }
@@ -93,8 +128,7 @@ fn count_some(before: Course, input: &[u8], lines: &mut [u8; 30720]) -> Turn
         end: part.end,
         course: Course {
             tally: part.tally,
-            more: input.len() == 6144,
-            failed: false,
+            going: going_behind(input.len()),
             ..before
         },
     }
@@ -109,7 +143,7 @@ fn count_input(rt: &(impl Input + Print), err: &impl Print) -> Course
     let mut lines = [0u8; 30720];
     let mut course = begin();
     for _ in 0..TURNS {
-        if !course.more {
+        if !course.has_more() {
             break;
         }
         course.read = read_some(&mut from, err, course.read, &mut input);
@@ -139,7 +173,7 @@ fn summary_end(tally: Tally, lines: &mut [u8]) -> usize
 // Counts the sets on standard input, prints a line for each on standard output, and then the summary.
 pub fn count_clocks(rt: &(impl Input + Print), err: &impl Print) {
     let course = count_input(rt, err);
-    if course.failed {
+    if course.has_failed() {
         return;
     }
     let mut lines = [0u8; 131];

@@ -24,7 +24,7 @@ pub enum Going {
 }
 
 // How far a run has come: how many records there were, how it goes on, what was read and what was handed to be written, the file after the
-// records, and their summary, where they are summed.
+// records, and their summary, where they are summed. No `Option<Summary>` in place of `sums`: each step would ask it as it asks the bool.
 #[derive(Clone, Copy)]
 pub struct Course {
     pub number: u64,
@@ -37,25 +37,19 @@ pub struct Course {
 
 impl Course {
     // Whether there is more to read.
+    #[tactic(auto, unfolding(crate::specs::Turns::has_more))]
     fn has_more(self) -> bool
         ensures { result ≡ has_more self.going }
     {
-        match self.going {
-            Going::More => true,
-            Going::Ended => false,
-            Going::Failed => false,
-        }
+        matches!(self.going, Going::More)
     }
 
     // Whether something failed.
+    #[tactic(auto, unfolding(crate::specs::Turns::has_failed))]
     pub fn has_failed(self) -> bool
         ensures { result ≡ has_failed self.going }
     {
-        match self.going {
-            Going::More => false,
-            Going::Ended => false,
-            Going::Failed => true,
-        }
+        matches!(self.going, Going::Failed)
     }
 }
 
@@ -115,7 +109,7 @@ fn read_record<I: Read>(
     fill(input, err, b"explain", before, bytes)
 }
 
-// What is told of a record, from the start of a buffer on, and where it ends. That of the job stores behind what stands in a buffer already.
+// What is told of a record, from the start of a buffer on, and where it ends; `job_explain::put_told` stores behind what stands in a buffer already.
 fn told_end(sums: bool, number: u64, file: File, item: Item, lines: &mut [u8]) -> usize
     requires { record_most ≤ length lines.old }
     ensures prefix_len { IsPrefixLen result lines.new }
@@ -129,6 +123,7 @@ fn told_end(sums: bool, number: u64, file: File, item: Item, lines: &mut [u8]) -
 }
 
 // How a course goes on behind so many bytes: fewer than a record has are the last.
+#[tactic(auto, unfolding(crate::specs::Turns::going_behind))]
 fn going_behind(size: usize) -> Going
     ensures { result ≡ going_behind size }
 {
@@ -165,7 +160,7 @@ fn tell_input(rt: &(impl Input + Print), err: &impl Print, chip: Chip, sums: boo
     let mut bytes = [0u8; 8];
     let mut lines = [0u8; 3360];
     let mut course = begin(chip);
-    for _turn in 0..u64::MAX {
+    for _ in 0..u64::MAX {
         if !course.has_more() {
             return course;
         }

@@ -7,7 +7,7 @@ use file::{Chip, File};
 use std::io;
 use std::rt::Env;
 
-// A sum that hangs on the order.
+// A sum that hangs on the order. `measured` has the same one: no library crate has a use for it that both could share.
 fn mix(sum: u64, more: u64) -> u64 {
     (sum % 0x1_0000_0000) * 31 + more % 0x1_0000_0000
 }

@@ -1,15 +1,15 @@
 -- Counting the numbers that moved, and tables of which no such element is. Assumes nothing.
 use Prim.Native.Nat.{ℕ, ◌+◌, ◌≤◌}
-use mathlib.Core.Bool.{Bool, true, false, not}
+use mathlib.Core.Bool.{Bool, true, false, cond, not}
 use mathlib.Core.List.{List, [], ◌∷◌, ◌++◌}
-use mathlib.Core.Path.{◌≡◌, refl}
+use mathlib.Core.Path.{◌≡◌, refl, sym, ap₂, ◌∙◌}
 use native.Mathlib.Omega.{arith}
 use borrow.Author.Tests.{ne_eqb}
 use lib.Dec.{eqb}
 use lib.ListN.{length}
 use lib.Seq.{set_out}
-use Rattle.std.specs.Int.{from_bool}
-use Rattle.bits.proofs.Test.{by-test}
+use Rattle.std.specs.List.{count_by, zip}
+use Rattle.std.proofs.lemmas.List.Sums.{sum_by-cons}
 use Rattle.file.specs.declared.registers.File.{File}
 use Rattle.file.specs.Registers.{register_count}
 use Rattle.access.specs.declared.record.Item.{Item}
@@ -21,30 +21,18 @@ use Rattle.summing.specs.declared.summary.Summary.{Summary}
 use Rattle.summing.specs.Summed.{code_count, coded, reached, summed, taken_all, taken_in}
 use Rattle.summing.specs.Together.{differing, moved_count, together, together_count, together_line, together_text}
 
--- one number more
-pub next-moved : (x y : ℕ) (old new olds news : List ℕ) → olds ≡ x ∷ old → news ≡ y ∷ new
-    → from_bool (not (eqb x y)) + moved_count old new ≡ moved_count olds news
+-- the numbers that moved are the pairs that differ
+pub moved_counted : (old new : List ℕ) → moved_count old new ≡ count_by (λ x. not (eqb x.0 x.1)) (zip old new)
 unfolding moved_count differing
-next-moved x y old new olds news e f = rw (e, f, told x y) refl
+moved_counted [] new = refl
+moved_counted (x ∷ old) [] = refl
+moved_counted (x ∷ old) (y ∷ new) =
+    ap₂ (λ (a b : ℕ). a + b) (told (eqb x y)) (moved_counted old new)
+    ∙ sym (sum_by-cons (λ z. cond (not (eqb z.0 z.1)) 1 0) (x, y) (zip old new))
   where
-    told : (a b : ℕ) → from_bool (not (eqb a b)) ≡ differing a b
-    told a b = by-test (eqb a b) (λ t. rw t refl) (λ t. rw t refl)
-
--- behind the last of either there is none
-pub first-empty : (old new : List ℕ) → length old ≡ 0 → moved_count old new ≡ 0
-unfolding moved_count
-first-empty [] new e = refl
-first-empty (x ∷ old) new e = absurd (omega (arith, e))
-
-pub second-empty : (old new : List ℕ) → length new ≡ 0 → moved_count old new ≡ 0
-unfolding moved_count
-second-empty [] new e = refl
-second-empty (x ∷ old) [] e = refl
-second-empty (x ∷ old) (y ∷ new) e = absurd (omega (arith, e))
-
-pub one_at_most : (b : Bool) → from_bool b ≤ 1
-one_at_most true = omega arith
-one_at_most false = omega arith
+    told : (b : Bool) → ◌≡◌ {A = ℕ} (cond b 0 1) (cond (not b) 1 0)
+    told true = refl
+    told false = refl
 
 -- a register, or a code, that there isn't
 pub no_register : (s : Summary) (number bits moved : ℕ) → (bits ≡ 0 → ⊥) → length s.writes ≡ register_count → length s.reaches ≡ register_count

@@ -1,9 +1,9 @@
 // The records in which a number moved together with another one.
-ghost use Rattle.std.specs.Prelude.{◌≡◌, ◌+◌, ◌≤◌, ◌<◌, length};
+ghost use Rattle.std.specs.Prelude.{◌≡◌, ◌+◌, ◌≤◌, ◌<◌, ◌==◌, count_by, length, not, zip};
 ghost use Rattle.text.specs.Lent.{Lined, Wrote};
 ghost use Rattle.explaining.specs.Lines.{lines_of};
 ghost use Rattle.explaining.specs.Moves.{number_count};
-ghost use Rattle.summing.specs.Together.{moved_count, moved_line, moved_together, together, together_answer, together_count, together_line, together_most, together_text};
+ghost use Rattle.summing.specs.Together.{moved_line, moved_together, together, together_answer, together_count, together_line, together_most, together_text};
 
 use access::Item;
 use explaining::{Case, Line, NUMBERS, case_of, choose, first_line, number_line, put_lines};
@@ -15,13 +15,12 @@ const MOST: usize = 2560;
 
 // How many numbers moved.
 fn moved_count(old: [u32; NUMBERS], new: [u32; NUMBERS]) -> usize
-    ensures { result ≡ moved_count old new }
+    ensures { result ≡ count_by (λ x. not (x.0 == x.1)) (zip old new) }
 {
-    let mut count = 0;
-    for (before, after) in old.iter().zip(new.iter()) {
-        count += usize::from(before != after);
-    }
-    count
+    old.iter()
+        .zip(new.iter())
+        .filter(|(before, after)| before != after)
+        .count()
 }
 
 fn is_together(case: Case) -> bool

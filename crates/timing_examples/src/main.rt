@@ -1,36 +1,50 @@
 // 01's examples P9 to P11, run over the compiled code and printed, on each chip.
 #![tactic(auto)]
 
-ghost use Rattle.std.specs.Prelude.{◌≡◌, ◌+◌, ◌^◌, ◌<◌};
-ghost use Rattle.paper.specs.Examples.{blanked as blankedNumbers, mode12, started};
+ghost use Rattle.std.specs.Prelude.{◌≡◌, ◌+◌, ◌^◌, ◌<◌, fold};
+ghost use Rattle.paper.specs.Examples.{blanked as blankedNumbers, mode12, set_register, started};
 ghost use Rattle.timing.specs.Timing.{timing_of};
 
-use file::{Chip, File};
+use file::{CR0, CR1B, Chip, E0, E4, File};
 use paper::{opened, set_register};
 use std::io;
 use timing::{Clocks, Scanlines, Timing, read_timing, write_timing};
+
+// The registers of P9 and what each holds, in the order in which they are set: CR18 down to CR0.
+const MODE_12H: [(usize, u16); 16] = [
+    (CR0 + 0x18, 0xFF),
+    (CR0 + 0x16, 0x04),
+    (CR0 + 0x15, 0xE7),
+    (CR0 + 0x13, 0x28),
+    (CR0 + 0x12, 0xDF),
+    (CR0 + 0x11, 0x8C),
+    (CR0 + 0x10, 0xEA),
+    (CR0 + 0x09, 0x40),
+    (CR0 + 0x07, 0x3E),
+    (CR0 + 0x06, 0x0B),
+    (CR0 + 0x05, 0x80),
+    (CR0 + 0x04, 0x54),
+    (CR0 + 0x03, 0x82),
+    (CR0 + 0x02, 0x50),
+    (CR0 + 0x01, 0x4F),
+    (CR0, 0x5F),
+];
+
+// Registers set one after the other, each to its value.
+fn set_registers(file: File, settings: &[(usize, u16)]) -> File
+    ensures { result ≡ fold (λ f s. set_register s.0 s.1 f) file settings.now }
+{
+    settings.iter().fold(
+        file,
+        |set, (number, value)| set_register(set, *number, *value),
+    )
+}
 
 // P9: 'IBM mode 12h'.
 fn mode_12h(chip: Chip) -> File
     ensures { result ≡ started chip mode12 }
 {
-    let file = opened(chip);
-    let file = set_register(file, 49, 0xFF); // CR18
-    let file = set_register(file, 47, 0x04); // CR16
-    let file = set_register(file, 46, 0xE7); // CR15
-    let file = set_register(file, 44, 0x28); // CR13
-    let file = set_register(file, 43, 0xDF); // CR12
-    let file = set_register(file, 42, 0x8C); // CR11
-    let file = set_register(file, 41, 0xEA); // CR10
-    let file = set_register(file, 34, 0x40); // CR9
-    let file = set_register(file, 32, 0x3E); // CR7
-    let file = set_register(file, 31, 0x0B); // CR6
-    let file = set_register(file, 30, 0x80); // CR5
-    let file = set_register(file, 29, 0x54); // CR4
-    let file = set_register(file, 28, 0x82); // CR3
-    let file = set_register(file, 27, 0x50); // CR2
-    let file = set_register(file, 26, 0x4F); // CR1
-    set_register(file, 25, 0x5F) // CR0
+    set_registers(opened(chip), &MODE_12H)
 }
 
 // The timing of mode 12h, its horizontal blanking of so many clocks.
@@ -92,12 +106,12 @@ fn print_examples(rt: &impl Print, chip: Chip) -> io::Result<()> {
     rt.println("P10")?;
     print_written(rt, opened(chip), blanked(64))?;
     print_written(rt, opened(chip), blanked(65))?;
-    let wide = set_register(opened(chip), 52, 0x20); // CR1B
+    let wide = set_register(opened(chip), CR1B, 0x20);
     print_written(rt, wide, blanked(256))?;
     print_written(rt, wide, blanked(257))?;
     rt.println("P11")?;
-    let preset = set_register(opened(chip), 97, 0x0A00); // E4
-    print_cursor(rt, set_register(preset, 95, 0x0005)) // E0
+    let preset = set_register(opened(chip), E4, 0x0A00);
+    print_cursor(rt, set_register(preset, E0, 0x0005))
 }
 
 fn main(rt: HostRuntime) -> io::Result<()> {

@@ -1,8 +1,7 @@
 -- Turns lead to the course that `count_input` gives. Assumes nothing.
 use Rattle.std.proofs.Common.{◌≡◌, ◌+◌, ◌-◌, ◌<◌, take, sym, ◌∙◌, arith}
-use borrow.Author.Tests.{not-true, not-false}
 use Rattle.clocks.proofs.Coming.{brought, came-last, came-stopped, came-unread, came-unwritten, coming-countable, coming-none, coming-on}
-use Rattle.clocks.proofs.course.count_input.Goals.{else-loop-test, then-loop-test+then-not-course}
+use Rattle.clocks.proofs.course.count_input.Goals.{else-loop-test, then-loop-test+then-not-has_more}
 use Rattle.clocks.proofs.course.count_input.Goals as goal
 
 pub loop-init : goal.loop-init
@@ -12,7 +11,7 @@ pub returns-then-has_failed : goal.returns-then-has_failed
 returns-then-has_failed g c =
     let read = c.read_some-course.ensures in
     came-unread (take c.read_some-course.result.count c.read_some-course.new.input) c.read_some-course.result _ c.loop.invariant
-    (brought (not-false _ c.if-not-course.false) read.prefix_len.1 (read.count_bound, read.all_value) c.has_failed.ensures c.if-has_failed.true) c.failed.ensures
+    (brought (sym c.has_more.ensures ∙ c.if-not-has_more.false) read.prefix_len.1 (read.count_bound, read.all_value) c.has_failed.ensures c.if-has_failed.true) c.failed.ensures
 
 pub count_some-turn-requires-clause-countable : goal.count_some-turn-requires-clause-countable
 count_some-turn-requires-clause-countable g c =
@@ -23,7 +22,7 @@ pub returns-then-has_failed-2 : goal.returns-then-has_failed-2
 returns-then-has_failed-2 g c =
     let read = c.read_some-course.ensures in
     came-unwritten c.read_some-course.result _ _ _ c.count_some-turn.result c.write_out-course.result c.loop.invariant c.count_some-turn.ensures
-    (brought (not-false _ c.if-not-course.false) read.prefix_len.1 (read.count_bound, read.all_value) c.has_failed.ensures c.if-has_failed.false)
+    (brought (sym c.has_more.ensures ∙ c.if-not-has_more.false) read.prefix_len.1 (read.count_bound, read.all_value) c.has_failed.ensures c.if-has_failed.false)
     c.write_out-course.ensures (sym c.has_failed-in-loop.ensures ∙ c.if-has_failed-2.true) _ c.failed-then-has_failed-2.ensures
 
 pub loop-preserved : goal.loop-preserved
@@ -33,7 +32,7 @@ loop-preserved g c =
     let less : 9007199254740991 - (c.loop.counter + 1) ≡ 9007199254740991 - c.loop.counter - 1 = omega arith in
     rw less
     (coming-on c.read_some-course.result _ _ _ c.count_some-turn.result c.write_out-course.result c.loop.invariant c.count_some-turn.ensures
-    (brought (not-false _ c.if-not-course.false) read.prefix_len.1 (read.count_bound, read.all_value) c.has_failed.ensures c.if-has_failed.false)
+    (brought (sym c.has_more.ensures ∙ c.if-not-has_more.false) read.prefix_len.1 (read.count_bound, read.all_value) c.has_failed.ensures c.if-has_failed.false)
     c.write_out-course.ensures (sym c.has_failed-in-loop.ensures ∙ c.if-has_failed-2.false) some)
 
 pub returns : goal.returns
@@ -42,5 +41,5 @@ returns g c =
       | else-loop-test w ↦
           (let none : 9007199254740991 - c.loop.counter ≡ 0 = omega arith in
           came-last (rw none at c.loop.invariant) _ c.over.ensures)
-      | then-loop-test+then-not-course w ↦ came-stopped c.loop.invariant (not-true _ w.if-not-course.true) _ c.over.ensures
+      | then-loop-test+then-not-has_more w ↦ came-stopped c.loop.invariant (sym w.has_more.ensures ∙ w.if-not-has_more.true) _ c.over.ensures
     ]

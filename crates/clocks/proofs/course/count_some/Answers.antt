@@ -1,5 +1,4 @@
 -- `count_some` counts a part of the input: a turn. Assumes nothing.
-use mathlib.Core.Path.{refl}
 use native.Mathlib.Omega.{arith}
 use Rattle.clocks.proofs.TurnsReport.{part-told, turn-done}
 use Rattle.clocks.proofs.course.count_some.Goals as goal
@@ -10,4 +9,4 @@ unreachable-requires c =
 
 pub returns : goal.returns
 returns c =
-    turn-done c.args.before _ _ _ c.report_part.result c.requires.input_len_bound c.requires.countable (omega arith) c.report_part.ensures c.in-Ok.part c.in-Ok.is _ refl
+    turn-done c.args.before _ _ _ c.report_part.result c.requires.input_len_bound c.requires.countable (omega arith) c.report_part.ensures c.in-Ok.part c.in-Ok.is _ c.going_behind.ensures
