@@ -7,3 +7,4 @@ pub mod Shown
 pub mod Refused
 pub mod Found
 pub mod Known
+pub mod Flags

@@ -1,13 +1,15 @@
 // The cell that a kind and an address name, and the one behind an indexed port, with no table built in memory: where a constant table is gone through one
-// by one, the compiler makes constants of it. What isn't known here is asked of the whole table.
+// by one, the compiler makes constants of it. The bar is an access by a C host, whose goal is 300 instructions (bench/run). What isn't known here is asked of
+// the whole table.
 ghost use Rattle.std.specs.Prelude.{◌≡◌, Bool, false, cond, ◌<◌, ◌≤◌, eqb, ltb, get_or};
 ghost use Rattle.places.specs.EngineCells.{nothing_held, cell_count, cell_table, cell_in, port_cell, mmio_cell, behind_cell};
 
 use file::{ARX, CRX, Chip, GRX, REGISTERS, SRX};
 use places::CELLS;
 
-// What is told of a cell that isn't known: that of nothing at all.
-pub const UNKNOWN: u8 = 0x7F;
+// What is told of a cell that isn't known. It is no None: it is the byte that the tables hold for nothing (`nothing_held`), and `behind` tells it as the table does
+// (`behind_cell`).
+const UNKNOWN: u8 = 0x7F;
 
 // Where the sections of the table begin: port writes, what stands behind the index registers, config space and MMIO.
 const PORT_WRITES: usize = 48;
@@ -30,7 +32,7 @@ const CRX_END: usize = 40;
 const GRX_END: usize = 16;
 
 // The cell at a place of the table, if it is one of those from a place on to an end, so many apart. It is read before the place is compared, or
-// the compiler would index the table after all.
+// the compiler would index the table after all, at a cost to the same goal.
 fn pick(cells: &[u8; CELLS], from: usize, end: usize, step: usize, wanted: usize) -> u8
     requires { (end ≤ cell_count) × (1 ≤ step) × (step ≤ 4) }
     ensures { (eqb result nothing_held ≡ false → (wanted < end) × (result ≡ get_or cells.now wanted 0)) × (step ≡ 1 → from ≤ wanted → result ≡ cond (ltb wanted end) (get_or cells.now wanted 0) nothing_held) }

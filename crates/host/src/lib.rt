@@ -6,7 +6,7 @@ mod lists;
 mod serving;
 
 ghost use Rattle.std.specs.Prelude.{◌≡◌, ◌&&◌};
-ghost use Rattle.file.specs.Answers.{code_of};
+ghost use Rattle.file.specs.Answers.{code_of, refused};
 ghost use Rattle.file.specs.File.{power_on};
 ghost use Rattle.image.specs.Bytes.{is_set};
 ghost use Rattle.image.specs.Parts.{chip_in, fits_in, rest_of};
@@ -18,7 +18,7 @@ ghost use Rattle.host.specs.Numbers.{record_in};
 ghost use Rattle.host.specs.Runs.{PlanTold, RunTold, RestoreTold, NoteTold, ShortTold, ShortRestoreTold};
 
 use crate::lists::{CAPTURE, CURSOR, REACH, TIMING, WINDOW};
-use file::{Chip, File, REGISTERS};
+use file::{Answer, Chip, File, PALETTE, REGISTERS};
 use geometry::read_geometry;
 use image::{IMAGE, Loaded, REST, SET, fits, held, load, rest_of, save, set_bytes, set_in};
 use plan::{plan, short_plan};
@@ -26,6 +26,14 @@ use restoring::restore;
 use short_restoring::short_restore;
 use timing::{read_timing, write_timing};
 use trace::run;
+
+// Where palette and bank begin in a rest; the state's bytes stand before the palette.
+const PALETTE_AT: usize = 10;
+
+const BANK_AT: usize = PALETTE_AT + 3 * PALETTE;
+
+// The version of an image.
+const VERSION: u32 = 1;
 
 // How much of each thing there is, where palette and bank begin in a rest, and how many numbers each list has: what the header says too.
 #[unsafe(no_mangle)]
@@ -37,16 +45,37 @@ pub extern "C" fn sedgecoil_layout(what: u32) -> u32
         REST as u32,
         SET as u32,
         IMAGE as u32,
-        1,
-        10,
-        778,
+        VERSION,
+        PALETTE_AT as u32,
+        BANK_AT as u32,
         TIMING as u32,
         CURSOR as u32,
         WINDOW as u32,
         CAPTURE as u32,
         REACH as u32,
     ];
-    if what < 12 { sizes[what as usize] } else { 0 }
+    if (what as usize) < sizes.len() {
+        sizes[what as usize]
+    } else {
+        0
+    }
+}
+
+// An answer's code as a number of the C interface.
+fn code(answer: Answer) -> u32
+    ensures { result ≡ code_of answer }
+{
+    u32::from(answer.code())
+}
+
+// Every answer refuses but 0, done, and 1, where the index names no register.
+fn is_refused(answer: Answer) -> bool
+    ensures { result ≡ refused answer }
+{
+    match answer {
+        Answer::Done(_) | Answer::NoRegister => false,
+        _ => true,
+    }
 }
 
 // The file of a chip's number.
@@ -85,7 +114,7 @@ pub extern "C" fn sedgecoil_power_on_parts(
     ensures { (result ≡ (powered_on chip registers.old rest.old).code) × (registers.new ≡ (powered_on chip registers.old rest.old).registers) × (rest.new ≡ (powered_on chip registers.old rest.old).rest) }
 {
     if 1 < chip {
-        return 2;
+        return code(Answer::Malformed);
     }
     put_file(registers, rest, powered(chip));
     0
@@ -126,13 +155,13 @@ pub extern "C" fn sedgecoil_timing_write_parts(
     ensures { TimingLeft numbers.now registers.old rest.now registers.new result }
 {
     if !fits(rest) {
-        return 12;
+        return code(Answer::NotSound);
     }
     let written = write_timing(held(*registers, *rest), lists::timing_of(*numbers));
     let file = written.file;
     let words_after = file.registers;
     *registers = words_after;
-    u32::from(written.answer.code())
+    code(written.answer)
 }
 
 // The cursor as six numbers, of which left and top are signed: 0, or 12 with the numbers as they were. It, `sedgecoil_window_parts` and
@@ -201,10 +230,10 @@ pub extern "C" fn sedgecoil_reach_parts(
     ensures { (result ≡ (reach_told registers.now rest.now (record_in asked) numbers.old).code) × (numbers.new ≡ (reach_told registers.now rest.now (record_in asked) numbers.old).numbers) }
 {
     if !fits(rest) {
-        return 12;
+        return code(Answer::NotSound);
     }
     match serving::record_in(asked).reach(held(*registers, *rest)) {
-        Err(refusal) => u32::from(refusal.code()),
+        Err(refusal) => code(refusal),
         Ok(reach) => {
             *numbers = lists::reach_numbers(reach);
             0
@@ -224,8 +253,7 @@ pub extern "C" fn sedgecoil_save_parts(
     ensures value { result ≡ code_of (save_answer registers.now rest.now buffer.old) }
     ensures buffer_after { buffer.new ≡ saved_in (is_set kept) registers.now rest.now set.now buffer.old }
 {
-    let answer = save(kept != 0, *registers, *rest, *set, buffer);
-    u32::from(answer.code())
+    code(save(kept != 0, *registers, *rest, *set, buffer))
 }
 
 // Loads an image: 0, or 12 with all as it was. A set that the image doesn't keep stays.
@@ -250,11 +278,12 @@ pub extern "C" fn sedgecoil_load_parts(
             *set = named;
             0
         }
-        Err(answer) => u32::from(answer.code()),
+        Err(answer) => code(answer),
     }
 }
 
-// A plan of the file: 12, 13, 11, or 0 with so many records in the buffer.
+// A plan of the file: 12, 13, 11, or 0 with so many records in the buffer. The ends of a plan and of a restore are matched in each of the four: they have two error
+// types, and a restore writes more than the count where it is done.
 #[unsafe(no_mangle)]
 pub extern "C" fn sedgecoil_plan_parts(
     registers: &[u16; REGISTERS],
@@ -266,7 +295,7 @@ pub extern "C" fn sedgecoil_plan_parts(
 {
     *count = 0;
     if !fits(rest) {
-        return 12;
+        return code(Answer::NotSound);
     }
     match plan(held(*registers, *rest), buffer) {
         Ok(made) => {
@@ -290,16 +319,15 @@ pub extern "C" fn sedgecoil_run_parts(
 {
     *count = 0;
     if !fits(rest) {
-        return 12;
+        return code(Answer::NotSound);
     }
     let ran = run(held(*registers, *rest), trace, replies);
     *count = ran.count;
-    let code = ran.answer.code();
-    if 2 <= code {
-        return u32::from(code);
+    if is_refused(ran.answer) {
+        return code(ran.answer);
     }
     put_file(registers, rest, ran.file);
-    u32::from(code)
+    code(ran.answer)
 }
 
 // Restores the first file to the second by a plan: 12, 15, 13, 11, or 0 with the plan's records in the buffer and the file that they lead to.
@@ -316,7 +344,7 @@ pub extern "C" fn sedgecoil_restore_parts(
 {
     *count = 0;
     if !fit(rest, others) {
-        return 12;
+        return code(Answer::NotSound);
     }
     let restored = restore(held(*registers, *rest), held(*wanted, *others), buffer);
     match restored.count {
@@ -340,10 +368,10 @@ pub extern "C" fn sedgecoil_note_parts(
     ensures { NoteTold registers.now rest.now set.old (record_in asked) result set.new }
 {
     if !fits(rest) {
-        return 12;
+        return code(Answer::NotSound);
     }
     match serving::record_in(asked).reach(held(*registers, *rest)) {
-        Err(refusal) => u32::from(refusal.code()),
+        Err(refusal) => code(refusal),
         Ok(reach) => {
             *set = set_bytes(set_in(*set).note(reach));
             0
@@ -366,7 +394,7 @@ pub extern "C" fn sedgecoil_short_plan_parts(
 {
     *count = 0;
     if !fit(rest, others) {
-        return 12;
+        return code(Answer::NotSound);
     }
     let current = held(*registers, *rest);
     let wanted = held(*saved, *others);
@@ -380,8 +408,8 @@ pub extern "C" fn sedgecoil_short_plan_parts(
     }
 }
 
-// A restore by it; where it is done the set is empty. It and `sedgecoil_restore_parts` are two names of the C interface, and the set and its refusals are of
-// this one alone; what they share is `fit` and `put_file`.
+// Restores the first file to the second by a short plan; where that is done the set is empty. It and `sedgecoil_restore_parts` are two names of the C
+// interface, and the set and its refusals are of this one alone; what they share is `fit` and `put_file`.
 #[unsafe(no_mangle)]
 pub extern "C" fn sedgecoil_short_restore_parts(
     registers: &mut [u16; REGISTERS],
@@ -396,7 +424,7 @@ pub extern "C" fn sedgecoil_short_restore_parts(
 {
     *count = 0;
     if !fit(rest, others) {
-        return 12;
+        return code(Answer::NotSound);
     }
     let current = held(*registers, *rest);
     let wanted = held(*saved, *others);

@@ -1,8 +1,8 @@
 // What a file says as a list of numbers, and a timing out of one.
-ghost use Rattle.std.specs.Prelude.{◌≡◌, ◌≤◌, ◌<◌, ◌^◌};
-ghost use Rattle.image.specs.Bytes.{flag_byte};
+ghost use Rattle.std.specs.Prelude.{◌≡◌, ◌<◌, ◌^◌};
 ghost use Rattle.host.specs.Lists.{capture_numbers, clipped as clippedOf, cursor_numbers, reach_numbers, shown_by, timing_clipped, window_numbers};
 
+use crate::{code, is_refused};
 use file::{Answer, Reach};
 use geometry::{Capture, Cursor, Window};
 use image::{REST, fits};
@@ -29,25 +29,24 @@ pub fn leave_read<A: Copy, const N: usize>(
     ensures { (result ≡ (shown_by rest.now answer numbers list.old).code) × (list.new ≡ (shown_by rest.now answer numbers list.old).numbers) }
 {
     if !fits(rest) {
-        return 12;
+        return code(Answer::NotSound);
     }
-    let code = answer.code();
-    if 2 <= code {
-        return u32::from(code);
+    if is_refused(answer) {
+        return code(answer);
     }
     *list = numbers;
-    u32::from(code)
+    code(answer)
 }
 
-// A number in 16 bits: one that has more is in no range, and neither is what stands for it.
+// A number in 16 bits: one that has more is in no range, and neither is what stands for it. It has a name for the fourteen places that want it.
 #[tactic(auto, unfolding(crate::specs::Lists::clipped))]
 fn clipped(number: u32) -> u16
     ensures { result ≡ clippedOf number }
 {
-    number.min(65535) as u16
+    number.min(u32::from(u16::MAX)) as u16
 }
 
-// The timing of fifteen numbers in 01's order.
+// The timing of fifteen numbers in 01's order. It is no From, since the type and the list are both of other crates.
 pub fn timing_of(numbers: [u32; TIMING]) -> Timing
     ensures { result ≡ timing_clipped numbers }
 {
@@ -70,20 +69,13 @@ pub fn timing_of(numbers: [u32; TIMING]) -> Timing
     }
 }
 
-// A flag as 0 or 1.
-fn number_of(flag: bool) -> u32
-    ensures { (result ≡ flag_byte flag) × (result ≤ 1) }
-{
-    u32::from(flag)
-}
-
 // Enabled, left, top, width, height, address.
 pub fn cursor_numbers(cursor: Cursor) -> [i32; CURSOR]
     requires { cursor.address < 2 ^ 31 }
     ensures { result ≡ cursor_numbers cursor }
 {
     [
-        number_of(cursor.enabled) as i32,
+        i32::from(cursor.enabled),
         i32::from(cursor.left.0),
         i32::from(cursor.top.0),
         u32::from(cursor.width.0) as i32,
@@ -97,14 +89,14 @@ pub fn window_numbers(window: Window) -> [u32; WINDOW]
     ensures { result ≡ window_numbers window }
 {
     [
-        number_of(window.enabled),
-        number_of(window.video),
+        u32::from(window.enabled),
+        u32::from(window.video),
         u32::from(window.left.0),
         u32::from(window.top.0),
         u32::from(window.right.0),
         u32::from(window.bottom.0),
-        number_of(window.empty),
-        number_of(window.fault),
+        u32::from(window.empty),
+        u32::from(window.fault),
         u32::from(window.start.0),
         u32::from(window.stop.0),
     ]
@@ -129,12 +121,12 @@ pub fn reach_numbers(reach: Reach) -> [usize; REACH]
     [
         reach.register,
         reach.bits as usize,
-        number_of(reach.pointer) as usize,
-        number_of(reach.toggle) as usize,
-        number_of(reach.marks) as usize,
-        number_of(reach.line) as usize,
-        number_of(reach.palette) as usize,
-        number_of(reach.bank) as usize,
+        usize::from(reach.pointer),
+        usize::from(reach.toggle),
+        usize::from(reach.marks),
+        usize::from(reach.line),
+        usize::from(reach.palette),
+        usize::from(reach.bank),
         reach.entry,
     ]
 }

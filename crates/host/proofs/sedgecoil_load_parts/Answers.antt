@@ -17,7 +17,7 @@ pub returns-in-Err : goal.returns-in-Err
 unfolding code_told registers_told rest_told set_told
 returns-in-Err c =
     let e = sym c.in-Err.is ∙ c.load.ensures in (
-      c.from.ensures ∙ c.code.ensures ∙ ap code_told e,
+      c.code.ensures ∙ ap code_told e,
       ap (λ r. registers_told r c.args.registers.now) e,
       ap (λ r. rest_told r c.args.rest.now) e,
       ap (λ r. set_told r c.args.set.now) e,

@@ -12,16 +12,17 @@ use Rattle.host.proofs.Told.{refusing, doing, note-unfit, note-told}
 use Rattle.host.proofs.sedgecoil_note_parts.Goals as goal
 
 pub returns-then-not-fits : goal.returns-then-not-fits
-returns-then-not-fits c = note-unfit _ _ _ _ (sym c.fits.ensures ∙ c.if-not-fits.true)
+unfolding code_of
+returns-then-not-fits c = rw c.code.ensures (note-unfit _ _ _ _ (sym c.fits.ensures ∙ c.if-not-fits.true))
 
 pub returns-in-Err : goal.returns-in-Err
 unfolding answer_with code_of
 returns-in-Err c =
     let told = sym (c.reach.ensures ∙ ap₂ read_reach c.held.ensures c.record_in.ensures) ∙ c.in-Err.is in
-    let number = c.from.ensures ∙ c.code.ensures in
+    let number = c.code-in-Err.ensures in
     let twelve = number ∙ ap code_of (reach-unsound _ _ _ told) in
-    let over : 2 ≤ c.from.result = omega (arith, twelve) in
-    note-told _ _ _ _ (sym c.fits.ensures ∙ c.if-not-fits.false) (Err c.in-Err.refusal) (sym told) c.from.result number _ (refusing _ _ _ over)
+    let over : 2 ≤ c.code-in-Err.result = omega (arith, twelve) in
+    note-told _ _ _ _ (sym c.fits.ensures ∙ c.if-not-fits.false) (Err c.in-Err.refusal) (sym told) c.code-in-Err.result number _ (refusing _ _ _ over)
 
 pub returns-in-Ok : goal.returns-in-Ok
 unfolding answer_with code_of

@@ -15,14 +15,14 @@ use Rattle.host.proofs.Shown.{shown-unfit, shown-refused, shown-done}
 use Rattle.host.proofs.sedgecoil_reach_parts.Goals as goal
 
 pub returns-then-not-fits : goal.returns-then-not-fits
-unfolding reach_told
-returns-then-not-fits c = shown-unfit _ _ _ _ (sym c.fits.ensures ∙ c.if-not-fits.true)
+unfolding reach_told code_of
+returns-then-not-fits c = rw c.code.ensures (shown-unfit _ _ _ _ (sym c.fits.ensures ∙ c.if-not-fits.true))
 
 pub returns-in-Err : goal.returns-in-Err
 unfolding reach_told answer_with code_of
 returns-in-Err c =
     let told = sym (c.reach.ensures ∙ ap₂ read_reach c.held.ensures c.record_in.ensures) ∙ c.in-Err.is in
-    let number = c.from.ensures ∙ c.code.ensures in
+    let number = c.code-in-Err.ensures in
     let twelve = number ∙ ap code_of (reach-unsound _ _ _ told) in
     shown-refused _ _ _ _ (sym c.fits.ensures ∙ c.if-not-fits.false) _
     (number ∙ sym (ap (λ (x : Result Reach Answer). code_of (answer_with x)) told)) (omega (arith, twelve))

@@ -7,6 +7,6 @@ use Rattle.host.proofs.sedgecoil_save_parts.Goals as goal
 pub returns : goal.returns
 unfolding is_set
 returns c = record {
-  value = c.from.ensures ∙ c.code.ensures ∙ ap code_of c.save-answer.ensures.value;
-  buffer_after = c.save-answer.ensures.buffer_after;
+  value = c.code.ensures ∙ ap code_of c.save.ensures.value;
+  buffer_after = c.save.ensures.buffer_after;
 }

@@ -2,7 +2,6 @@
 use Prim.Native.Nat.{◌<◌}
 use mathlib.Core.Path.{refl, sym, ◌∙◌}
 use mathlib.Core.Bool.{true, false}
-use borrow.Author.Tests.{ne_eqb}
 use Rattle.bits.proofs.Test.{passes, and-false}
 use Rattle.file.specs.State.{state_sound}
 use Rattle.file.specs.Registers.{stored_table}
@@ -33,9 +32,9 @@ returns-then-not-are_stored c =
 pub serve-served-requires : goal.serve-served-requires
 serve-served-requires c = passes _ (both c.args.registers.now c.state_in-state.result true true (sym c.are_stored.ensures ∙ c.if-not-are_stored.false) (sym c.state_sound.ensures ∙ c.if-not-state_sound.false))
 
-pub returns-then-cell-eq-UNKNOWN : goal.returns-then-cell-eq-UNKNOWN
+pub returns-in_default : goal.returns-in_default
 unfolding state_in
-returns-then-cell-eq-UNKNOWN c =
+returns-in_default c =
     let registers = c.args.registers.now in
     let rest = c.args.rest.now in
     let state = c.state_in-state in
@@ -46,7 +45,7 @@ returns-then-cell-eq-UNKNOWN c =
 
 pub serve_known-served-requires : goal.serve_known-served-requires
 serve_known-served-requires c =
-    (c.known-cell.ensures (ne_eqb _ _ c.if-cell-eq-UNKNOWN.false), passes _ (both c.args.registers.now c.state_in-state.result true true (sym c.are_stored.ensures ∙ c.if-not-are_stored.false) (sym c.state_sound.ensures ∙ c.if-not-state_sound.false)))
+    (c.in-Some.ensures, passes _ (both c.args.registers.now c.state_in-state.result true true (sym c.are_stored.ensures ∙ c.if-not-are_stored.false) (sym c.state_sound.ensures ∙ c.if-not-state_sound.false)))
 
 pub returns : goal.returns
 unfolding state_in
