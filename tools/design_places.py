@@ -10,6 +10,7 @@ import collections
 import itertools
 import pathlib
 import re
+import sys
 
 FLAGS = {"good", "listed", "some", "ended", "more", "failed", "answer", "verdict", "code", "wrong", "whole", "textual"}
 LENGTHS = {"size", "count", "end", "used", "length", "held"}
@@ -173,6 +174,8 @@ def main():
     if not set(asked.points) <= set(POINTS):
         parser.error("a point is a number from 1 to 7")
     sources = [Source(path, asked.root) for path in sorted(asked.root.glob("crates/*/src/**/*.rt"))]
+    if not sources:
+        parser.error(f"no sources below {asked.root}/crates")
     for number in asked.points or sorted(POINTS):
         places = list(POINTS[number](sources))
         print(f"point {number}: {len(places)}")
@@ -182,4 +185,8 @@ def main():
 
 
 if __name__ == "__main__":
-    main()
+    try:
+        main()
+    except BrokenPipeError:
+        # Whoever read has read enough; what is left in the buffer has nowhere to go.
+        sys.stdout = None
