@@ -1,18 +1,16 @@
 -- A table's numbers, one at a time: what a turn of the loops that read, test and write numbers does. Assumes nothing.
-use Rattle.std.proofs.Common.{◌≡◌, ℕ, ◌+◌, ◌%◌, ◌^◌, ◌<◌, ◌≤◌, min, leb, List, [], ◌∷◌, ◌++◌, map, length, get_or, take, drop, set, sym, refl, ap, ◌∙◌, ap₂, append_assoc, add-one, arith, take-append-drop, drop_of_length-le, take-suc-set, drop-set-lt, leb-false, leb-true}
+use Rattle.std.proofs.Common.{◌≡◌, ℕ, ◌+◌, ◌%◌, ◌^◌, ◌<◌, ◌≤◌, min, leb, Bool, true, false, ◌&&◌, List, [], ◌∷◌, ◌++◌, map, length, get_or, take, drop, set, sym, refl, ap, ◌∙◌, ap₂, append_assoc, add-one, arith, take-append-drop, drop_of_length-le, take-suc-set, drop-set-lt, leb-false, leb-true}
 use mathlib.Core.Logic.{◌⊎◌, inl, inr}
-use borrow.Author.Tests.{eq-eqb, ne_eqb}
-use lib.Dec.{eqb}
 use lib.Seq.{drop-cons}
 use Rattle.bits.specs.declared.numbers.Number.{Number as DeclaredNumber}
 use Rattle.bits.specs.Encoded.{piece_of, meaning_of, number_of, table_of}
-use Rattle.bits.specs.Numbers.{Number, meant, ranges_from, write_numbers}
+use Rattle.bits.specs.Numbers.{Number, meant, in_range, ranges_from, all_in_range, write_numbers}
 use Rattle.bits.specs.Pieces.{width, gather}
 use Rattle.bits.specs.Words.{word, read_words}
 use Rattle.bits.proofs.Encoded.{from_next}
 use Rattle.bits.proofs.Enough.{meant-enough}
 use Rattle.bits.proofs.Split.{gather-lt}
-use Rattle.bits.proofs.Test.{by-test}
+use Rattle.bits.proofs.Test.{by-test, and-false}
 
 -- the number that code found is the word of its meaning and its pieces
 pub number_word : (n : DeclaredNumber) (registers : List ℕ) (last bits stored number : ℕ)
@@ -75,15 +73,31 @@ read-last table registers numbers last k h =
     none [] = refl
     none (n ∷ ns) = refl
 
--- where table or numbers have ended, the numbers are in range if both have
-pub range-over : (last : ℕ) (table : List DeclaredNumber) (numbers : List ℕ) (rows values : ℕ) → length table + values ≡ length numbers + rows
-    → (length table ≡ 0) ⊎ (length numbers ≡ 0) → eqb rows values ≡ ranges_from last (table_of table) numbers
+-- where both have ended, the numbers are in range
+pub range-over : (last : ℕ) (table : List DeclaredNumber) (numbers : List ℕ) → length table ≡ length numbers
+    → (length table ≡ 0) ⊎ (length numbers ≡ 0) → true ≡ ranges_from last (table_of table) numbers
 unfolding ranges_from table_of
-range-over last [] [] rows values e over = eq-eqb rows values (omega arith)
-range-over last [] (v ∷ vs) rows values e over = ne_eqb rows values (λ z. omega arith)
-range-over last (n ∷ ns) [] rows values e over = ne_eqb rows values (λ z. omega arith)
-range-over last (n ∷ ns) (v ∷ vs) rows values e (inl z) = absurd (omega arith)
-range-over last (n ∷ ns) (v ∷ vs) rows values e (inr z) = absurd (omega arith)
+range-over last [] [] e over = refl
+range-over last [] (v ∷ vs) e over = absurd (omega arith)
+range-over last (n ∷ ns) [] e over = absurd (omega arith)
+range-over last (n ∷ ns) (v ∷ vs) e (inl z) = absurd (omega arith)
+range-over last (n ∷ ns) (v ∷ vs) e (inr z) = absurd (omega arith)
+
+-- another count of numbers than the table has is not in range
+uncounted : (last : ℕ) (table : List DeclaredNumber) (numbers : List ℕ) → (length table ≡ length numbers → ⊥)
+    → ranges_from last (table_of table) numbers ≡ false
+unfolding ranges_from table_of
+uncounted last [] [] h = absurd (h refl)
+uncounted last [] (v ∷ vs) h = refl
+uncounted last (n ∷ ns) [] h = refl
+uncounted last (n ∷ ns) (v ∷ vs) h =
+    ap (λ (b : Bool). in_range (number_of n).meaning (width (number_of n).pieces) last v && b) (uncounted v ns vs (λ e. h (omega arith)))
+    ∙ and-false (in_range (number_of n).meaning (width (number_of n).pieces) last v)
+
+pub range-uncounted : (table : List DeclaredNumber) (numbers : List ℕ) → (length table ≡ length numbers → ⊥)
+    → all_in_range (table_of table) numbers ≡ false
+unfolding all_in_range
+range-uncounted table numbers h = uncounted 0 table numbers h
 
 -- and nothing more is written
 pub write-over : (table : List DeclaredNumber) (numbers registers : List ℕ) → (length table ≡ 0) ⊎ (length numbers ≡ 0)

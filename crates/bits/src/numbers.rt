@@ -65,7 +65,7 @@ impl Number<'_> {
     fn size(self) -> Size
         ensures { result.bits ≡ min 32 (width_of (map piece_of self.entry.pieces.now)) }
     {
-        Size::of(width(self.pieces))
+        Size::of(width(self.pieces, 0))
     }
 
     // Its low 32 bits, read out of its pieces after the last number.
@@ -107,6 +107,9 @@ pub fn read_numbers(table: &[Number], registers: &[u16], numbers: &mut [u32])
 pub fn all_in_range(table: &[Number], numbers: &[u32]) -> bool
     ensures { result ≡ all_in_range (table_of table.now) numbers.now }
 {
+    if table.len() != numbers.len() {
+        return false;
+    }
     let mut last = 0;
     for (number, value) in table.iter().zip(numbers) {
         if !number.in_range(last, *value) {
@@ -114,7 +117,7 @@ pub fn all_in_range(table: &[Number], numbers: &[u32]) -> bool
         }
         last = *value;
     }
-    table.len() == numbers.len()
+    true
 }
 
 // The numbers of a table, written into their pieces, until the table or the numbers end.

@@ -1,5 +1,5 @@
 // Split fields: a number whose bits lie in pieces of several registers. A piece is one number, RRHLh for bits H to L of register RR.
-ghost use Rattle.std.specs.Prelude.{◌≡◌, ◌-◌, ◌/◌, ◌%◌, ◌^◌, min, map};
+ghost use Rattle.std.specs.Prelude.{◌≡◌, ◌-◌, ◌/◌, ◌%◌, ◌^◌, min, map, drop};
 ghost use Rattle.bits.specs.Encoded.{piece_of};
 ghost use Rattle.bits.specs.Pieces.{width as width_of, held as heldBits, gather as gatherPieces, put as putPiece, scatter as scatterPieces};
 
@@ -46,15 +46,26 @@ pub fn gather(registers: &[u16], pieces: &[u16]) -> u32
     number
 }
 
-// How many bits the pieces have, counted up to 32.
-pub fn width(pieces: &[u16]) -> u32
-    ensures { result ≡ min 32 (width_of (map piece_of pieces.now)) }
+// The pieces from one on.
+fn pieces_from(pieces: &[u16], from: usize) -> &[u16]
+    ensures { result.now ≡ drop from pieces.now }
 {
+    &pieces[from.min(pieces.len())..]
+}
+
+// How many bits the pieces from one on have, counted up to 32: where there are so many, those behind aren't gone through.
+pub fn width(pieces: &[u16], from: usize) -> u32
+    ensures { result ≡ min 32 (width_of (map piece_of (drop from pieces.now))) }
+{
+    let left = pieces_from(pieces, from);
     let mut bits: u32 = 0;
-    for piece in pieces {
-        bits = (bits + piece_width(*piece)).min(32);
+    for piece in left {
+        if 32 <= bits {
+            return 32;
+        }
+        bits += piece_width(*piece);
     }
-    bits
+    bits.min(32)
 }
 
 // A piece set to the low bits of a number, by the store rule; nothing in a register that is not there.
@@ -80,7 +91,7 @@ pub fn scatter(registers: &mut [u16], pieces: &[u16], number: u32)
         put(
             registers,
             *piece,
-            number.checked_shr(width(below)).unwrap_or(0),
+            number.checked_shr(width(below, 0)).unwrap_or(0),
         );
         rest = below;
     }

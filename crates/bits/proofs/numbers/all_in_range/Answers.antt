@@ -1,9 +1,12 @@
-use Rattle.std.proofs.Common.{◌≡◌, refl, ◌∙◌, rules, arith}
+use Rattle.std.proofs.Common.{◌≡◌, refl, sym, ◌∙◌, rules, arith}
 use mathlib.Core.Logic.{inl, inr}
 use Rattle.bits.specs.Encoded.{table_of}
 use Rattle.bits.specs.Numbers.{ranges_from, all_in_range}
-use Rattle.bits.proofs.Rows.{range-over}
+use Rattle.bits.proofs.Rows.{range-over, range-uncounted}
 use Rattle.bits.proofs.numbers.all_in_range.Goals as goal
+
+pub returns-then-table-numbers : goal.returns-then-table-numbers
+returns-then-table-numbers c = sym (range-uncounted c.args.table.now c.args.numbers.now c.if-table-numbers.true)
 
 pub loop-number-init : goal.loop-number-init
 unfolding all_in_range
@@ -26,6 +29,6 @@ loop-number-preserved c =
 
 pub returns : goal.returns
 returns c =
-    range-over c.loop-number.last c.loop-number.number-iterator.a.rest.now c.loop-number.number-iterator.b.rest.now _ _ c.loop-number.invariant.1
+    range-over c.loop-number.last c.loop-number.number-iterator.a.rest.now c.loop-number.number-iterator.b.rest.now c.loop-number.invariant.1
     (elim c.in-None.ensures.steps [ inl t ↦ inl t.1.0 | inr t ↦ inr t.1.0 ])
     ∙ c.loop-number.invariant.0
