@@ -1,5 +1,5 @@
 // A host looks into a file without an access. A file that is not sound is refused with 12, a register or an entry that there is not with 1.
-ghost use Rattle.std.specs.Prelude.{◌≡◌, Ok, map, ok_or, option_map, position, slice_get};
+ghost use Rattle.std.specs.Prelude.{◌≡◌, Ok, [], get_or, map, ok_or, option_map, position, slice_get};
 ghost use Rattle.file.specs.declared.answer.Answer.TheVariants.{NoRegister};
 ghost use Rattle.file.specs.Readers.{name_table, same, if_sound, read_register, read_named, read_number, read_palette, read_bank, read_pointer, read_marks, read_toggle};
 
@@ -175,7 +175,7 @@ impl File {
     {
         self.looked_into()?;
         let number = File::number_named(name)?;
-        self.register(number)
+        told(&self.registers, number)
     }
 
     // A register's number in the table of stored bits, by its name. It asks no file, so it never refuses with 12.
@@ -190,6 +190,16 @@ impl File {
         ensures { option_map (λ own. own.now) result ≡ slice_get name_table number }
     {
         text_at(&NAMES, number)
+    }
+
+    // A byte of a register's name in the table of stored bits, by its number; 0 behind the name, and where no register has the number.
+    pub fn name_byte(number: usize, place: usize) -> u8
+        ensures { result ≡ get_or (get_or name_table number []) place 0 }
+    {
+        match File::name(number) {
+            Some(name) => name.get(place).copied().unwrap_or(0),
+            None => 0,
+        }
     }
 
     // An entry of the palette.

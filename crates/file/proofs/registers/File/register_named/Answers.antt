@@ -2,7 +2,7 @@
 use mathlib.Core.Path.{sym, ap, ◌∙◌}
 use Rattle.std.proofs.lemmas.Result.{err_from_is_err_and}
 use Rattle.file.specs.Readers.{read_named, read_register}
-use Rattle.file.proofs.Looked.{refused-look, named-found, named-absent}
+use Rattle.file.proofs.Looked.{looked, refused-look, named-found, named-absent}
 use Rattle.file.proofs.Typed.{registers-count}
 use Rattle.file.proofs.registers.File.register_named.Goals as goal
 
@@ -18,5 +18,8 @@ returns-in_err-number c =
     rw (p.1, p.2) (named-absent _ _ _ (registers-count _ _ c.well_formed.0) (sym c.in_err-number.was ∙ c.number_named.ensures) (sym c.in_ok-looked_into.was ∙ c.looked_into.ensures))
 
 pub returns : goal.returns
-unfolding read_named
-returns c = c.register.ensures ∙ ap (read_register c.args.self) (named-found _ _ (sym c.in_ok-number.was ∙ c.number_named.ensures))
+unfolding read_named read_register
+returns c =
+    c.told.ensures
+    ∙ looked _ _ (sym c.in_ok-looked_into.was ∙ c.looked_into.ensures)
+    ∙ ap (read_register c.args.self) (named-found _ _ (sym c.in_ok-number.was ∙ c.number_named.ensures))
