@@ -46,17 +46,17 @@ fn decimal(line: Line, n: u64) -> Line
 }
 
 // The hex digit at a place, counted from the last.
-fn digit(n: u32, place: u8) -> u8
+fn digit(n: u64, place: u8) -> u8
     ensures { (result ≡ n / 2 ^ (4 * place) % 16) × (result < 16) }
 {
-    if place >= 8 {
+    if place >= 16 {
         return 0;
     }
     ((n >> (4 * place as u32)) % 16) as u8
 }
 
 // So many hex digits.
-fn hex(line: Line, digits: u8, n: u32) -> Line
+fn hex(line: Line, digits: u8, n: u64) -> Line
     ensures { result ≡ behind line (hex_of digits n) }
 {
     let mut after = line;

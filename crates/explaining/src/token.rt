@@ -9,7 +9,7 @@ pub enum Token {
     Words([u8; 24]),
     Name(usize),
     Decimal(u64),
-    Hex(u8, u32),
+    Hex(u8, u64),
 }
 
 // Words.
@@ -41,7 +41,7 @@ pub fn decimal(number: u64) -> Token
 pub fn hex(digits: u8, number: u32) -> Token
     ensures { result ≡ hex_token digits number }
 {
-    Token::Hex(digits, number)
+    Token::Hex(digits, u64::from(number))
 }
 
 // One of two: tokens, phrases, lines or numbers of digits.

@@ -5,8 +5,8 @@ ghost use Rattle.text.specs.Fixed.{behind, blank, byte_behind, text_of};
 // The bytes so far, of `N` at most, and how many they are.
 #[derive(Clone, Copy)]
 pub struct Line<const N: usize> {
-    bytes: [u8; N],
-    end: usize,
+    pub bytes: [u8; N],
+    pub end: usize,
 }
 
 impl<const N: usize> Line<N> {
