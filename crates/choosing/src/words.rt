@@ -1,5 +1,5 @@
 // The words that a program was started with.
-ghost use Rattle.std.specs.Prelude.{◌≡◌, min};
+ghost use Rattle.std.specs.Prelude.{◌≡◌, Some, min};
 ghost use Rattle.std.specs.List.{slice_get};
 ghost use Rattle.file.specs.Readers.{same};
 ghost use Rattle.choosing.specs.Choosing.{text_of};
@@ -44,6 +44,20 @@ impl Words {
         ensures { result ≡ self.count }
     {
         self.count
+    }
+
+    // The first option, which stands behind the program's own name and the words that are skipped.
+    pub fn first(self) -> Asked
+        ensures { Some result ≡ slice_get self.asked 0 }
+    {
+        self.asked[0]
+    }
+
+    // The second option, behind the first.
+    pub fn second(self) -> Asked
+        ensures { Some result ≡ slice_get self.asked 1 }
+    {
+        self.asked[1]
     }
 
     // The option of a number, from 0 on, of which there are two.

@@ -89,6 +89,13 @@ impl<'a> Reader<'a> {
         Reader { trace, at: 0 }
     }
 
+    // What stands next, a record or the last fragment, and nothing at the trace's end. The reader stays where it is: a loop that goes on goes by the iterator below.
+    pub fn next(self) -> Option<Item>
+        ensures { result ≡ next_at self.entry.trace.now self.entry.at }
+    {
+        next_at(self.trace, self.at)
+    }
+
     // The reader past what stands next.
     pub fn advanced(self) -> Reader<'a>
         ensures { (result.trace ≡ self.entry.trace) × (result.at ≡ after_next self.entry.trace.now self.entry.at) }
@@ -161,11 +168,10 @@ pub struct NextAt {
 pub fn next_from<'a>(trace: &'a [u8], at: usize) -> NextAt
     ensures { (result.next ≡ next_at trace.now at) × (result.at ≡ after_next trace.now at) }
 {
-    let mut reader = Reader { trace, at };
-    let next = reader.next();
+    let reader = Reader { trace, at };
     NextAt {
-        next,
-        at: reader.at,
+        next: reader.next(),
+        at: reader.advanced().at,
     }
 }
 
