@@ -2,7 +2,7 @@
 use Rattle.std.specs.Prelude.{Option, Some, None, Result, Ok, Err}
 use Prim.Native.Nat.{ℕ}
 use mathlib.Core.Bool.{Bool, true, false, cond}
-use mathlib.Core.List.{List, ◌++◌}
+use mathlib.Core.List.{List, [], ◌++◌}
 use mathlib.Core.Path.{◌≡◌, refl, sym, ap, ◌∙◌}
 use native.Mathlib.Nat.{zero-add}
 use lib.ListN.{length, drop}
@@ -11,7 +11,7 @@ use Rattle.file.specs.declared.answer.Answer.{Answer}
 use Rattle.file.specs.declared.answer.Answer.TheVariants.{Done, ShortBuffer}
 use Rattle.file.specs.Answers.{code_of, refused}
 use Rattle.portable.specs.declared.Timing.{Timing}
-use Rattle.portable.specs.Timing.{bytes_after, read_timing, timing_answer}
+use Rattle.portable.specs.Timing.{bytes_after, read_timing, timing_answer, timing_of}
 use Rattle.portable_text.specs.declared.writing.NotWritten.{NotWritten}
 use Rattle.portable_text.specs.declared.writing.NotWritten.TheVariants.{NoList, Refused}
 use Rattle.portable_text.specs.Line.{line_of}
@@ -72,7 +72,8 @@ refused-by : (bytes out₀ : List ℕ) (o : Option Timing) (why : NotWritten) �
     → (Err why ≡ numbers_result bytes o out₀) × (out₀ ≡ numbers_stored bytes o out₀)
 unfolding list_result numbers_result numbers_stored with_answer
 refused-by bytes out₀ None why e =
-    let same : NoList ≡ why = let h : ◌≡◌ {A = Result (Unit {0}) NotWritten} (Err NoList) (Err why) = e in cc in (ap Err (sym same), refl)
+    let same : NoList (timing_answer bytes (timing_of [])) ≡ why =
+    let h : ◌≡◌ {A = Result (Unit {0}) NotWritten} (Err (NoList (timing_answer bytes (timing_of [])))) (Err why) = e in cc in (ap Err (sym same), refl)
 refused-by bytes out₀ (Some t) why e =
     by-test (refused (timing_answer bytes t))
     (λ h. let told : ◌≡◌ {A = Result (Unit {0}) NotWritten} (Err (Refused (timing_answer bytes t))) (Err why) = rw h at e in
@@ -83,7 +84,8 @@ refused-by bytes out₀ (Some t) why e =
 -- and what it doesn't is a list
 taken-by : (bytes : List ℕ) (o : Option Timing) → list_result bytes o ≡ Ok tt → (t : Timing) × (o ≡ Some t) × (refused (timing_answer bytes t) ≡ false)
 unfolding list_result
-taken-by bytes None e = let never : ◌≡◌ {A = Result (Unit {0}) NotWritten} (Err NoList) (Ok tt) = e in absurd (cc)
+taken-by bytes None e =
+    let never : ◌≡◌ {A = Result (Unit {0}) NotWritten} (Err (NoList (timing_answer bytes (timing_of [])))) (Ok tt) = e in absurd (cc)
 taken-by bytes (Some t) e =
     by-test (refused (timing_answer bytes t))
     (λ h. let never : ◌≡◌ {A = Result (Unit {0}) NotWritten} (Err (Refused (timing_answer bytes t))) (Ok tt) = rw h at e in absurd (cc))

@@ -1,9 +1,9 @@
 -- However an input is cut into parts, what the job puts out at the end is what is said of the whole input. Assumes nothing.
-use Rattle.std.specs.Prelude.{Option, Some, None, Result}
+use Rattle.std.specs.Prelude.{Option, Some, None, Result, Err}
 use Prim.Native.Nat.{ℕ, ◌<◌}
 use mathlib.Core.Bool.{false}
-use mathlib.Core.List.{List}
-use mathlib.Core.Path.{◌≡◌, refl, ap, ◌∙◌, subst}
+use mathlib.Core.List.{List, []}
+use mathlib.Core.Path.{◌≡◌, refl, sym, ap, ◌∙◌, subst}
 use native.Mathlib.Omega.{arith}
 use borrow.Author.Tests.{leb-true, leb-false, ne_eqb}
 use lib.Dec.{leb}
@@ -12,15 +12,17 @@ use lib.Seq.{length-take-le, take_all}
 use Rattle.bits.proofs.Test.{by-test}
 use Rattle.feeding.specs.Feeding.{Additive, WholeInput}
 use Rattle.feeding.proofs.AsTheWhole.{input-after}
+use Rattle.file.specs.declared.answer.Answer.{Answer}
 use Rattle.file.specs.declared.answer.Answer.TheVariants.{NotSound}
 use Rattle.file.specs.Answers.{code_of, refused}
 use Rattle.text.specs.Fixed.{behind}
 use Rattle.timing.specs.Layout.{answer_by}
 use Rattle.portable.specs.declared.Timing.{Timing}
-use Rattle.portable.specs.Timing.{read_timing, readable, timing_answer}
+use Rattle.portable.specs.Timing.{read_timing, readable, timing_answer, timing_of}
 use Rattle.portable_text.specs.Line.{line_of}
 use Rattle.portable_text.specs.Numbers.{listed_in}
 use Rattle.portable_text.specs.declared.writing.NotWritten.{NotWritten}
+use Rattle.portable_text.specs.declared.writing.NotWritten.TheVariants.{NoList}
 use Rattle.job_portable.specs.Ended.{LineEnded, NumbersEnded, PortableEnded, numbers_result, numbers_stored, with_answer}
 use Rattle.job_portable.specs.Kept.{AnyBytes, PortableJob, begun, held, job_after, nothing_told}
 use Rattle.job_portable.proofs.FirstBytes.{after-parts, first-bytes}
@@ -73,7 +75,8 @@ module _ (input : List ℕ) (long : 29 < length input) where
 
   long-result : (o : Option Timing) (out₀ : List ℕ) → numbers_result (take 29 input) o out₀ ≡ numbers_result input o out₀
   unfolding numbers_result refused code_of
-  long-result None out₀ = refl
+  long-result None out₀ =
+      ap (λ (a : Answer). Err (NoList a)) (long-answer (timing_of []) ∙ sym (whole-answer (timing_of [])))
   long-result (Some t) out₀ = rw (long-with t out₀, whole-with t out₀) refl
 
   long-stored : (o : Option Timing) (out₀ : List ℕ) → numbers_stored (take 29 input) o out₀ ≡ numbers_stored input o out₀

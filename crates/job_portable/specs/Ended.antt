@@ -1,11 +1,11 @@
 -- The end of the command `portable`: the line of the bytes, or the bytes with the numbers of a list in them.
 -- Assumes nothing.
-use Rattle.std.specs.Prelude.{ℕ, cond, List, ◌++◌, ◌≡◌, Option, Some, None, Result, Ok, Err, length, drop}
+use Rattle.std.specs.Prelude.{ℕ, cond, List, [], ◌++◌, ◌≡◌, Option, Some, None, Result, Ok, Err, length, drop}
 use Rattle.file.specs.declared.answer.Answer.{Answer}
 use Rattle.file.specs.declared.answer.Answer.TheVariants.{ShortBuffer}
 use Rattle.file.specs.Answers.{refused}
 use Rattle.portable.specs.declared.Timing.{Timing}
-use Rattle.portable.specs.Timing.{bytes_after, read_timing, timing_answer}
+use Rattle.portable.specs.Timing.{bytes_after, read_timing, timing_answer, timing_of}
 use Rattle.portable_text.specs.declared.writing.NotWritten.{NotWritten}
 use Rattle.portable_text.specs.declared.writing.NotWritten.TheVariants.{NoList, Refused}
 use Rattle.portable_text.specs.Line.{line_of}
@@ -30,7 +30,7 @@ with_answer bytes t out₀ =
 
 -- what comes back of the numbers of a list: where the bytes with them end, or why nothing is put
 unfoldable pub numbers_result : List ℕ → Option Timing → List ℕ → Result ℕ NotWritten
-numbers_result bytes None out₀ = Err NoList
+numbers_result bytes None out₀ = Err (NoList (timing_answer bytes (timing_of [])))
 numbers_result bytes (Some t) out₀ =
     cond (refused (with_answer bytes t out₀)) (Err (Refused (with_answer bytes t out₀))) (Ok (length (bytes_after bytes t)))
 

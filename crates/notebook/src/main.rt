@@ -8,7 +8,8 @@ ghost use Rattle.portable_text.specs.Line.{line_most, line_of};
 
 use file::Answer;
 use portable_text::{LINE_MOST, NotWritten, timing_line, write_list};
-use program_input::{count_args, read_arg, read_full};
+use program_input::{read_arg, read_full};
+use std::env::FillError;
 use std::io;
 use std::rt::Env;
 
@@ -47,6 +48,12 @@ fn write_out(rt: &impl Print, err: &impl Print, bytes: &[u8]) {
     }
 }
 
+// Whether there is a word behind the program's name: one word is asked, however many there are.
+fn has_word(rt: &impl Env) -> bool {
+    let mut word = [0u8; 8];
+    !matches!(rt.arg(1, &mut word), Err(FillError::NotPresent))
+}
+
 // The line of some bytes, from the start of a buffer on, and where it ends.
 fn line_end(bytes: &[u8], line: &mut [u8]) -> usize
     requires { line_most ≤ length line.old }
@@ -69,7 +76,10 @@ fn write_numbers(rt: &(impl Env + Print), err: &impl Print, bytes: &mut [u8]) {
     let size = read_arg(rt, 1, &mut text);
     match write_list(bytes, &text[..size]) {
         Ok(()) => write_out(rt, err, bytes),
-        Err(NotWritten::NoList) => tell(err, b"no fourteen decimal numbers with one space between"),
+        Err(NotWritten::NoList(_)) => tell(
+            err,
+            b"no fourteen decimal numbers with one space between",
+        ),
         Err(NotWritten::Refused(answer)) => tell_refusal(err, answer),
     }
 }
@@ -85,7 +95,7 @@ fn run(rt: &(impl Env + Input + Print), err: &impl Print) {
             return;
         }
     };
-    if count_args(rt) > 1 {
+    if has_word(rt) {
         write_numbers(rt, err, &mut bytes[..count]);
     } else {
         print_line(rt, err, &bytes[..count]);

@@ -35,9 +35,9 @@ listed_by ps = cond (is_list ps) (Some (timing_of (map held_of ps))) None
 unfoldable pub listed_in : List ℕ → Option Timing
 listed_in text = listed_by (parts text)
 
--- what comes back of numbers that were to be written: the writer's answer, if there are any
+-- what comes back of numbers that were to be written: the writer's answer. What is no list has none, which are out of range
 unfoldable pub list_result : List ℕ → Option Timing → Result (Unit {0}) NotWritten
-list_result before None = Err NoList
+list_result before None = Err (NoList (timing_answer before (timing_of [])))
 list_result before (Some t) = cond (refused (timing_answer before t)) (Err (Refused (timing_answer before t))) (Ok tt)
 
 -- and what the bytes hold
