@@ -1,6 +1,6 @@
 -- A part of a trace: the run leaves its file and its replies, and the lines of the replies are those that 01 gives its records. Assumes nothing.
 use Prim.Native.Nat.{ℕ, suc, ◌+◌, ◌*◌, ◌/◌, ◌≤◌, ◌<◌, min}
-use Rattle.std.proofs.Common.{◌^◌, Ok, Err}
+use Rattle.std.proofs.Common.{◌^◌, Result, Ok, Err}
 use mathlib.Core.Bool.{Bool, true, false, ◌&&◌}
 use mathlib.Core.List.{List, [], ◌∷◌, ◌++◌, append-nil}
 use mathlib.Core.Path.{◌≡◌, refl, sym, ap, ap₂, ◌∙◌}
@@ -222,3 +222,11 @@ module _ (f : File) (number : ℕ) (part replies₀ lines₀ : List ℕ) where
             replied = rw yes (p.replied ∙ rw (zero-add, replies-long) refl);
             lined = rw yes (p.printed ∙ ap (λ (k : ℕ). part_lines number f part ++ drop k lines₀) (p.end ∙ sym (zero-add _)));
           }
+
+-- what is refused leaves both buffers
+pub refused-left : (f : File) (number : ℕ) (part replies₀ replies lines₀ lines : List ℕ) (e : Answer)
+    → PartReplayed f number part replies₀ replies lines₀ lines (Err e) → (replies ≡ replies₀) × (lines ≡ lines₀)
+unfolding part_result placed_by
+refused-left f number part replies₀ replies lines₀ lines e p =
+    by-test (refused (part_answer f number part replies₀ lines₀)) (λ r. (p.replied ∙ rw r refl, p.lined ∙ rw r refl))
+    (λ r. let never : ◌≡◌ {A = Result Part Answer} (Err e) (Ok (record { file = after_part f part; count = item_count part; end = length (part_lines number f part) })) = rw r at p.told in absurd (cc))

@@ -1,7 +1,7 @@
 // A trace replayed from lent bytes to lent bytes: its records are run, and their lines stored. The replies stand in a buffer lent for them.
 #![tactic(auto)]
 
-ghost use Rattle.std.specs.Prelude.{◌≡◌, ◌+◌, ◌*◌, ◌^◌, ◌≤◌, true, T, length};
+ghost use Rattle.std.specs.Prelude.{◌≡◌, ◌+◌, ◌*◌, ◌^◌, ◌≤◌, true, IfOk, T, length};
 ghost use Rattle.file.specs.File.{power_on};
 ghost use Rattle.file.specs.Sound.{sound};
 ghost use Rattle.trace.specs.Records.{item_count};
@@ -41,34 +41,8 @@ fn records_fit(count: usize, last: usize, replies: usize, lines: usize) -> bool
     count <= replies / 8 && count <= (lines - last) / 30
 }
 
-// A part of a trace, run by an engine from a file on, and the lines of its records, numbered from a number on, from the start of a buffer on;
-// code 12 of a file that isn't sound, 11 where a buffer is short, 10 where a record's number has no room, and then both buffers stay.
-pub fn replay_part(
-    engine: Engine,
-    before: File,
-    number: u64,
-    trace: &[u8],
-    replies: &mut [u8],
-    lines: &mut [u8],
-) -> Result<Part, Answer>
-    ensures { PartReplayed before number trace.now replies.old replies.new lines.old lines.new result }
-{
-    let count = item_count(trace);
-    if !is_sound(before) {
-        return Err(Answer::NotSound);
-    }
-    if !records_fit(count, 0, replies.len(), lines.len()) {
-        return Err(Answer::ShortBuffer);
-    }
-    if !numbers_fit(number, count) {
-        return Err(Answer::OutOfRange);
-    }
-    Ok(run_part(engine, true, before, number, trace, replies, lines))
-}
-
-// A part of a trace, run by an engine from a file on, and the lines of its records, numbered from a number on, from the start of a buffer on
-// if they are asked for. It tests nothing: where the file isn't sound or a buffer is short, it leaves what the run and the lines by themselves do.
-pub fn run_part(
+// A part of a trace, run by an engine, and its lines, if they are asked for, with no test before.
+fn run_untested(
     engine: Engine,
     prints: bool,
     before: File,
@@ -96,6 +70,57 @@ pub fn run_part(
         file,
         count,
         end: printed.end,
+    }
+}
+
+// A part of a trace, run by an engine from a file on, and the lines of its records, numbered from a number on, from the start of a buffer on;
+// code 12 of a file that isn't sound, 11 where a buffer is short, 10 where a record's number has no room, and then both buffers stay.
+pub fn replay_part(
+    engine: Engine,
+    before: File,
+    number: u64,
+    trace: &[u8],
+    replies: &mut [u8],
+    lines: &mut [u8],
+) -> Result<Part, Answer>
+    ensures replayed { PartReplayed before number trace.now replies.old replies.new lines.old lines.new result }
+    ensures done { IfOk result (λ part. Parted before number true trace.now replies.old replies.new lines.old lines.new part × PartRan before number true trace.now replies.old replies.new lines.old lines.new part) }
+{
+    let count = item_count(trace);
+    if !is_sound(before) {
+        return Err(Answer::NotSound);
+    }
+    if !records_fit(count, 0, replies.len(), lines.len()) {
+        return Err(Answer::ShortBuffer);
+    }
+    if !numbers_fit(number, count) {
+        return Err(Answer::OutOfRange);
+    }
+    Ok(run_untested(engine, true, before, number, trace, replies, lines))
+}
+
+// A part of a trace, run by an engine from a file on, and the lines of its records, numbered from a number on, from the start of a buffer on
+// if they are asked for: what `replay_part` leaves of it then. It refuses nothing: where the file isn't sound or a buffer is short, it leaves what the run and the
+// lines by themselves do.
+pub fn run_part(
+    engine: Engine,
+    prints: bool,
+    before: File,
+    number: u64,
+    trace: &[u8],
+    replies: &mut [u8],
+    lines: &mut [u8],
+) -> Part
+    ensures parted { T (sound before) → 8 * item_count trace.now ≤ length replies.old → (prints ≡ true → 30 * item_count trace.now ≤ length lines.old) → number + item_count trace.now ≤ 2 ^ 64 → Parted before number prints trace.now replies.old replies.new lines.old lines.new result }
+    ensures ran { PartRan before number prints trace.now replies.old replies.new lines.old lines.new result }
+{
+    if prints {
+        match replay_part(engine, before, number, trace, replies, lines) {
+            Ok(part) => part,
+            Err(_) => run_untested(engine, true, before, number, trace, replies, lines),
+        }
+    } else {
+        run_untested(engine, false, before, number, trace, replies, lines)
     }
 }
 

@@ -20,20 +20,31 @@ numbers_low number count e = omega (arith, leb-true _ _ e)
 pub returns-then-not-is_sound : goal.returns-then-not-is_sound
 returns-then-not-is_sound c =
     let args = c.args in
-    not-sound args.before args.number args.trace.now args.replies.now args.lines.now (sym c.is_sound.ensures ∙ c.if-not-is_sound.true)
+    record {
+      replayed = not-sound args.before args.number args.trace.now args.replies.now args.lines.now (sym c.is_sound.ensures ∙ c.if-not-is_sound.true);
+      done = tt;
+    }
 
 pub returns-then-not-records_fit : goal.returns-then-not-records_fit
 returns-then-not-records_fit c =
     let args = c.args in
-    not-roomy args.before args.number args.trace.now args.replies.now args.lines.now (sym c.is_sound.ensures ∙ c.if-not-is_sound.false)
-    (roomy_by _ _ _ _ c.item_count-count.ensures c.records_fit.ensures c.if-not-records_fit.true)
+    record {
+      replayed =
+          not-roomy args.before args.number args.trace.now args.replies.now args.lines.now (sym c.is_sound.ensures ∙ c.if-not-is_sound.false)
+          (roomy_by _ _ _ _ c.item_count-count.ensures c.records_fit.ensures c.if-not-records_fit.true);
+      done = tt;
+    }
 
 pub returns-then-not-numbers_fit : goal.returns-then-not-numbers_fit
 returns-then-not-numbers_fit c =
     let args = c.args in
-    not-numbered args.before args.number args.trace.now args.replies.now args.lines.now (sym c.is_sound.ensures ∙ c.if-not-is_sound.false)
-    (roomy_by _ _ _ _ c.item_count-count.ensures c.records_fit.ensures c.if-not-records_fit.false)
-    (numbered_by _ _ _ c.item_count-count.ensures c.numbers_fit.ensures c.if-not-numbers_fit.true)
+    record {
+      replayed =
+          not-numbered args.before args.number args.trace.now args.replies.now args.lines.now (sym c.is_sound.ensures ∙ c.if-not-is_sound.false)
+          (roomy_by _ _ _ _ c.item_count-count.ensures c.records_fit.ensures c.if-not-records_fit.false)
+          (numbered_by _ _ _ c.item_count-count.ensures c.numbers_fit.ensures c.if-not-numbers_fit.true);
+      done = tt;
+    }
 
 pub returns : goal.returns
 returns c =
@@ -42,5 +53,8 @@ returns c =
     let roomy = roomy_by _ _ _ _ c.item_count-count.ensures c.records_fit.ensures c.if-not-records_fit.false in
     let numbered = numbered_by _ _ _ c.item_count-count.ensures c.numbers_fit.ensures c.if-not-numbers_fit.false in
     let parted =
-    c.run_part.ensures.parted (passes _ good) (fit-replies _ _ _ _ roomy) (λ _. omega (arith, fit-lines _ _ _ _ roomy)) (numbers_low _ _ numbered) in
-    part-done args.before args.number args.trace.now args.replies.now args.lines.now good roomy numbered parted
+    c.run_untested.ensures.parted (passes _ good) (fit-replies _ _ _ _ roomy) (λ _. omega (arith, fit-lines _ _ _ _ roomy)) (numbers_low _ _ numbered) in
+    record {
+      replayed = part-done args.before args.number args.trace.now args.replies.now args.lines.now good roomy numbered parted;
+      done = (parted, c.run_untested.ensures.ran);
+    }
