@@ -7,23 +7,23 @@ use Rattle.file.specs.Sound.{sound}
 use Rattle.file.specs.declared.registers.File.{File}
 use Rattle.modes.specs.declared.mode.Mode.{Mode}
 use Rattle.mode_file.specs.declared.verdict.Verdict.TheVariants.{NotSound, BadText, NotMultiple}
-use Rattle.mode_file.specs.Into.{mode_line, read_mode, read_parsed, read_result}
+use Rattle.mode_file.specs.Into.{answered, mode_line, read_mode, read_parsed, read_result, read_with, refused_line}
 use Rattle.mode_file.specs.Said.{eights}
 
 module _ (f : File) where
-  pub first-unsound : (p : Result Mode ℕ) → sound f ≡ false → Err NotSound ≡ read_result p f
-  unfolding read_result
+  pub first-unsound : (p : Result Mode ℕ) → sound f ≡ false → refused_line NotSound f ≡ read_with p f
+  unfolding read_with answered read_result
   first-unsound p s = rw s
 
-  pub then-bad-text : (place : ℕ) → sound f ≡ true → Err (BadText place) ≡ read_result (Err place) f
-  unfolding read_result read_parsed
+  pub then-bad-text : (place : ℕ) → sound f ≡ true → refused_line (BadText place) f ≡ read_with (Err place) f
+  unfolding read_with answered read_result read_parsed
   then-bad-text place s = rw s
 
-  pub then-uneven : (m : Mode) → sound f ≡ true → eights m.numbers ≡ false → Err NotMultiple ≡ read_result (Ok m) f
-  unfolding read_result read_parsed read_mode
+  pub then-uneven : (m : Mode) → sound f ≡ true → eights m.numbers ≡ false → refused_line NotMultiple f ≡ read_with (Ok m) f
+  unfolding read_with answered read_result read_parsed read_mode
   then-uneven m s e = rw (s, e)
 
   -- 8 and 10 are the timing writer's, in its own order
-  pub then-timing : (m : Mode) → sound f ≡ true → eights m.numbers ≡ true → mode_line m f ≡ read_result (Ok m) f
-  unfolding read_result read_parsed read_mode
+  pub then-timing : (m : Mode) → sound f ≡ true → eights m.numbers ≡ true → answered (mode_line m f) f ≡ read_with (Ok m) f
+  unfolding read_with read_result read_parsed read_mode
   then-timing m s e = rw (s, e)
