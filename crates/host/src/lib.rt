@@ -88,7 +88,8 @@ fn powered(chip: u8) -> File
     File::power_on(Chip::Gd5464)
 }
 
-// A file put where its parts stand.
+// A file put where its parts stand. In place of its call the file lies in a place of its own; as a call of its own it would ask the C library for `memmove`.
+#[inline(always)]
 fn put_file(registers: &mut [u16; REGISTERS], rest: &mut [u8; REST], file: File)
     ensures { (registers.new ≡ file.registers) × (rest.new ≡ rest_of file) }
 {
@@ -141,6 +142,9 @@ pub extern "C" fn sedgecoil_timing_parts(
 ) -> u32
     ensures { (result ≡ (timing_read registers.now rest.now numbers.old).code) × (numbers.new ≡ (timing_read registers.now rest.now numbers.old).numbers) }
 {
+    if !fits(rest) {
+        return code(Answer::NotSound);
+    }
     let read = read_timing(held(*registers, *rest));
     lists::leave_read(rest, read.answer, read.timing.numbers(), numbers)
 }
@@ -174,6 +178,9 @@ pub extern "C" fn sedgecoil_cursor_parts(
 ) -> u32
     ensures { (result ≡ (cursor_read registers.now rest.now numbers.old).code) × (numbers.new ≡ (cursor_read registers.now rest.now numbers.old).numbers) }
 {
+    if !fits(rest) {
+        return code(Answer::NotSound);
+    }
     let read = read_geometry(held(*registers, *rest));
     lists::leave_read(
         rest,
@@ -192,6 +199,9 @@ pub extern "C" fn sedgecoil_window_parts(
 ) -> u32
     ensures { (result ≡ (window_read registers.now rest.now numbers.old).code) × (numbers.new ≡ (window_read registers.now rest.now numbers.old).numbers) }
 {
+    if !fits(rest) {
+        return code(Answer::NotSound);
+    }
     let read = read_geometry(held(*registers, *rest));
     lists::leave_read(
         rest,
@@ -210,6 +220,9 @@ pub extern "C" fn sedgecoil_capture_parts(
 ) -> u32
     ensures { (result ≡ (capture_read registers.now rest.now numbers.old).code) × (numbers.new ≡ (capture_read registers.now rest.now numbers.old).numbers) }
 {
+    if !fits(rest) {
+        return code(Answer::NotSound);
+    }
     let read = read_geometry(held(*registers, *rest));
     lists::leave_read(
         rest,

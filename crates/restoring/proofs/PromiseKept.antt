@@ -1,11 +1,11 @@
 -- What a restore promises, from what the code did. Assumes nothing.
 use Prim.Native.Nat.{ℕ}
 use mathlib.Core.Path.{◌≡◌, refl, sym, ap, ◌∙◌, subst}
-use mathlib.Core.Bool.{true, false, true≢false}
+use mathlib.Core.Bool.{cond, true, false, true≢false}
 use mathlib.Core.List.{List}
 use lib.ListN.{length}
 use Rattle.std.specs.Prelude.{Result, Ok, Err, MatchResult}
-use Rattle.bits.proofs.Test.{passes}
+use Rattle.bits.proofs.Test.{by-test, passes}
 use Rattle.file.specs.declared.answer.Answer.{Answer}
 use Rattle.file.specs.declared.answer.Answer.TheVariants.{NotSound, OtherChip}
 use Rattle.file.specs.declared.registers.File.{File}
@@ -16,7 +16,7 @@ use Rattle.file.specs.Sound.{sound}
 use Rattle.trace.specs.Records.{items}
 use Rattle.trace.specs.Run.{file_after}
 use Rattle.plan.specs.Promises.{PlanKept}
-use Rattle.roads.specs.Refusals.{answer_of, restore_answer}
+use Rattle.roads.specs.Refusals.{answer_of, plan_answer, restore_answer}
 use Rattle.roads.specs.Restores.{IsFile}
 use Rattle.roads.proofs.PlanServes.{same-chip, planned-runs, planned-line, Between, fifteen-between, fifteen-only-between}
 use Rattle.restoring.specs.declared.Restored.{Restored}
@@ -29,21 +29,25 @@ module _ (f w : File) (before : List ℕ) where
   unfolding restore_answer refused code_of
   unsound-current s = record { answered = rw s; told = (refl, refl) }
 
-  pub unsound-wanted : sound f ≡ true → sound w ≡ false → PlannedFrom f w before before (Err NotSound)
+  -- 02, 6/13: between different chips, where the wanted file's soundness is asked first
+  pub elsewhere : sound f ≡ true → same_chip f.state.chip w.state.chip ≡ false → (a : Answer) → a ≡ cond (sound w) OtherChip NotSound
+      → PlannedFrom f w before before (Err a)
   unfolding restore_answer refused code_of
-  unsound-wanted s t = record { answered = rw (s, t); told = (refl, refl) }
+  elsewhere s c a e =
+      by-test (sound w)
+      (λ t. let is : a ≡ OtherChip = rw t at e in rw is (record { answered = rw (s, t, c); told = (refl, refl) }))
+      (λ t. let is : a ≡ NotSound = rw t at e in rw is (record { answered = rw (s, t); told = (refl, refl) }))
 
-  -- 02, 6/13: between different chips
-  pub elsewhere : sound f ≡ true → sound w ≡ true → same_chip f.state.chip w.state.chip ≡ false → PlannedFrom f w before before (Err OtherChip)
-  unfolding restore_answer refused code_of
-  elsewhere s t c = record { answered = rw (s, t, c); told = (refl, refl) }
+  -- on one chip it answers as the plan does
+  as-planned : sound f ≡ true → same_chip f.state.chip w.state.chip ≡ true → (room : ℕ) → plan_answer w room ≡ restore_answer f w room
+  unfolding restore_answer plan_answer
+  as-planned s c room = by-test (sound w) (λ t. rw (s, t, c)) (λ t. rw (s, t))
 
-  pub between : sound f ≡ true → sound w ≡ true → same_chip f.state.chip w.state.chip ≡ true → {after : List ℕ} (p : Result ℕ Answer) → PlanKept w before after p
+  pub between : sound f ≡ true → same_chip f.state.chip w.state.chip ≡ true → {after : List ℕ} (p : Result ℕ Answer) → PlanKept w before after p
       → PlannedFrom f w before after p
-  unfolding restore_answer
-  between s t c (Ok count) kept =
-      record { answered = kept.answered ∙ sym (rw (s, t, c)); told = record { current = s; chips = c; written = kept.told.written } }
-  between s t c (Err a) kept = record { answered = kept.answered ∙ sym (rw (s, t, c)); told = kept.told }
+  between s c (Ok count) kept =
+      record { answered = kept.answered ∙ as-planned s c (length before); told = record { current = s; chips = c; written = kept.told.written } }
+  between s c (Err a) kept = record { answered = kept.answered ∙ as-planned s c (length before); told = kept.told }
 
 -- ---- and the run
 

@@ -1,6 +1,9 @@
 // A restore: the plan of a wanted file, written and run.
 #![tactic(auto)]
 
+ghost use Rattle.std.specs.Prelude.{◌≡◌, cond};
+ghost use Rattle.file.specs.declared.answer.Answer.TheVariants.{OtherChip as OtherChipAnswer, NotSound as NotSoundAnswer};
+ghost use Rattle.file.specs.Sound.{sound};
 ghost use Rattle.restoring.specs.Promises.{PlannedFrom, RestoreKept};
 
 use file::{Answer, File, is_sound};
@@ -36,18 +39,26 @@ pub fn restore(current: File, wanted: File, buffer: &mut [u8]) -> Restored
     }
 }
 
-// The plan of the wanted file, where the current one may be restored to it.
+// The plan of the wanted file, where the current one may be restored to it. On one chip the plan asks whether the wanted file is sound.
 fn plan_from(current: File, wanted: File, buffer: &mut [u8]) -> Result<usize, Answer>
     ensures { PlannedFrom current wanted buffer.old buffer.new result }
 {
     if !is_sound(current) {
         return Err(Answer::NotSound);
     }
-    if !is_sound(wanted) {
-        return Err(Answer::NotSound);
-    }
     if !on_one_chip(current, wanted) {
-        return Err(Answer::OtherChip);
+        return Err(elsewhere(wanted));
     }
     plan(wanted, buffer)
+}
+
+// Why no file of another chip is restored to the wanted one: that is sound, or its being unsound is told first.
+fn elsewhere(wanted: File) -> Answer
+    ensures { result ≡ cond (sound wanted) OtherChipAnswer NotSoundAnswer }
+{
+    if is_sound(wanted) {
+        Answer::OtherChip
+    } else {
+        Answer::NotSound
+    }
 }

@@ -1,10 +1,15 @@
 -- `sedgecoil_window_parts` meets its contract. Assumes nothing.
-use mathlib.Core.Path.{ap, ◌∙◌}
+use mathlib.Core.Path.{sym, ap, ◌∙◌}
 use Rattle.geometry.specs.declared.Geometry.{Geometry}
 use Rattle.geometry.specs.Geometry.{read_geometry}
+use Rattle.file.specs.Answers.{code_of}
 use Rattle.host.specs.Lists.{window_numbers, window_read}
-use Rattle.host.proofs.Shown.{read_left}
+use Rattle.host.proofs.Shown.{shown-unfit, read_left}
 use Rattle.host.proofs.sedgecoil_window_parts.Goals as goal
+
+pub returns-then-not-fits : goal.returns-then-not-fits
+unfolding window_read code_of
+returns-then-not-fits c = rw c.code.ensures (shown-unfit _ _ _ _ (sym c.fits.ensures ∙ c.if-not-fits.true))
 
 pub returns : goal.returns
 unfolding window_read
