@@ -45,8 +45,9 @@ fn list_end(bytes: &mut [u8], list: &[u8], out: &mut [u8]) -> Result<usize, NotW
     }
 }
 
-// Puts the bytes that `job` keeps, with the numbers of `list` in them, into `out`, from its start on, and gives where they end. Where `list` is no list, there
-// aren't 28 bytes, they are locked, a number is out of its range or they have no room, it puts nothing and tells code 12, 8, 10 or 11, and of no list that it is none.
+// Puts the bytes that `job` keeps, with the numbers of `list` in them, into `out`, from its start on, and gives where they end. Where `list` is no
+// list, there aren't 28 bytes, they are locked, a number is out of its range or they have no room, it puts nothing and tells code 12, 8, 10 or 11,
+// and of no list that it is none.
 pub fn write_end(job: PortableJob, list: &[u8], out: &mut [u8]) -> Result<usize, NotWritten>
     ensures { NumbersEnded (held job) list.now out.old out.new result }
 {

@@ -5,7 +5,8 @@ use crate::listing::read_list;
 use file::Answer;
 use portable::{Timing, write_timing};
 
-// Why no numbers were written: the text was no list of fourteen, and what the writer answers of no numbers, which are out of range; or what it answered of them.
+// Why no numbers were written: the text was no list of fourteen, and what the writer answers of no numbers, which are out of range; or what it
+// answered of them.
 #[derive(Clone, Copy)]
 pub enum NotWritten {
     NoList(Answer),

@@ -89,7 +89,8 @@ impl<'a> Reader<'a> {
         Reader { trace, at: 0 }
     }
 
-    // What stands next, a record or the last fragment, and nothing at the trace's end. The reader stays where it is: a loop that goes on goes by the iterator below.
+    // What stands next, a record or the last fragment, and nothing at the trace's end. The reader stays where it is: a loop that goes on goes by the
+    // iterator below.
     pub fn next(self) -> Option<Item>
         ensures { result ≡ next_at self.entry.trace.now self.entry.at }
     {

@@ -100,8 +100,8 @@ pub fn replay_part(
 }
 
 // A part of a trace, run by an engine from a file on, and the lines of its records, numbered from a number on, from the start of a buffer on
-// if they are asked for: what `replay_part` leaves of it then. It refuses nothing: where the file isn't sound or a buffer is short, it leaves what the run and the
-// lines by themselves do.
+// if they are asked for: what `replay_part` leaves of it then. It refuses nothing: where the file isn't sound or a buffer is short, it leaves what
+// the run and the lines by themselves do.
 pub fn run_part(
     engine: Engine,
     prints: bool,

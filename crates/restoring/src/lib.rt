@@ -18,8 +18,8 @@ pub struct Restored {
     pub file: File,
 }
 
-// Writes a plan of the wanted file and runs it from the current one: 12 by the current file and by the wanted one, 15 where their chips differ, then 13, 11 by the
-// plan. No record of a plan is refused (`plan-runs`), so the replies aren't looked at. A refusal gives the current file back.
+// Writes a plan of the wanted file and runs it from the current one: 12 by the current file and by the wanted one, 15 where their chips differ, then
+// 13, 11 by the plan. No record of a plan is refused (`plan-runs`), so the replies aren't looked at. A refusal gives the current file back.
 pub fn restore(current: File, wanted: File, buffer: &mut [u8]) -> Restored
     ensures { RestoreKept current wanted buffer.old buffer.new result }
 {
@@ -52,7 +52,7 @@ fn plan_from(current: File, wanted: File, buffer: &mut [u8]) -> Result<usize, An
     plan(wanted, buffer)
 }
 
-// Why no file of another chip is restored to the wanted one: that is sound, or its being unsound is told first.
+// Tells why a file of another chip isn't restored to the file `wanted`: 12 where that isn't sound, which is told first, and else 15.
 fn elsewhere(wanted: File) -> Answer
     ensures { result ≡ cond (sound wanted) OtherChipAnswer NotSoundAnswer }
 {
