@@ -2,7 +2,7 @@
 ghost use Rattle.std.specs.Prelude.{◌≡◌};
 ghost use Rattle.clock.specs.Clock.{read_clock, terms_of};
 
-use crate::rate::{divisor, dot_clock, product};
+use crate::rate::{denominator, divisor, dot_clock, product};
 use crate::terms::{Terms, lowest_terms};
 use file::{Answer, File, MISC, is_sound};
 
@@ -20,10 +20,14 @@ pub struct ClockRead {
     pub terms: Terms,
 }
 
-// The two whole numbers of a denominator byte and a numerator byte, in lowest terms; both 0 where there is no rate.
+// Gives the two whole numbers of the denominator byte `d` and the numerator byte `n`, in lowest terms; both 0 where there is no rate. That is asked
+// first: the product and the divisor are worked out for a rate alone.
 pub fn terms_of(d: u16, n: u16) -> Terms
     ensures { result ≡ terms_of d n }
 {
+    if denominator(d) == 0 {
+        return Terms::default();
+    }
     lowest_terms(product(n), divisor(d))
 }
 

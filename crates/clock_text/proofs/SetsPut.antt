@@ -1,11 +1,11 @@
 -- The sets counted and their lines stored, set by set. Assumes nothing.
 use Rattle.std.specs.Prelude.{Some, None, Ok, Err}
-use Prim.Native.Nat.{ℕ, ◌+◌, ◌*◌, ◌≤◌, ◌<◌, min}
-use mathlib.Core.List.{List, ◌∷◌, ◌++◌}
+use Prim.Native.Nat.{ℕ, ◌+◌, ◌-◌, ◌*◌, ◌%◌, ◌≤◌, ◌<◌, min}
+use mathlib.Core.List.{List, [], ◌∷◌, ◌++◌}
 use mathlib.Core.Path.{◌≡◌, refl, sym, ap, ◌∙◌}
 use native.Mathlib.Omega.{arith}
-use Rattle.std.proofs.lemmas.List.{nil_from_length}
-use lib.ListN.{length, length-append}
+use Rattle.std.proofs.lemmas.List.{append-nil, append_assoc, drop_at, nil_from_length}
+use lib.ListN.{length, length-append, drop}
 use lib.Seq.{sets, length-sets}
 use Rattle.text.specs.Lent.{Wrote}
 use Rattle.text.proofs.Stores.{rest-stored}
@@ -23,6 +23,51 @@ countable-next t (Ok (Some new)) k h = record { rates = omega (arith, h.rates); 
 countable-next t (Ok None) k h = record { rates = omega (arith, h.rates); nones = omega (arith, h.nones); refused = omega (arith, h.refused) }
 countable-next t (Err answer) k h = record { rates = omega (arith, h.rates); nones = omega (arith, h.nones); refused = omega (arith, h.refused) }
 
+-- a set stands next of those that are left: three bytes, or the fewer that are the last
+pub record SetNext (left set rest : List ℕ) : Type 0 where
+  pub whole : left ≡ set ++ rest
+  pub few : length set ≡ min 3 (length left)
+  pub some : 0 < length left
+
+pub three-next : (left set rest : List ℕ) → left ≡ set ++ rest → length set ≡ 3 → SetNext left set rest
+three-next left set rest e three =
+    let size = ap length e ∙ length-append set rest in
+    record { whole = e; few = omega (arith, size, three); some = omega (arith, size, three) }
+
+-- the input is whole sets and what is left
+pub record WholeSets (input left : List ℕ) : Type 0 where
+  front : List ℕ
+  pub whole : input ≡ front ++ left
+  pub threes : length front % 3 ≡ 0
+
+pub whole-none : (input : List ℕ) → WholeSets input input
+whole-none input = record { front = []; whole = refl; threes = refl }
+
+module _ (input left : List ℕ) (behind : WholeSets input left) where
+  -- behind one more
+  pub whole-next : (set rest : List ℕ) → left ≡ set ++ rest → length set ≡ 3 → WholeSets input rest
+  whole-next set rest e three =
+      record {
+        front = behind.front ++ set;
+        whole = behind.whole ∙ ap (λ (l : List ℕ). behind.front ++ l) e ∙ sym (append_assoc behind.front set rest);
+        threes = omega (arith, behind.threes, length-append behind.front set, three);
+      }
+
+  -- where less than a set is left, it is the fragment that the input ends in
+  module _ (fewer : length left < 3) (fragment : List ℕ) (last : fragment ≡ drop (length input - length input % 3) input) where
+    pub fragment-left : fragment ≡ left
+    fragment-left =
+        let size = ap length behind.whole ∙ length-append behind.front left in
+        last
+        ∙ ap (drop (length input - length input % 3)) behind.whole
+        ∙ drop_at behind.front left (length input - length input % 3) (omega (arith, size, behind.threes, fewer))
+
+    -- and the next set, if it has a byte
+    pub fragment-next : (length fragment ≡ 0 → ⊥) → SetNext left fragment []
+    fragment-next some =
+        let size = ap length fragment-left in
+        record { whole = sym fragment-left ∙ sym (append-nil fragment); few = omega (arith, size, fewer); some = omega (arith, size, some) }
+
 -- behind some sets: what is left, counted and stored, gives the whole
 pub record Putting (before : Tally) (input lines₀ lines : List ℕ) (tally : Tally) (end : ℕ) (left : List ℕ) : Type 0 where
   pub counted : tallied tally (set_clocks left) ≡ tallied before (set_clocks input)
@@ -37,18 +82,18 @@ module _ (before : Tally) (input lines₀ : List ℕ) where
 
   module _ (lines : List ℕ) (tally : Tally) (end : ℕ) (left : List ℕ) (held : Putting before input lines₀ lines tally end left) where
     -- the next set
-    module _ (set rest : List ℕ) (e : left ≡ set ++ rest) (few : length set ≡ min 3 (length left)) (some : 0 < length left) where
+    module _ (set rest : List ℕ) (is : SetNext left set rest) where
       short : length set ≡ min 3 (length set + length rest)
-      short = few ∙ ap (min 3) (ap length e ∙ length-append set rest)
+      short = is.few ∙ ap (min 3) (ap length is.whole ∙ length-append set rest)
 
       there : 0 < length set
-      there = omega (arith, few, some)
+      there = omega (arith, is.few, is.some)
 
       next : set_clocks left ≡ set_of set ∷ set_clocks rest
-      next = ap set_clocks e ∙ chunk_set set rest short there
+      next = ap set_clocks is.whole ∙ chunk_set set rest short there
 
       count : set_count left ≡ set_count rest + 1
-      count = ap set_count e ∙ chunk_count set rest short there
+      count = ap set_count is.whole ∙ chunk_count set rest short there
 
       line-next : length (clock_lines (set_clocks left)) ≡ length (clock_line (set_of set)) + length (clock_lines (set_clocks rest))
       unfolding clock_lines

@@ -1,9 +1,9 @@
 // The report of a part of the input, its summary, and the report of the whole.
-ghost use Rattle.std.specs.Prelude.{◌≡◌, ◌*◌, ◌≤◌, length};
-ghost use Rattle.text.specs.Lent.{Lined};
+ghost use Rattle.std.specs.Prelude.{◌≡◌, ◌+◌, ◌*◌, ◌≤◌, length};
+ghost use Rattle.text.specs.Lent.{Lined, Wrote};
 ghost use Rattle.clock_text.specs.Parts.{Countable, LinesPut, PartReported, counts_fit, report_answer, sets_fit, summary_answer, summary_most};
-ghost use Rattle.clock_text.specs.Report.{report as reportOf, summary};
-ghost use Rattle.clock_text.specs.Sets.{set_count};
+ghost use Rattle.clock_text.specs.Report.{clock_line, report as reportOf, summary};
+ghost use Rattle.clock_text.specs.Sets.{counting, set_count, set_of};
 
 use crate::put::{put_line, put_summary};
 use crate::sets::set_clock;
@@ -51,20 +51,39 @@ fn counts_fit(tally: Tally, count: usize) -> bool
     tally.nones <= most && tally.refused <= most
 }
 
+// One set or fragment more behind `part`: it is counted, and its line stored.
+fn put_set(part: SetsPart, set: &[u8], lines: &mut [u8]) -> SetsPart
+    requires countable { Countable part.tally 1 }
+    requires lines_in_bounds { part.end + length (clock_line (set_of set.now)) ≤ length lines.old }
+    ensures tally { result.tally ≡ counting part.tally (set_of set.now) }
+    ensures wrote { Wrote lines.old part.end (clock_line (set_of set.now)) lines.new result.end }
+{
+    let clock = set_clock(set);
+    SetsPart {
+        tally: part.tally.counting(clock),
+        end: put_line(clock, lines, part.end),
+    }
+}
+
 // The sets counted and their lines stored, from the start of a buffer on that has room for them.
 fn put_sets(before: Tally, input: &[u8], lines: &mut [u8]) -> SetsPart
     requires input_in_bounds { 15 * set_count input.now ≤ length lines.old }
     requires countable { Countable before (set_count input.now) }
     ensures { LinesPut before input.now lines.old lines.new result }
 {
-    let mut tally = before;
-    let mut end = 0;
-    for set in input.chunks(3) {
-        let clock = set_clock(set);
-        tally = tally.counting(clock);
-        end = put_line(clock, lines, end);
+    let sets = input.chunks_exact(3);
+    let fragment = sets.remainder();
+    let mut part = SetsPart {
+        tally: before,
+        end: 0,
+    };
+    for set in sets {
+        part = put_set(part, set, lines);
     }
-    SetsPart { tally, end }
+    if fragment.is_empty() {
+        return part;
+    }
+    put_set(part, fragment, lines)
 }
 
 // A part of the input, counted behind what was before, with a line for each set from the start of a buffer on; code 11 where the lines have

@@ -7,7 +7,18 @@ ghost use Rattle.clock_text.specs.Report.{clock_line, clock_text, counts_line, r
 use crate::tally::Tally;
 use clock::Terms;
 use file::Answer;
-use text::{put, put_behind, put_number};
+use text::{put_behind, put_number};
+
+// Stores `text` from the place `at` of `buffer` on, which has room for it; the place behind it comes back. `text::put` would ask for that room
+// again, twice for each set.
+fn put(text: &[u8], buffer: &mut [u8], at: usize) -> usize
+    requires { at + length text.now ≤ length buffer.old }
+    ensures { Wrote buffer.old at text.now buffer.new result }
+{
+    let end = at + text.len();
+    buffer[at..end].copy_from_slice(text);
+    end
+}
 
 // p/q.
 fn put_terms(terms: Terms, buffer: &mut [u8], at: usize) -> usize
@@ -19,7 +30,8 @@ fn put_terms(terms: Terms, buffer: &mut [u8], at: usize) -> usize
     put_number(u64::from(terms.q), buffer, at)
 }
 
-// A rate, or that there is none.
+// Stores `rate`, or that there is none. The body stands in place of each call, since a call takes longer than it takes to store that there is none.
+#[inline(always)]
 fn put_rate(rate: Option<Terms>, buffer: &mut [u8], at: usize) -> usize
     requires { at + length (rate_text rate) ≤ length buffer.old }
     ensures { Wrote buffer.old at (rate_text rate) buffer.new result }
@@ -30,13 +42,15 @@ fn put_rate(rate: Option<Terms>, buffer: &mut [u8], at: usize) -> usize
     }
 }
 
-// What a set says, without its newline: the code where it is refused.
+// Stores what a set says, without its newline: its rate, that it has none, or the code that it is refused with. `set_clock` refuses with 2 alone,
+// and that is put as it stands.
 fn put_clock(clock: Result<Option<Terms>, Answer>, buffer: &mut [u8], at: usize) -> usize
     requires { at + length (clock_text clock) ≤ length buffer.old }
     ensures { Wrote buffer.old at (clock_text clock) buffer.new result }
 {
     match clock {
         Ok(rate) => put_rate(rate, buffer, at),
+        Err(Answer::Malformed) => put(b"2", buffer, at),
         Err(answer) => put_number(u64::from(answer.code()), buffer, at),
     }
 }

@@ -9,8 +9,9 @@ use Rattle.clock_text.proofs.put.put_line.Goals as goal
 pub put_clock-at-requires : goal.put_clock-at-requires
 put_clock-at-requires c = omega (arith, line-length c.args.clock)
 
+pub put-requires : goal.put-requires
+put-requires c = omega (arith, line-length c.args.clock, c.put_clock-at.ensures.place)
+
 pub returns : goal.returns
 unfolding clock_line newline
-returns c =
-    let end = c.put.ensures.stored (omega (arith, line-length c.args.clock, c.put_clock-at.ensures.place)) in
-    then-text c.put_clock-at.ensures end
+returns c = then-text c.put_clock-at.ensures c.put.ensures

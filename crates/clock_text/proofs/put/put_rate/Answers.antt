@@ -11,6 +11,10 @@ pub returns-in-Some : goal.returns-in-Some
 unfolding rate_text
 returns-in-Some c = rw c.in-Some.is c.put_terms.ensures
 
+pub put-requires : goal.put-requires
+unfolding rate_text ascii
+put-requires c = rw c.in-None.is at c.requires
+
 pub returns-in-None : goal.returns-in-None
 unfolding rate_text ascii
-returns-in-None c = rw c.in-None.is (c.put.ensures.stored (rw c.in-None.is at c.requires))
+returns-in-None c = rw c.in-None.is c.put.ensures

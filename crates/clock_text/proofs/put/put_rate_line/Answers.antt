@@ -5,16 +5,19 @@ use Rattle.text.proofs.Stores.{then-text}
 use Rattle.clock_text.proofs.Lengths.{rate-line-length}
 use Rattle.clock_text.proofs.put.put_rate_line.Goals as goal
 
+pub put-at-requires : goal.put-at-requires
+put-at-requires c = omega (arith, rate-line-length c.args.word.now c.args.rate)
+
 pub put_rate-at-requires : goal.put_rate-at-requires
 put_rate-at-requires c =
     let long = rate-line-length c.args.word.now c.args.rate in
-    let word = c.put-at.ensures.stored (omega (arith, long)) in
-    omega (arith, long, word.place)
+    omega (arith, long, c.put-at.ensures.place)
+
+pub put-requires : goal.put-requires
+put-requires c =
+    let long = rate-line-length c.args.word.now c.args.rate in
+    omega (arith, long, c.put-at.ensures.place, c.put_rate-at.ensures.place)
 
 pub returns : goal.returns
 unfolding newline
-returns c =
-    let long = rate-line-length c.args.word.now c.args.rate in
-    let word = c.put-at.ensures.stored (omega (arith, long)) in
-    let end = c.put.ensures.stored (omega (arith, long, word.place, c.put_rate-at.ensures.place)) in
-    then-text (then-text word c.put_rate-at.ensures) end
+returns c = then-text (then-text c.put-at.ensures c.put_rate-at.ensures) c.put.ensures
