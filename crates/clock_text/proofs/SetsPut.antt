@@ -107,6 +107,9 @@ module _ (before : Tally) (input lines₀ : List ℕ) where
       pub line-fits : 15 * set_count input ≤ length lines₀ → end + length (clock_line (set_of set)) ≤ length lines
       line-fits wide = omega (arith, line-next, held.place, held.long, lines-most input, wide)
 
+      pub set-fits : 15 * set_count input ≤ length lines₀ → Countable tally 1 × (end + length (clock_line (set_of set)) ≤ length lines)
+      set-fits wide = (counts-one, line-fits wide)
+
       pub putting-next : (lines' : List ℕ) (end' : ℕ) → Wrote lines end (clock_line (set_of set)) lines' end'
           → Putting before input lines₀ lines' (counting tally (set_of set)) end' rest
       unfolding clock_lines tallied

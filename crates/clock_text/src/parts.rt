@@ -51,10 +51,9 @@ fn counts_fit(tally: Tally, count: usize) -> bool
     tally.nones <= most && tally.refused <= most
 }
 
-// One set or fragment more behind `part`: it is counted, and its line stored.
+// Counts one set or fragment more behind `part`, and stores its line.
 fn put_set(part: SetsPart, set: &[u8], lines: &mut [u8]) -> SetsPart
-    requires countable { Countable part.tally 1 }
-    requires lines_in_bounds { part.end + length (clock_line (set_of set.now)) ≤ length lines.old }
+    requires { Countable part.tally 1 × (part.end + length (clock_line (set_of set.now)) ≤ length lines.old) }
     ensures tally { result.tally ≡ counting part.tally (set_of set.now) }
     ensures wrote { Wrote lines.old part.end (clock_line (set_of set.now)) lines.new result.end }
 {

@@ -43,7 +43,7 @@ fn put_rate(rate: Option<Terms>, buffer: &mut [u8], at: usize) -> usize
 }
 
 // Stores what a set says, without its newline: its rate, that it has none, or the code that it is refused with. `set_clock` refuses with 2 alone,
-// and that is put as it stands.
+// and that is put as it stands, since `put_number` asks for room again.
 fn put_clock(clock: Result<Option<Terms>, Answer>, buffer: &mut [u8], at: usize) -> usize
     requires { at + length (clock_text clock) ≤ length buffer.old }
     ensures { Wrote buffer.old at (clock_text clock) buffer.new result }

@@ -3,8 +3,7 @@ use mathlib.Core.List.{[]}
 use mathlib.Core.Path.{◌∙◌, ap, refl, sym}
 use borrow.Author.Tests.{eqb-false, eqb-true}
 use lib.ListN.{length}
-use Rattle.clock_text.proofs.SetsPut.{counts-one, fragment-left, fragment-next, line-fits, putting-all, putting-next, putting-none, three-next}
-use Rattle.clock_text.proofs.SetsPut.{whole-next, whole-none}
+use Rattle.clock_text.proofs.SetsPut.{fragment-left, fragment-next, putting-all, putting-next, putting-none, set-fits, three-next, whole-next, whole-none}
 use Rattle.clock_text.proofs.parts.put_sets.Goals as goal
 
 pub loop-set-init : goal.loop-set-init
@@ -17,17 +16,11 @@ loop-set-init c =
       held = rw sets.rest (putting-none c.args.before c.args.input.now c.args.lines.now c.requires.countable);
     })
 
-pub put_set-part-requires-clause-countable : goal.put_set-part-requires-clause-countable
-put_set-part-requires-clause-countable c =
+pub put_set-part-requires : goal.put_set-part-requires
+put_set-part-requires c =
     let here = c.loop-set.invariant in
     let step = c.in-Some.ensures.steps.1 in
-    counts-one _ _ _ _ _ _ _ here.held _ _ (three-next _ _ _ step.0 (step.1 ∙ here.size))
-
-pub put_set-part-requires-clause-lines_in_bounds : goal.put_set-part-requires-clause-lines_in_bounds
-put_set-part-requires-clause-lines_in_bounds c =
-    let here = c.loop-set.invariant in
-    let step = c.in-Some.ensures.steps.1 in
-    line-fits _ _ _ _ _ _ _ here.held _ _ (three-next _ _ _ step.0 (step.1 ∙ here.size)) c.requires.input_in_bounds
+    set-fits _ _ _ _ _ _ _ here.held _ _ (three-next _ _ _ step.0 (step.1 ∙ here.size)) c.requires.input_in_bounds
 
 pub loop-set-preserved : goal.loop-set-preserved
 loop-set-preserved c =
@@ -47,19 +40,12 @@ returns-then-is_empty c =
     let all = fragment-left _ _ here.whole fewer _ (c.remainder-fragment.ensures ∙ c.chunks_exact-sets.ensures.remainder) in
     putting-all _ _ _ _ _ _ _ here.held (sym (ap length all) ∙ eqb-true _ 0 (sym c.is_empty.ensures ∙ c.if-is_empty.true))
 
-pub put_set-requires-clause-countable : goal.put_set-requires-clause-countable
-put_set-requires-clause-countable c =
+pub put_set-requires : goal.put_set-requires
+put_set-requires c =
     let here = c.loop-set.invariant in
     let fewer = rw here.size at c.in-None.ensures.steps.1.0 in
     let next = fragment-next _ _ here.whole fewer _ (c.remainder-fragment.ensures ∙ c.chunks_exact-sets.ensures.remainder) in
-    counts-one _ _ _ _ _ _ _ here.held _ _ (next (eqb-false _ 0 (sym c.is_empty.ensures ∙ c.if-is_empty.false)))
-
-pub put_set-requires-clause-lines_in_bounds : goal.put_set-requires-clause-lines_in_bounds
-put_set-requires-clause-lines_in_bounds c =
-    let here = c.loop-set.invariant in
-    let fewer = rw here.size at c.in-None.ensures.steps.1.0 in
-    let next = fragment-next _ _ here.whole fewer _ (c.remainder-fragment.ensures ∙ c.chunks_exact-sets.ensures.remainder) in
-    line-fits _ _ _ _ _ _ _ here.held _ _ (next (eqb-false _ 0 (sym c.is_empty.ensures ∙ c.if-is_empty.false))) c.requires.input_in_bounds
+    set-fits _ _ _ _ _ _ _ here.held _ _ (next (eqb-false _ 0 (sym c.is_empty.ensures ∙ c.if-is_empty.false))) c.requires.input_in_bounds
 
 pub returns : goal.returns
 returns c =
